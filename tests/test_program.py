@@ -25,6 +25,27 @@ def unknown(word, *tip):
     return usage(f"unrecognized subcommand '{word}'", *tip, "Usage: slotplan <COMMAND>", "")
 
 
+# The words that each command wants, in the order in which they stand.
+REQUIRED = {
+    "create": "<DB> <CONFIG>",
+    "migrate": "<DB>",
+    "serve": "<DB> <PORT>",
+    "ask": "<DB>",
+    "diff": "<DB> <FROM> <TO>",
+    "layout": "<DB> <VARIANT> <FRAME>",
+    "room": "<DB> <VARIANT> <FRAME> <REPETITION>",
+    "export": "<DB> <VARIANT> <ROWS>",
+    "import": "<DB> <KEY> <VARIANT> <LABEL> <FILE>",
+    "replace": "<DB> <KEY> <VARIANT> <FILE>",
+    "try": "<DB> <KEY> <VARIANT> <FILE>",
+    **dict.fromkeys(("cluster", "variants", "nodes"), "<DB>"),
+    **dict.fromkeys(("grants", "frames", "schedule", "gaps", "load", "picture"), "<DB> <VARIANT>"),
+}
+
+NO_ROWS = usage("export takes ROWS that are frames, placements or signals", "Usage: slotplan <COMMAND>", "")
+NO_FILE = usage("check takes one file: CONFIG, or --requests FILE, or --rows FILE", "Usage: slotplan <COMMAND>", "")
+
+
 class Help(StartCase):
     """Each command's help is printed whole, and so is the program's."""
 
@@ -62,10 +83,15 @@ class Words(StartCase):
         for more in "run", "x":
             self.no_job(usage(f"unexpected argument '{more}' found", "Usage: slotplan run", ""), "run", more)
 
-    def test_too_few(self):
-        for words, last, usage_of in (("ask",), "<DB>", "ask <DB>"), (("layout", "d", "v"), "<FRAME>", "layout <DB> <VARIANT> <FRAME>"):
-            said = f"the following required arguments were not provided:\n  {last}"
-            self.no_job(usage(said, f"Usage: slotplan {usage_of}", ""), *words)
+    @each(*REQUIRED)
+    def test_too_few(self, name):
+        wanted = REQUIRED[name].split()
+        options = [] if name != "room" else ["--supplier <NAME>"]
+        for count in range(len(wanted)):
+            lacking = "".join(f"\n  {word}" for word in (*options, *wanted[count:]))
+            end = f"Usage: slotplan {' '.join((name, *options, *wanted))}"
+            said = f"the following required arguments were not provided:{lacking}"
+            self.no_job(usage(said, end, ""), name, *"dvwxyz"[:count])
 
     def test_ports(self):
         for port in "0", "65536":
@@ -76,6 +102,20 @@ class Words(StartCase):
             for number in "0", str(most + 1), "x":
                 why = f"{number} is not in 1..={most}" if number.isdigit() else "invalid digit found in string"
                 self.no_job(usage(f"invalid value '{number}' for '{option} <N>': {why}"), "serve", "d", "1", option, number, given=b"")
+
+    def test_numbers_of_reports(self):
+        for number, why in ("4294967296", "4294967296 is not in 0..=4294967295"), ("x", "invalid digit found in string"):
+            self.no_job(usage(f"invalid value '{number}' for '<REPETITION>': {why}"), "room", "d", "v", "f", number, "--supplier", "s")
+            self.no_job(usage(f"invalid value '{number}' for '--part <N>': {why}"), "export", "d", "v", "frames", "--part", number)
+
+    def test_rows(self):
+        for rows in "frame", "Frames", "variants", "":
+            self.no_job(NO_ROWS, "export", "d", "v", rows)
+
+    def test_files_to_check(self):
+        two = ("c", "--requests", "r"), ("c", "--rows", "r"), ("--requests", "q", "--rows", "r"), ("c", "--requests", "q", "--rows", "r")
+        for words in (), *two:
+            self.no_job(NO_FILE, "check", *words)
 
     def test_not_utf8(self):
         for words in (b"\xff",), (b"run\xff",), (b"\xffrun",), (b"run", b"\xff"), (b"--help", b"\xff"), (b"r\xc0\xb5n",):

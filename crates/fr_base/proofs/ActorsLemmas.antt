@@ -4,7 +4,6 @@ use Rattle.std.specs.Ordering.{nat_cmp, is_eq}
 use Rattle.std.specs.Option.{option_map}
 use Rattle.std.specs.Cmp.Lexicographic.{slice_cmp, nat_list_cmp_total}
 use Rattle.std.specs.FinMap.Entries as entries
-use Rattle.std.specs.FinMap.Entries.{below_all, is_sorted}
 use Rattle.std.specs.Cmp.{tied_itself}
 use Rattle.fr_base.specs.Keys.{names}
 use Rattle.fr_base.specs.Cluster.{Cluster, ClusterFile}

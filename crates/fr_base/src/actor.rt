@@ -24,8 +24,10 @@ impl Config {
     /// Who asks with this key, the integrator or one of these suppliers; or nobody has it.
     #[tactic(auto, unfolding(crate::specs::Actors::actor_of))]
     pub fn actor_of(&self, key: &[u8]) -> Option<Actor>
-        ensures value { (c : Cluster) (b : Book) → self.now ≡ file_of c b → result ≡ actor_of c b key.now }
-        ensures known { (c : Cluster) (b : Book) → self.now ≡ file_of c b → IfSome result (λ actor. IsTrue (knows b actor)) }
+        ensures value { (c : Cluster) (b : Book) → self.now ≡ file_of c b
+            → result ≡ actor_of c b key.now }
+        ensures known { (c : Cluster) (b : Book) → self.now ≡ file_of c b
+            → IfSome result (λ actor. IsTrue (knows b actor)) }
     {
         if is_text_of(&self.integrator(), key) {
             return Some(Actor::Integrator);

@@ -117,7 +117,8 @@ fn open_variant(
     variant: &Text,
     parent: &Option<Text>,
 ) -> Result<Checked<'static>, Refusal>
-    ensures { (p : Params) → result ≡ check p actor.now (request.OpenVariant variant.now parent.now) }
+    ensures { (p : Params)
+        → result ≡ check p actor.now (request.OpenVariant variant.now parent.now) }
 {
     integrator(actor)?;
     let (variant, parent) = (name(variant)?, parent_name(parent)?);
@@ -135,7 +136,8 @@ fn release(actor: &Actor, variant: &Text) -> Result<Checked<'static>, Refusal>
 
 #[tactic(auto, unfolding(crate::proofs::ChecksLemmas::checks_open))]
 fn add_supplier(actor: &Actor, supplier: &Text, text: &Text) -> Result<Checked<'static>, Refusal>
-    ensures { (p : Params) → result ≡ check p actor.now (request.AddSupplier supplier.now text.now) }
+    ensures { (p : Params)
+        → result ≡ check p actor.now (request.AddSupplier supplier.now text.now) }
 {
     integrator(actor)?;
     let (supplier, key) = (name(supplier)?, key(text)?);
@@ -170,7 +172,8 @@ fn grant(
     supplier: &Text,
     node: &Text,
 ) -> Result<Checked<'static>, Refusal>
-    ensures { result ≡ check params.now actor.now (request.Grant variant.now number text.now supplier.now node.now) }
+    ensures { result ≡ check params.now actor.now
+        (request.Grant variant.now number text.now supplier.now node.now) }
 {
     integrator(actor)?;
     let (variant, supplier, node) = (name(variant)?, name(supplier)?, name(node)?);
@@ -192,7 +195,8 @@ fn revoke(
     text: &Text,
     supplier: &Text,
 ) -> Result<Checked<'static>, Refusal>
-    ensures { result ≡ check params.now actor.now (request.Revoke variant.now number text.now supplier.now) }
+    ensures { result ≡ check params.now actor.now
+        (request.Revoke variant.now number text.now supplier.now) }
 {
     integrator(actor)?;
     let (variant, supplier) = (name(variant)?, name(supplier)?);
@@ -207,7 +211,8 @@ fn add_frame(
     frame: &Text,
     node: &Text,
 ) -> Result<Checked<'static>, Refusal>
-    ensures { (p : Params) → result ≡ check p actor.now (request.AddFrame variant.now frame.now node.now) }
+    ensures { (p : Params)
+        → result ≡ check p actor.now (request.AddFrame variant.now frame.now node.now) }
 {
     let (supplier, variant, frame) = (asking(actor)?, name(variant)?, name(frame)?);
     let node = name(node)?;
@@ -230,7 +235,8 @@ fn place(
     frame: &Text,
     placed: Result<Placement, Refusal>,
 ) -> Result<Checked<'static>, Refusal>
-    ensures { (p : Params) (n : ℕ) (text : List ℕ) (base : ℕ) (repetition : ℕ) → placed ≡ placement p n text base repetition
+    ensures { (p : Params) (n : ℕ) (text : List ℕ) (base : ℕ) (repetition : ℕ)
+        → placed ≡ placement p n text base repetition
         → result ≡ check p actor.now (request.Place variant.now frame.now n text base repetition) }
 {
     let (supplier, variant, frame) = (asking(actor)?, name(variant)?, name(frame)?);
@@ -245,8 +251,10 @@ fn unplace(
     frame: &Text,
     placed: Result<Placement, Refusal>,
 ) -> Result<Checked<'static>, Refusal>
-    ensures { (p : Params) (n : ℕ) (text : List ℕ) (base : ℕ) (repetition : ℕ) → placed ≡ placement p n text base repetition
-        → result ≡ check p actor.now (request.Unplace variant.now frame.now n text base repetition) }
+    ensures { (p : Params) (n : ℕ) (text : List ℕ) (base : ℕ) (repetition : ℕ)
+        → placed ≡ placement p n text base repetition
+        → result ≡ check p actor.now
+        (request.Unplace variant.now frame.now n text base repetition) }
 {
     let (supplier, variant, frame) = (asking(actor)?, name(variant)?, name(frame)?);
     Ok(of_frame(supplier, variant, frame, FrameChange::Unplace(placed?)))
@@ -262,7 +270,9 @@ fn add_signal(
     length: u32,
     order: &Text,
 ) -> Result<Checked<'static>, Refusal>
-    ensures { (p : Params) → result ≡ check p actor.now (request.AddSignal variant.now frame.now text.now start length order.now) }
+    ensures { (p : Params)
+        → result ≡ check p actor.now
+        (request.AddSignal variant.now frame.now text.now start length order.now) }
 {
     let (supplier, variant, frame) = (asking(actor)?, name(variant)?, name(frame)?);
     let signal = signal(name(text)?, start, length, order.as_str().as_bytes())?;
@@ -276,7 +286,8 @@ fn drop_signal(
     frame: &Text,
     signal: &Text,
 ) -> Result<Checked<'static>, Refusal>
-    ensures { (p : Params) → result ≡ check p actor.now (request.DropSignal variant.now frame.now signal.now) }
+    ensures { (p : Params)
+        → result ≡ check p actor.now (request.DropSignal variant.now frame.now signal.now) }
 {
     let (supplier, variant, frame) = (asking(actor)?, name(variant)?, name(frame)?);
     let signal = name(signal)?;
@@ -290,7 +301,8 @@ fn import<'a>(
     label: &Text,
     body: &'a Body,
 ) -> Result<Checked<'a>, Refusal>
-    ensures { (p : Params) → result ≡ check p actor.now (request.Import variant.now label.now body.now) }
+    ensures { (p : Params)
+        → result ≡ check p actor.now (request.Import variant.now label.now body.now) }
 {
     let (supplier, variant, label) = (asking(actor)?, name(variant)?, name(label)?);
     let body = BodyRef::of(body);
@@ -322,7 +334,8 @@ fn trial<'a>(
     replaces: bool,
     body: &'a Body,
 ) -> Result<Checked<'a>, Refusal>
-    ensures { (p : Params) → result ≡ check p actor.now (request.Try variant.now replaces body.now) }
+    ensures { (p : Params)
+        → result ≡ check p actor.now (request.Try variant.now replaces body.now) }
 {
     let (supplier, variant) = (asking(actor)?, name(variant)?);
     let body = BodyRef::of(body);
@@ -346,7 +359,8 @@ fn query(params: &Params, actor: &Actor, asked: &Query<Text>) -> Result<Checked<
 // Refuses the integrator that asks for the room of a frame: a supplier alone may ask.
 #[tactic(auto, unfolding(crate::proofs::ChecksLemmas::checks_open))]
 fn may_ask(actor: &Actor, asked: &Query<Text>) -> Result<(), Refusal>
-    ensures { result ≡ (refuse Refusal.NotYours when is_integrator actor.now && is_of_room asked.now) }
+    ensures { result ≡ (refuse Refusal.NotYours when is_integrator actor.now
+        && is_of_room asked.now) }
 {
     match (actor, asked) {
         (

@@ -116,8 +116,14 @@ impl Model for Config {
 impl Config {
     /// A cluster of these parameters, this integrator and these suppliers.
     pub fn new(params: Params, integrator: Key, suppliers: Suppliers) -> Config
-        requires { IsWellFormed (record { cluster = record { params = params; integrator = integrator }; suppliers = suppliers }) }
-        ensures { result ≡ record { cluster = record { params = params; integrator = integrator }; suppliers = suppliers } }
+        requires { IsWellFormed (record {
+          cluster = record { params = params; integrator = integrator };
+          suppliers = suppliers;
+        }) }
+        ensures { result ≡ record {
+          cluster = record { params = params; integrator = integrator };
+          suppliers = suppliers;
+        } }
     {
         Config {
             params,
@@ -173,7 +179,8 @@ impl Config {
     // Whether the key is the integrator's or a supplier's.
     #[tactic(auto, using(crate::proofs::JoiningLemmas::any_key))]
     fn has_key(&self, key: Key) -> bool
-        ensures { result ≡ list_any (same_text key) (keys_of self.now.cluster.integrator self.now.suppliers) }
+        ensures { result ≡ list_any (same_text key)
+            (keys_of self.now.cluster.integrator self.now.suppliers) }
     {
         key == self.integrator() || is_key_of(self.suppliers(), key)
     }
@@ -181,8 +188,12 @@ impl Config {
     /// The config with one more supplier. It is refused as [`Config::admits`] says, or is
     /// `Unavailable` where memory is refused.
     pub fn joined(&self, alloc: Global, supplier: Supplier) -> Result<Config, Refusal>
-        ensures ok { IfOk result (λ new. (admits_supplier self.now supplier.name supplier.key ≡ Ok tt) × (new ≡ joined self.now supplier.name supplier.key)) }
-        ensures err { IfErr result (λ e. ((admits_supplier self.now supplier.name supplier.key ≡ Ok tt) × (e ≡ Unavailable)) ⊎ (admits_supplier self.now supplier.name supplier.key ≡ Err e)) }
+        ensures ok { IfOk result (λ new.
+            (admits_supplier self.now supplier.name supplier.key ≡ Ok tt)
+            × (new ≡ joined self.now supplier.name supplier.key)) }
+        ensures err { IfErr result (λ e.
+            ((admits_supplier self.now supplier.name supplier.key ≡ Ok tt) × (e ≡ Unavailable))
+            ⊎ (admits_supplier self.now supplier.name supplier.key ≡ Err e)) }
     {
         self.admits(supplier.name, supplier.key)?;
         let mut suppliers = copied(alloc, self.suppliers())?;
@@ -211,8 +222,11 @@ impl Config {
     /// The config with another key of the supplier. It is refused as [`Config::admits_key`] says,
     /// or is `Unavailable` where memory is refused.
     pub fn with_key(&self, alloc: Global, supplier: Name, key: Key) -> Result<Config, Refusal>
-        ensures ok { IfOk result (λ new. (admits_key self.now supplier key ≡ Ok tt) × (new ≡ with_key self.now supplier key)) }
-        ensures err { IfErr result (λ e. ((admits_key self.now supplier key ≡ Ok tt) × (e ≡ Unavailable)) ⊎ (admits_key self.now supplier key ≡ Err e)) }
+        ensures ok { IfOk result (λ new. (admits_key self.now supplier key ≡ Ok tt)
+            × (new ≡ with_key self.now supplier key)) }
+        ensures err { IfErr result (λ e.
+            ((admits_key self.now supplier key ≡ Ok tt) × (e ≡ Unavailable))
+            ⊎ (admits_key self.now supplier key ≡ Err e)) }
     {
         self.admits_key(supplier, key)?;
         let suppliers = rekeyed(alloc, self.suppliers(), supplier, key)?;

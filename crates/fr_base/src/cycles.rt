@@ -44,7 +44,9 @@ impl CycleSet {
     #[tactic(auto, using(crate::proofs::CycleLemmas::divisor_within))]
     pub fn new(cycles: u32, base: u32, repetition: u32) -> Result<CycleSet, BadCycles>
         requires { IsTrue (is_cycle_count cycles) }
-        ensures { result ≡ (if is_cycle_set cycles base repetition then Ok (record { count = cycles; base = base; repetition = repetition }) else Err (record {})) }
+        ensures { result ≡ (if is_cycle_set cycles base repetition then Ok
+            (record { count = cycles; base = base; repetition = repetition }) else Err
+            (record {})) }
     {
         if repetition != 0 && cycles % repetition == 0 && base < repetition {
             Ok(CycleSet {

@@ -25,7 +25,8 @@ pub trait Desk {
 
     /// Who asks with this key in a sound register: the integrator, a supplier, or nobody.
     fn actor_of(&self, key: &str) -> Option<Actor>
-        ensures { (c : Cluster) (b : Book) → stands self.now c b → IsSound c b → result ≡ actor_of c b key.now };
+        ensures { (c : Cluster) (b : Book) → stands self.now c b → IsSound c b
+            → result ≡ actor_of c b key.now };
 
     /// What a cluster file says of the register's cluster now: the suppliers are those that are there.
     fn config(&self) -> &Config
@@ -36,6 +37,7 @@ pub trait Desk {
     /// itself gives no cause for a refusal.
     fn ask(&mut self, alloc: Global, ask: &Ask) -> Answer
         ensures falls { clean self.new → clean self.old }
-        ensures answered { clean self.new → (c : Cluster) (b : Book) → stands self.old c b → IsSound c b →
-            (last : Book) × stands self.new c last × IsRun c b (ask.now ∷ []) (result ∷ []) last };
+        ensures answered { clean self.new → (c : Cluster) (b : Book) → stands self.old c b
+            → IsSound c b
+            → (last : Book) × stands self.new c last × IsRun c b (ask.now ∷ []) (result ∷ []) last };
 }

@@ -74,7 +74,8 @@ impl Row {
         base: u32,
         repetition: u32,
     ) -> Result<Row, Refusal>
-        ensures { result ≡ placement_row params.now frame.now node.now slot channels.now base repetition }
+        ensures { result ≡ placement_row params.now frame.now node.now slot channels.now base
+            repetition }
     {
         let (frame, node) = (read_name(frame)?, read_name(node)?);
         let placement = checks::placement(params, slot, channels.as_bytes(), base, repetition)?;
@@ -115,7 +116,8 @@ impl Row {
         base: u32,
         repetition: u32,
     ) -> Option<Row>
-        ensures { result ≡ option_map (Row.Place frame node) (result_ok (placement params.now slot channels.now base repetition)) }
+        ensures { result ≡ option_map (Row.Place frame node)
+            (result_ok (placement params.now slot channels.now base repetition)) }
     {
         let placement = checks::placement(params, slot, channels, base, repetition).ok()?;
         Some(Row::Place {
@@ -130,7 +132,8 @@ impl Row {
     #[tactic(auto, unfolding(crate::proofs::ImportLemmas::rows_open))]
     #[inline(always)]
     pub fn add_signal(frame: Name, name: Name, start: u32, length: u32, order: &[u8]) -> Option<Row>
-        ensures { result ≡ option_map (Row.AddSignal frame) (result_ok (signal name start length order.now)) }
+        ensures { result ≡ option_map (Row.AddSignal frame)
+            (result_ok (signal name start length order.now)) }
     {
         let signal = checks::signal(name, start, length, order).ok()?;
         Some(Row::AddSignal { frame, signal })

@@ -12,9 +12,7 @@ use Rattle.fr_base.specs.QueryNames.{query_with}
 use Rattle.fr_base.specs.declared.request.Request.{Request}
 use Rattle.fr_base.specs.declared.request.Request.TheVariants as request
 use Rattle.fr_picture.proofs.ReportLaws.{query_stays as query_leaves}
-use Rattle.fr_desks.specs.FileDesk.{FindsHeld, IsLeftWith}
 use Rattle.fr_http.specs.Asking.{Standing}
-use Rattle.sqlite.specs.Files.{IsCleanLeft}
 use Rattle.sqlite.specs.declared.file.Leftover.{Leftover}
 use Rattle.sqlite_disk.specs.declared.Disk.{Ghosts}
 use Rattle.sqlite_wal.specs.Recovery.{Image}
@@ -29,6 +27,7 @@ use Rattle.fr_cli.specs.Reading.{Stays}
 use Rattle.fr_cli.specs.ScriptRun.{Replied}
 use Rattle.fr_cli.specs.declared.query.Inquiry.{Inquiry}
 use Rattle.fr_cli.specs.RegisterFiles.{IsAnswerOfFile, IsAnswerToGiven}
+use Rattle.fr_cli.proofs.OpenedLaws.{IsOver}
 use Rattle.fr_cli.specs.declared.fault.Fault.{Fault}
 use Rattle.fr_cli.specs.declared.fault.Fault.TheVariants.{NoMemory}
 use Rattle.std.specs.Global.{Vec}
@@ -76,35 +75,34 @@ says_more May Might Was Is (Err (failure.Refused line)) might follows (answer, i
 says_more May Might Was Is (Err (failure.Fault fault)) might follows may = might fault may
 
 module _ {D : Type 0} {g : Ghosts D} where
-  -- what was asked of a register that stands for what a file held, and was closed, was asked of the file
-  asks_file : (held : Image) (left : Leftover D g) (clean before : Type 0) (old new : Standing) (asks : Cluster → Book → Result Ask Refusal) (answer : Answer)
-      → (IsCleanLeft left → clean) → (clean → before) → FindsHeld held before old → ((c : Cluster) (b : Book) → new c b → IsLeftWith left c b)
-      → IsAnswer clean old new asks answer → IsAnswerOfFile held (Some left) asks answer
-  asks_file held left clean before old new asks answer closes falls finds leaves is = (
+  -- what was asked of a register over a file was asked of the file
+  asks_file : (held : Image) (rest : Option (Leftover D g)) (left : Leftover D g) (clean : Type 0) (old new : Standing)
+      (asks : Cluster → Book → Result Ask Refusal) (answer : Answer) → rest ≡ Some left → IsOver held left clean old new
+      → IsAnswer clean old new asks answer → IsAnswerOfFile held rest asks answer
+  asks_file held rest left clean old new asks answer is_left over is = (
     left,
-    refl,
+    (is_left, over.opened),
     λ kept c b there sound.
-        let step = is (closes kept) c b (finds (falls (closes kept)) c b there) sound in
-        (step.0, step.1, leaves c step.0 step.2),
+        let up = over.closes kept in
+        let step = is up c b (over.finds up c b there) sound in
+        (step.0, step.1, over.leaves c step.0 step.2),
   )
 
   -- so what is printed of its answer is said of the file
-  pub says_of_file : (May : Fault → Type 0) (done : Result (Vec ℕ) Failure) (held : Image) (left : Leftover D g) (clean before : Type 0) (old new : Standing)
-      (asks : Cluster → Book → Result Ask Refusal) → (IsCleanLeft left → clean) → (clean → before) → FindsHeld held before old
-      → ((c : Cluster) (b : Book) → new c b → IsLeftWith left c b) → May NoMemory → Prints (IsAnswer clean old new asks) done
-      → Says May (IsAnswerOfFile held (Some left) asks) done
-  says_of_file May done held left clean before old new asks closes falls finds leaves may p =
-      prints_says May (IsAnswerOfFile held (Some left) asks) (IsAnswer clean old new asks) done
-      (λ answer is. asks_file held left clean before old new asks answer closes falls finds leaves is) may p
+  pub says_of_file : (May : Fault → Type 0) (done : Result (Vec ℕ) Failure) (held : Image) (rest : Option (Leftover D g)) (left : Leftover D g) (clean : Type 0)
+      (old new : Standing) (asks : Cluster → Book → Result Ask Refusal) → rest ≡ Some left → IsOver held left clean old new → May NoMemory
+      → Prints (IsAnswer clean old new asks) done → Says May (IsAnswerOfFile held rest asks) done
+  says_of_file May done held rest left clean old new asks is_left over may p =
+      prints_says May (IsAnswerOfFile held rest asks) (IsAnswer clean old new asks) done
+      (λ answer is. asks_file held rest left clean old new asks answer is_left over is) may p
 
   -- so what is printed for a reader
-  pub read_of_file : (May : Fault → Type 0) (done : Result (Vec ℕ) Failure) (held : Image) (left : Leftover D g) (clean before : Type 0) (old new : Standing)
-      (asks : Cluster → Book → Result Ask Refusal) → (IsCleanLeft left → clean) → (clean → before) → FindsHeld held before old
-      → ((c : Cluster) (b : Book) → new c b → IsLeftWith left c b) → May NoMemory → Prints (IsForReader (IsAnswer clean old new asks)) done
-      → Says May (IsForReader (IsAnswerOfFile held (Some left) asks)) done
-  read_of_file May done held left clean before old new asks closes falls finds leaves may p =
-      prints_says May (IsForReader (IsAnswerOfFile held (Some left) asks)) (IsForReader (IsAnswer clean old new asks)) done
-      (λ answer is. (is.0, asks_file held left clean before old new asks is.0 closes falls finds leaves is.1, is.2)) may p
+  pub read_of_file : (May : Fault → Type 0) (done : Result (Vec ℕ) Failure) (held : Image) (rest : Option (Leftover D g)) (left : Leftover D g) (clean : Type 0)
+      (old new : Standing) (asks : Cluster → Book → Result Ask Refusal) → rest ≡ Some left → IsOver held left clean old new → May NoMemory
+      → Prints (IsForReader (IsAnswer clean old new asks)) done → Says May (IsForReader (IsAnswerOfFile held rest asks)) done
+  read_of_file May done held rest left clean old new asks is_left over may p =
+      prints_says May (IsForReader (IsAnswerOfFile held rest asks)) (IsForReader (IsAnswer clean old new asks)) done
+      (λ answer is. (is.0, asks_file held rest left clean old new asks is.0 is_left over is.1, is.2)) may p
 
   -- what is said of the answer to who has the key is said of the key that is given
   pub given_says : (held : Image) (rest : Option (Leftover D g)) (word : List ℕ) (input left : Option (List ℕ)) (key : List ℕ) (request : Request)

@@ -9,7 +9,7 @@ use Rattle.sqlite_disk.specs.declared.Disk.{Ghosts}
 use Rattle.sqlite_wal.specs.Recovery.{Image}
 use Rattle.fr_base.specs.Book.{Book}
 use Rattle.fr_base.specs.Cluster.{Cluster}
-use Rattle.fr_desks.specs.FileDesk.{FindsHeld, Held, IsLeftWith}
+use Rattle.fr_desks.specs.FileDesk.{Held, IsLeftWith}
 use Rattle.fr_world.specs.Held.{Standing}
 use Rattle.fr_cli.specs.Answering.{AnswersLines, BeginWith, GoOnBehind, WasCutShort}
 use Rattle.fr_cli.specs.Incoming.{AreFirstOf, AreFirstOfAll, AreShort, EndsAsking, EndsLines, HasAnswered, HasAsked, HasHeard, HasLongLine, IsAsked, max_line}
@@ -24,6 +24,7 @@ use Rattle.fr_cli.specs.declared.script_fault.ScriptFault.TheVariants.{NoMemory,
 use Rattle.fr_cli.proofs.AnsweringLaws.{cut_after, cut_as, cut_here, cut_moved, lines_moved, lines_stay, lines_then, no_lines}
 use Rattle.fr_cli.proofs.EndedLines.{requests-append}
 use Rattle.fr_cli.proofs.LineLemmas.{request_lines-none}
+use Rattle.fr_cli.proofs.OpenedLaws.{IsOver}
 
 -- ---- ends of lines
 
@@ -282,16 +283,16 @@ at_end clean first old mid new input left a m b front begun written (Err fault) 
 -- ---- over a file
 
 module _ {D : Type 0} {g : Ghosts D} where
-  -- What was asked of a register that stands for what a file held, and was closed, was asked of the file.
-  pub asked_file : (file : Image) (rest : Leftover D g) (clean before : Type 0) (old new : Standing) (input left a b : Option (List ℕ)) (asked : Result ⊤ ScriptFault) (done : Result ⊤ Fault)
-      → (IsCleanLeft rest → clean) → (clean → before) → FindsHeld file before old → ((c : Cluster) (b : Book) → new c b → IsLeftWith rest c b) → done ≡ of_script asked
-      → OnOk asked (IsAtEnd left) → HasAnswered clean old new input left a b asked → IsAsked file (Some rest) input left a b done
-  asked_file file rest clean before old new input left a b (Ok x) done closes falls finds leaves is end has =
+  -- What was asked of a register over a file was asked of the file.
+  pub asked_file : (file : Image) (rest : Option (Leftover D g)) (last : Leftover D g) (clean : Type 0) (old new : Standing) (input left a b : Option (List ℕ))
+      (asked : Result ⊤ ScriptFault) (done : Result ⊤ Fault) → rest ≡ Some last → IsOver file last clean old new → done ≡ of_script asked
+      → OnOk asked (IsAtEnd left) → HasAnswered clean old new input left a b asked → IsAsked file rest input left a b done
+  asked_file file rest last clean old new input left a b (Ok x) done is_left over is end has =
       let (lines, written, all, short, appended, answered) = has.all in
       inr (
         Ok x,
-        rest,
-        refl,
+        last,
+        (is_left, over.opened),
         is,
         end,
         record {
@@ -301,7 +302,7 @@ module _ {D : Type 0} {g : Ghosts D} where
             all,
             short,
             appended,
-            lines_moved (IsCleanLeft rest) clean (Held file) old new (IsLeftWith rest) lines written closes (λ up. finds (falls up)) leaves answered,
+            lines_moved (IsCleanLeft last) clean (Held file) old new (IsLeftWith last) lines written over.closes over.finds over.leaves answered,
           );
           early = tt;
           unread = tt;
@@ -309,15 +310,15 @@ module _ {D : Type 0} {g : Ghosts D} where
           faults = tt;
         },
       )
-  asked_file file rest clean before old new input left a b (Err fault) done closes falls finds leaves is end has = inr (
+  asked_file file rest last clean old new input left a b (Err fault) done is_left over is end has = inr (
     Err fault,
-    rest,
-    refl,
+    last,
+    (is_left, over.opened),
     is,
     end,
     record {
       all = tt;
-      early = cut_moved (IsCleanLeft rest) clean (Held file) old new (IsLeftWith rest) _ _ a b fault closes (λ up. finds (falls up)) leaves has.early;
+      early = cut_moved (IsCleanLeft last) clean (Held file) old new (IsLeftWith last) _ _ a b fault over.closes over.finds over.leaves has.early;
       unread = λ e.
           let (front, begun, written, taken, ends, open_ended, appended, answered) = has.unread e in (
             front,
@@ -327,7 +328,7 @@ module _ {D : Type 0} {g : Ghosts D} where
             ends,
             open_ended,
             appended,
-            lines_moved (IsCleanLeft rest) clean (Held file) old new (IsLeftWith rest) (request_lines front) written closes (λ up. finds (falls up)) leaves answered,
+            lines_moved (IsCleanLeft last) clean (Held file) old new (IsLeftWith last) (request_lines front) written over.closes over.finds over.leaves answered,
           );
       too_long = has.too_long;
       faults = has.faults;

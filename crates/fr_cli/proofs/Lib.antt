@@ -1,9 +1,15 @@
 mod LineLemmas
 mod EndedLines
+pub mod OpenedLaws
 pub mod IncomingLaws
 mod CommandLaws
 mod NumberLaws
 mod WordLaws
+mod TakenRows
+mod TakenThere
+mod TakenSubs
+mod TakenNumbers
+mod TakenJobs
 mod WordRows
 pub mod ScriptRunLaws
 mod ScriptRows

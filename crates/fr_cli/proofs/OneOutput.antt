@@ -1,5 +1,5 @@
 -- The same lines from one book have the same answers, but for where Unavailable comes; so a script has one output.
-use Rattle.std.proofs.Common.{◌≡◌, ℕ, Bool, true, false, List, [], ◌∷◌, ◌++◌, map, drop, append-nil, Option, Some, None, Result, Ok, Err, refl, sym, ap, ◌∙◌, subst}
+use Rattle.std.proofs.Common.{◌≡◌, ℕ, Bool, false, List, [], ◌∷◌, map, drop, append-nil, Option, Some, Result, Ok, Err, refl, sym, ap, ◌∙◌, subst}
 use Rattle.std.specs.Prelude.{unwrap_or}
 use Rattle.fr_base.specs.Alone.{is_unavailable}
 use Rattle.fr_base.specs.Book.{Book, opening}

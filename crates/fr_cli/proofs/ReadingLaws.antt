@@ -6,15 +6,14 @@ use Rattle.fr_base.specs.Cluster.{Cluster}
 use Rattle.fr_base.specs.declared.actor.Actor.{Actor}
 use Rattle.fr_base.specs.declared.answer.Answer.TheVariants as answer
 use Rattle.fr_base.specs.declared.refusal.Refusal.{Refusal}
-use Rattle.fr_desks.specs.FileDesk.{FindsHeld, IsLeftWith}
 use Rattle.fr_http.specs.Asking.{Standing}
-use Rattle.sqlite.specs.Files.{IsCleanLeft}
 use Rattle.sqlite.specs.declared.file.Leftover.{Leftover}
 use Rattle.sqlite_disk.specs.declared.Disk.{Ghosts}
 use Rattle.sqlite_wal.specs.Recovery.{Image}
 use Rattle.fr_cli.specs.Asking.{IsRefusedBy, for_reader}
 use Rattle.fr_cli.specs.Reading.{IsRead, PrintsRead, Reading, Stays}
 use Rattle.fr_cli.specs.RegisterFiles.{IsReadOfFile}
+use Rattle.fr_cli.proofs.OpenedLaws.{IsOver}
 use Rattle.fr_cli.specs.declared.failure.Failure.{Failure}
 use Rattle.fr_cli.specs.declared.failure.Failure.TheVariants as failure
 use Rattle.fr_cli.specs.declared.fault.Fault.{Fault}
@@ -46,23 +45,22 @@ module _ {X : Type 0} where
   reading_says May Is Was IsText (Err (failure.Fault fault)) follows may p = subst May (sym p) may
 
   module _ {D : Type 0} {g : Ghosts D} where
-    -- what was read of a register that stands for what a file held, and was closed, was read of the file
-    reads_file : (held : Image) (left : Leftover D g) (clean before : Type 0) (old new : Standing) (may : Reading X) (r : Result X Refusal)
-        → (IsCleanLeft left → clean) → (clean → before) → FindsHeld held before old → ((c : Cluster) (b : Book) → new c b → IsLeftWith left c b)
-        → IsRead clean old new may r → IsReadOfFile held (Some left) may r
-    reads_file held left clean before old new may r closes falls finds leaves is = (
+    -- what was read of a register over a file was read of the file
+    reads_file : (held : Image) (rest : Option (Leftover D g)) (left : Leftover D g) (clean : Type 0) (old new : Standing) (may : Reading X) (r : Result X Refusal)
+        → rest ≡ Some left → IsOver held left clean old new → IsRead clean old new may r → IsReadOfFile held rest may r
+    reads_file held rest left clean old new may r is_left over is = (
       left,
-      refl,
+      (is_left, over.opened),
       λ kept c b there sound.
-          let read = is (closes kept) c b (finds (falls (closes kept)) c b there) sound in
-          (leaves c b read.0, read.1),
+          let up = over.closes kept in
+          let read = is up c b (over.finds up c b there) sound in
+          (over.leaves c b read.0, read.1),
     )
 
     -- so what is printed of it is said of the file
-    pub reading_of_file : (May : Fault → Type 0) (IsText : X → List ℕ → Type 0) (done : Result (Vec ℕ) Failure) (held : Image) (left : Leftover D g) (clean before : Type 0) (old new : Standing)
-        (may : Reading X) → (IsCleanLeft left → clean) → (clean → before) → FindsHeld held before old
-        → ((c : Cluster) (b : Book) → new c b → IsLeftWith left c b) → May NoMemory → PrintsRead (λ fault. fault ≡ NoMemory) (IsRead clean old new may) IsText done
-        → PrintsRead May (IsReadOfFile held (Some left) may) IsText done
-    reading_of_file May IsText done held left clean before old new may closes falls finds leaves lacks p =
-        reading_says May (IsReadOfFile held (Some left) may) (IsRead clean old new may) IsText done
-        (λ r is. reads_file held left clean before old new may r closes falls finds leaves is) lacks p
+    pub reading_of_file : (May : Fault → Type 0) (IsText : X → List ℕ → Type 0) (done : Result (Vec ℕ) Failure) (held : Image) (rest : Option (Leftover D g)) (left : Leftover D g)
+        (clean : Type 0) (old new : Standing) (may : Reading X) → rest ≡ Some left → IsOver held left clean old new → May NoMemory
+        → PrintsRead (λ fault. fault ≡ NoMemory) (IsRead clean old new may) IsText done → PrintsRead May (IsReadOfFile held rest may) IsText done
+    reading_of_file May IsText done held rest left clean old new may is_left over lacks p =
+        reading_says May (IsReadOfFile held rest may) (IsRead clean old new may) IsText done
+        (λ r is. reads_file held rest left clean old new may r is_left over is) lacks p

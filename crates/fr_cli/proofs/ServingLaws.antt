@@ -1,16 +1,14 @@
 -- Connections are served, and then one more; what is told of their ends; and what that is for the file of the register.
-use Rattle.std.proofs.Common.{◌≡◌, ◌≤◌, length, inl, inr, ℕ, List, [], ◌∷◌, ◌++◌, Option, Some, None, Result, Ok, Err, refl, sym, ap, ap₂, ◌∙◌, subst, arith}
+use Rattle.std.proofs.Common.{◌≡◌, ◌⊎◌, ◌≤◌, length, inl, inr, ℕ, List, [], ◌∷◌, ◌++◌, Option, Some, None, Result, Ok, Err, refl, sym, ap, ap₂, ◌∙◌, subst, arith}
 use Rattle.std.specs.Prelude.{⊤}
 use Rattle.std.specs.Io.KnownBytes.{Appends, Keeps}
 use Rattle.std.proofs.KnownBytes.{Keeps-trans, Keeps-refl}
 use Rattle.std.proofs.lemmas.List.{map_push}
-use Rattle.sqlite.specs.Files.{IsCleanLeft}
 use Rattle.sqlite.specs.declared.file.Leftover.{Leftover}
 use Rattle.sqlite_disk.specs.declared.Disk.{Ghosts}
 use Rattle.sqlite_wal.specs.Recovery.{Image}
 use Rattle.fr_base.specs.Book.{Book}
 use Rattle.fr_base.specs.Cluster.{Cluster}
-use Rattle.fr_desks.specs.FileDesk.{FindsHeld, IsLeftWith}
 use Rattle.fr_http.specs.Connection.{IsConnection}
 use Rattle.fr_http.specs.Exchanges.{AreExchanged, Exchange, IsExchange}
 use Rattle.fr_http.specs.declared.fault.LinkFault.{LinkFault}
@@ -21,7 +19,10 @@ use Rattle.fr_cli.specs.Performing.{listening}
 use Rattle.fr_cli.specs.Serving.{HasServed, IsServed, ServesAll, ServesOne, StopsServing, TellsEach, TellsEnd}
 use Rattle.fr_cli.specs.Visits.{Visit, visit_of}
 use Rattle.fr_cli.specs.declared.fault.Fault.{Fault}
-use Rattle.fr_cli.specs.declared.fault.Fault.TheVariants.{CannotListen}
+use Rattle.fr_cli.specs.declared.fault.Fault.TheVariants.{CannotListen, NoMemory, Register}
+use Rattle.fr_store.specs.declared.fault.StoreFault.TheVariants.{Unavailable}
+use Rattle.fr_cli.proofs.AskingLaws.{err_follows}
+use Rattle.fr_cli.proofs.OpenedLaws.{IsOver}
 
 -- ---- one exchange
 
@@ -92,9 +93,9 @@ tells_then a b c (visit ∷ visits) more p q = (p.0, p.1, tells_then p.0 b c vis
 -- ---- how a server ends
 
 -- A fault came before a connection was served.
-pub served_early : (clean : Type 0) (s : Standing) (count : ℕ) (said : Type 0) (CameIn : List Visit → Type 0) (a : Option (List ℕ)) (done : Result ⊤ Fault) (fault : Fault)
-    → done ≡ Err fault → StopsServing [] fault → CameIn [] → HasServed clean s s count said CameIn a a done
-served_early clean s count said CameIn a done fault is stops came = subst (HasServed clean s s count said CameIn a a) (sym is) (record {
+pub served_early : (clean : Type 0) (s : Standing) (count : ℕ) (said deaf : Type 0) (CameIn : List Visit → Type 0) (a : Option (List ℕ)) (done : Result ⊤ Fault) (fault : Fault)
+    → done ≡ Err fault → StopsServing deaf [] fault → CameIn [] → HasServed clean s s count said deaf CameIn a a done
+served_early clean s count said deaf CameIn a done fault is stops came = subst (HasServed clean s s count said deaf CameIn a a) (sym is) (record {
   visits = [];
   came_in = came;
   served = serves_none clean s;
@@ -105,53 +106,61 @@ served_early clean s count said CameIn a done fault is stops came = subst (HasSe
   first = inl refl;
 })
 
+-- For this no connection is served: its files are not watched.
+pub stops_unwatched : (deaf : Type 0) (fault : Fault) → (fault ≡ NoMemory) ⊎ (fault ≡ Register Unavailable) → StopsServing deaf [] fault
+stops_unwatched deaf fault (inl lacked) = inr (inr (refl, inl lacked))
+stops_unwatched deaf fault (inr other) = inr (inl other)
+
 -- No more connections could be accepted.
-pub served_until : (clean : Type 0) (old new : Standing) (count : ℕ) (CameIn : List Visit → Type 0) (a b : Option (List ℕ)) (done : Result ⊤ Fault) (fault : Fault) (visits : List Visit)
-    → done ≡ Err fault → fault ≡ CannotListen → CameIn visits → ServesAll clean old new visits → TellsEach a b visits → length visits ≤ count
-    → HasServed clean old new count ⊤ CameIn a b done
-served_until clean old new count CameIn a b done fault visits is cannot came served told few = subst (HasServed clean old new count ⊤ CameIn a b) (sym is) (record {
+pub served_until : (clean : Type 0) (old new : Standing) (count : ℕ) (deaf : Type 0) (CameIn : List Visit → Type 0) (a b : Option (List ℕ)) (done : Result ⊤ Fault) (fault : Fault) (visits : List Visit)
+    → done ≡ Err fault → fault ≡ CannotListen → deaf → CameIn visits → ServesAll clean old new visits → TellsEach a b visits → length visits ≤ count
+    → HasServed clean old new count ⊤ deaf CameIn a b done
+served_until clean old new count deaf CameIn a b done fault visits is cannot over came served told few = subst (HasServed clean old new count ⊤ deaf CameIn a b) (sym is) (record {
   visits = visits;
   came_in = came;
   served = served;
   told = told;
   all = tt;
   few = few;
-  fault = inl cannot;
+  fault = inl (cannot, over);
   first = inr tt;
 })
 
 -- What connections are served is said of the server, and where they came in.
-pub served_said : (clean : Type 0) (old new : Standing) (count : ℕ) (said : Type 0) (CameIn CameTo : List Visit → Type 0) (a b : Option (List ℕ)) (done : Result ⊤ Fault)
+pub served_said : (clean : Type 0) (old new : Standing) (count : ℕ) (said deaf deafer : Type 0) (CameIn CameTo : List Visit → Type 0) (a b : Option (List ℕ)) (done : Result ⊤ Fault)
     → said → ((visits : List Visit) → CameIn visits → CameTo visits)
-    → HasServed clean old new count ⊤ CameIn a b done → HasServed clean old new count said CameTo a b done
-served_said clean old new count said CameIn CameTo a b done is came has = record {
+    → (deaf → deafer) → HasServed clean old new count ⊤ deaf CameIn a b done → HasServed clean old new count said deafer CameTo a b done
+served_said clean old new count said deaf deafer CameIn CameTo a b done is came stops has = record {
   visits = has.visits;
   came_in = came has.visits has.came_in;
   served = has.served;
   told = has.told;
   all = has.all;
   few = has.few;
-  fault = has.fault;
+  fault = err_follows (StopsServing deaf has.visits) (StopsServing deafer has.visits) done (λ fault why. elim why [
+    | inl cannot ↦ inl (cannot.0, stops cannot.1)
+    | inr other ↦ inr other
+  ]) has.fault;
   first = inr is;
 }
 
 -- ---- over a file
 
 module _ {D : Type 0} {g : Ghosts D} where
-  -- What was served by a register that stands for what a file held, and was closed, was served from the file.
-  pub served_file : (file : Image) (rest : Leftover D g) (clean before : Type 0) (old new : Standing) (port count : ℕ) (stayed : Type 0) (CameIn : List Visit → Type 0)
-      (out out' a b : Option (List ℕ)) (done : Result ⊤ Fault)
-      → (IsCleanLeft rest → clean) → (clean → before) → FindsHeld file before old → ((c : Cluster) (b : Book) → new c b → IsLeftWith rest c b)
-      → HasServed clean old new count (Appends out out' (listening port)) CameIn a b done → IsServed file (Some rest) port count stayed CameIn out out' a b done
-  served_file file rest clean before old new port count stayed CameIn out out' a b done closes falls finds leaves has = inr (
-    rest,
-    refl,
+  -- What was served by a register over a file was served from the file.
+  pub served_file : (file : Image) (rest : Option (Leftover D g)) (left : Leftover D g) (clean : Type 0) (old new : Standing) (port count : ℕ) (stayed deaf : Type 0)
+      (CameIn : List Visit → Type 0) (out out' a b : Option (List ℕ)) (done : Result ⊤ Fault) → rest ≡ Some left → IsOver file left clean old new
+      → HasServed clean old new count (Appends out out' (listening port)) deaf CameIn a b done → IsServed file rest port count stayed deaf CameIn out out' a b done
+  served_file file rest left clean old new port count stayed deaf CameIn out out' a b done is_left over has = inr (
+    left,
+    (is_left, over.opened),
     record {
       visits = has.visits;
       came_in = has.came_in;
       served = λ kept c book there sound.
-          let (xs, last, each, so, after) = has.served (closes kept) c book (finds (falls (closes kept)) c book there) sound in
-          (xs, last, each, so, leaves c last after);
+          let up = over.closes kept in
+          let (xs, last, each, so, after) = has.served up c book (over.finds up c book there) sound in
+          (xs, last, each, so, over.leaves c last after);
       told = has.told;
       all = has.all;
       few = has.few;

@@ -4,10 +4,14 @@ use Rattle.clap.proofs.OnLiterals.{clap_on_literals}
 use Rattle.clap.specs.Walk.{one_of}
 use Rattle.clap.specs.Words.{IsAmong, fault_of, subcommand_of}
 use Rattle.clap.specs.declared.error.kind.ErrorKind.TheVariants as kinds
+use Rattle.fr_base.specs.declared.import.Header.{Header}
+use Rattle.fr_base.specs.declared.import.Header.TheVariants.{Frames, Placements, Signals}
 use Rattle.fr_base.specs.declared.query.Query.TheVariants.{Variant as OfVariant, Difference as OfTwo}
 use Rattle.fr_base.specs.declared.report.Report.TheVariants.{Schedule}
 use Rattle.fr_cli.specs.Commands.{slotplan}
-use Rattle.fr_cli.specs.Words.{AskFor, IsFaultOf}
+use Rattle.fr_cli.specs.Words.{AskFor, IsFaultOf, IsFileOf, LackAnObject, word_of_header}
+use Rattle.fr_cli.specs.declared.text_file.TextFile.{TextFile}
+use Rattle.fr_cli.specs.declared.text_file.TextFile.TheVariants.{Config, Requests, Rows}
 use Rattle.fr_cli.specs.declared.words.Job.TheVariants as job
 use Rattle.fr_cli.specs.declared.words.WordFault.TheVariants.{Usage}
 
@@ -136,3 +140,33 @@ help_is_no_usage text (kind, inr (inl among), is) = elim (subst (IsAmong kind) w
   | inr none ↦ none
 ]
 help_is_no_usage text (kind, inr (inr none), is) = let no : [] ≡ kinds.DisplayHelp ∷ [] = sym none.1 ∙ wants_help in cc
+
+-- which rows `export` has
+no_header : (header : Header) → Some (codes "nodes") ≡ Some (word_of_header header) → ⊥
+no_header Frames e = let no : Some (codes "nodes") ≡ Some (codes "frames") = e in cc
+no_header Placements e = let no : Some (codes "nodes") ≡ Some (codes "placements") = e in cc
+no_header Signals e = let no : Some (codes "nodes") ≡ Some (codes "signals") = e in cc
+
+rows_are_lacking : LackAnObject (codes "export" ∷ codes "car.db" ∷ codes "v1" ∷ codes "nodes" ∷ [])
+unfolding clap_on_literals
+rows_are_lacking = inr (refl, no_header)
+
+no_file : (file : TextFile) → IsFileOf file [] → ⊥
+no_file (Config path) is = let no : None ≡ Some path.now = is.0 in cc
+no_file (Requests path) is = let no : None ≡ Some path.now = is.1 in cc
+no_file (Rows path) is = let no : None ≡ Some path.now = is.2 in cc
+
+file_is_lacking : LackAnObject (codes "check" ∷ [])
+unfolding clap_on_literals
+file_is_lacking = inl (refl, no_file)
+
+-- a job's words lack nothing
+file_is_named : LackAnObject (codes "check" ∷ codes "car.toml" ∷ []) → ⊥
+unfolding clap_on_literals
+file_is_named (inl lacks) = lacks.1 (Config (record { ref_ptr = (0, 0); now = codes "car.toml" })) (refl, refl, refl)
+file_is_named (inr lacks) = let no : codes "check" ≡ codes "export" = lacks.0 in cc
+
+schedule_lacks_nothing : LackAnObject (codes "schedule" ∷ codes "car.db" ∷ codes "v1" ∷ []) → ⊥
+unfolding clap_on_literals
+schedule_lacks_nothing (inl lacks) = let no : codes "schedule" ≡ codes "check" = lacks.0 in cc
+schedule_lacks_nothing (inr lacks) = let no : codes "schedule" ≡ codes "export" = lacks.0 in cc

@@ -11,6 +11,7 @@ use Rattle.fr_desks.specs.FileDesk.{Held, IsLeftWith}
 use Rattle.fr_world.specs.Held.{Standing}
 use Rattle.fr_cli.specs.Answering.{AnswersLines, BeginWith, WasCutShort}
 use Rattle.fr_cli.specs.Faults.{IsNotOpened}
+use Rattle.fr_cli.specs.Opened.{IsLeftOf}
 use Rattle.fr_cli.specs.Performing.{of_script}
 use Rattle.fr_cli.specs.Script.{HasNo, max_script, request_lines}
 use Rattle.fr_cli.specs.ScriptFault.{script_fault_of}
@@ -76,10 +77,10 @@ pub record HasAnswered (clean : Type 0) (old new : Standing) (input left a b : O
   pub too_long : IsErrOf done TooLong → IfSome input (λ bytes. (max_script < length bytes) ⊎ HasLongLine bytes)
   pub faults : IfErr done (λ fault. (fault ≡ WriteFailed) ⊎ ((fault ≡ Unavailable) ⊎ ((of : InputFault) × (fault ≡ script_fault_of of))))
 
--- The register was not opened, and nothing was read or written; or its file was opened and closed, and the input's requests were
--- answered: as long as nobody else wrote to the file, from the book that it held, and what is left holds the book after them.
+-- The register was not opened, and nothing was read or written; or its file, which held a register, was opened and closed, and the
+-- input's requests were answered: as long as nobody else wrote to the file, from the book that it held, and what is left holds the book after them.
 abbrev pub IsAsked : {D : Type 0} {g : Ghosts D} → Image → Option (Leftover D g) → Option (List ℕ) → Option (List ℕ) → Option (List ℕ) → Option (List ℕ) → Result ⊤ Fault → Type 0
 IsAsked {D} {g} file rest input left a b done =
     ((fault : Fault) × (done ≡ Err fault) × IsNotOpened file rest fault × Keeps input left × Keeps a b)
-    ⊎ ((asked : Result ⊤ ScriptFault) × (last : Leftover D g) × (rest ≡ Some last) × (done ≡ of_script asked) × OnOk asked (IsAtEnd left)
+    ⊎ ((asked : Result ⊤ ScriptFault) × (last : Leftover D g) × IsLeftOf file rest last × (done ≡ of_script asked) × OnOk asked (IsAtEnd left)
     × HasAnswered (IsCleanLeft last) (Held file) (IsLeftWith last) input left a b asked)

@@ -59,26 +59,31 @@ module _ {D : Type 0} {g : Ghosts D} (held : Image) (rest : Option (Leftover D g
       × Keeps s.out.old s.out.new × Ends done s status
 
   -- connections were served
-  abbrev pub Serves : ℕ → ℕ → Streams → ℕ → Type 0
-  Serves port count s status = (done : Result ⊤ Fault) × (told : Option (List ℕ)) × (status ≡ status_of done)
-      × IsAnnounced port s.out.old s.out.new done
-      × IsServed held rest port count comings.none (comings.at port) s.out.old s.out.new s.err.old told done
+  abbrev pub Serves : ℕ → ℕ → ℕ → Streams → ℕ → Type 0
+  Serves port count seconds s status = (done : Result ⊤ Fault) × (told : Option (List ℕ)) × (status ≡ status_of done)
+      × IsAnnounced (comings.heard port) port s.out.old s.out.new done
+      × IsServed held rest port count comings.none (comings.deaf port) (comings.at port seconds) s.out.old s.out.new s.err.old told done
       × Tells told s.err.new done
+
+  -- Standard input stays, and no connection came in.
+  abbrev Quiet : Streams → Type 0
+  Quiet s = Keeps s.input.old s.input.new × comings.none
 
   -- What the job does.
   abbrev pub IsPerformed : Job → Streams → ℕ → Type 0
   IsPerformed job.Run s status = (done : Result ⊤ ScriptFault) × IsRunOf s.input.old s.input.new s.out.old s.out.new done
-      × Ends (of_script done) s status × read.none
-  IsPerformed (job.Create db config) s status = Creates config.now s status
-  IsPerformed (job.Migrate db) s status = Migrates s status × read.none
-  IsPerformed (job.Serve db port count seconds) s status = Serves port count s status × read.none
+      × Ends (of_script done) s status × read.none × comings.none
+  IsPerformed (job.Create db config) s status = Creates config.now s status × Quiet s
+  IsPerformed (job.Migrate db) s status = Migrates s status × read.none × Quiet s
+  IsPerformed (job.Serve db port count seconds) s status = Serves port count seconds s status × read.none × Keeps s.input.old s.input.new
   IsPerformed (job.Ask db) s status = (done : Result ⊤ Fault) × IsAsked held rest s.input.old s.input.new s.out.old s.out.new done
-      × Ends done s status × read.none
+      × Ends done s status × read.none × comings.none
   IsPerformed (job.Report db query) s status = (done : Result (Vec ℕ) Failure) × Shows done s status
-      × Says (IsNotReported held rest) (IsForReader (IsAnswerOfFile held rest (query_of query))) done × read.none
+      × Says (IsNotReported held rest) (IsForReader (IsAnswerOfFile held rest (query_of query))) done × read.none × Quiet s
   IsPerformed (job.Picture db variant supplier) s status = (done : Result (Vec ℕ) Failure) × Shows done s status
-      × PrintsRead (IsNotReported held rest) (IsReadOfFile held rest (plans_for (named supplier) variant.now)) IsPage done × read.none
+      × PrintsRead (IsNotReported held rest) (IsReadOfFile held rest (plans_for (named supplier) variant.now)) IsPage done × read.none × Quiet s
   IsPerformed (job.Deliver db delivery) s status = (done : Result (Vec ℕ) Failure) × Shows done s status
       × Says (IsNotDelivered held rest read delivery.file.now delivery.key.now) (IsDeliveryToFile held rest read delivery s.input.old s.input.new) done
-  IsPerformed (job.Check file) s status = (done : Result (Vec ℕ) Failure) × Shows done s status × IsCheckedFile read file done
-  IsPerformed (job.Explain word) s status = (done : Result (Vec ℕ) Failure) × Shows done s status × IsExplained word done × read.none
+      × comings.none
+  IsPerformed (job.Check file) s status = (done : Result (Vec ℕ) Failure) × Shows done s status × IsCheckedFile read file done × Quiet s
+  IsPerformed (job.Explain word) s status = (done : Result (Vec ℕ) Failure) × Shows done s status × IsExplained word done × read.none × Quiet s

@@ -19,6 +19,7 @@ pub mod Reading
 pub mod Picturing
 pub mod Endings
 pub mod Performing
+pub mod Opened
 pub mod RegisterFiles
 pub mod Incoming
 pub mod Visits

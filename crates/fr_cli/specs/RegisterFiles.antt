@@ -21,17 +21,18 @@ use Rattle.fr_store.specs.StoreFiles.{HoldsBook, image_left}
 use Rattle.fr_cli.specs.Asking.{IsAnswer, asked_with}
 use Rattle.fr_cli.specs.Deliveries.{request_with}
 use Rattle.fr_cli.specs.Keys.{IsKeyGiven}
+use Rattle.fr_cli.specs.Opened.{IsLeftOf}
 use Rattle.fr_cli.specs.Reading.{IsRead, Reading}
 use Rattle.fr_cli.specs.Texts.{IsClusterAt, Readings, max_rows}
 use Rattle.fr_cli.specs.declared.delivery.Delivery.{Delivery}
 use Rattle.fr_cli.specs.declared.fault.Fault.{Fault}
 
 module _ {D : Type 0} {g : Ghosts D} where
-  -- The file was opened and closed. As long as nobody else wrote to it this was asked of the book that it held, and may be answered so;
+  -- The file was opened and closed. As long as nobody else wrote to it, it held a register; this was asked of the book that it held, and may be answered so;
   -- and what is left holds the book after it.
   abbrev pub IsAnswerOfFile : Image → Option (Leftover D g) → (Cluster → Book → Result Ask Refusal) → Answer → Type 0
   IsAnswerOfFile held rest asks answer =
-      (last : Leftover D g) × (rest ≡ Some last) × IsAnswer (IsCleanLeft last) (Held held) (IsLeftWith last) asks answer
+      (last : Leftover D g) × IsLeftOf held rest last × IsAnswer (IsCleanLeft last) (Held held) (IsLeftWith last) asks answer
 
   -- So it is with what whoever has the key asks that is given.
   abbrev pub IsAnswerToGiven : Image → Option (Leftover D g) → List ℕ → Request → Option (List ℕ) → Option (List ℕ) → Answer → Type 0
@@ -45,7 +46,7 @@ module _ {D : Type 0} {g : Ghosts D} where
 
   -- So it is with what is read of the book; and what is left holds the same book.
   abbrev pub IsReadOfFile : {X : Type 0} → Image → Option (Leftover D g) → Reading X → Result X Refusal → Type 0
-  IsReadOfFile held rest may read = (last : Leftover D g) × (rest ≡ Some last) × IsRead (IsCleanLeft last) (Held held) (IsLeftWith last) may read
+  IsReadOfFile held rest may read = (last : Leftover D g) × IsLeftOf held rest last × IsRead (IsCleanLeft last) (Held held) (IsLeftWith last) may read
 
   -- The files that are left hold the book of a new register of this cluster file. The file held no table before.
   abbrev pub IsLeftNew : Image → Option (Leftover D g) → ClusterFile → Type 0

@@ -17,6 +17,7 @@ use Rattle.fr_world.specs.Held.{Standing}
 use Rattle.fr_cli.specs.Endings.{AppendsFront, word_line}
 use Rattle.fr_cli.specs.Faults.{IsNotOpened, link_word}
 use Rattle.fr_cli.specs.Performing.{listening}
+use Rattle.fr_cli.specs.Opened.{IsLeftOf}
 use Rattle.fr_cli.specs.Visits.{Visit, visit_of}
 use Rattle.fr_cli.specs.declared.fault.Fault.{Fault}
 use Rattle.fr_cli.specs.declared.fault.Fault.TheVariants.{CannotListen, NoMemory, Register, WriteFailed}
@@ -41,34 +42,37 @@ abbrev pub TellsEach : Option (List ℕ) → Option (List ℕ) → List Visit �
 TellsEach old new [] = Keeps old new
 TellsEach old new (visit ∷ visits) = (mid : Option (List ℕ)) × TellsEnd old mid visit.done × TellsEach mid new visits
 
--- For this a server that has opened its register ends early, behind such connections. For want of memory, or because its line cannot be printed,
--- it ends only before the first of them.
-abbrev pub StopsServing : List Visit → Fault → Type 0
-StopsServing visits fault = (fault ≡ CannotListen) ⊎ (fault ≡ Register Unavailable)
+-- For this a server that has opened its register ends early, behind such connections. It cannot listen only where this is said of its
+-- listener. For want of memory, or because its line cannot be printed, it ends only before the first of them. That the register is
+-- `Unavailable` may end it at any time.
+abbrev pub StopsServing : Type 0 → List Visit → Fault → Type 0
+StopsServing deaf visits fault = ((fault ≡ CannotListen) × deaf) ⊎ (fault ≡ Register Unavailable)
     ⊎ ((visits ≡ []) × ((fault ≡ NoMemory) ⊎ (fault ≡ WriteFailed)))
 
--- Connections that came in so were served one after another: all that were to be, or fewer, and a fault came. The ends of those that failed were
+-- Connections that came in so were served one after another: all that were to be; or no more than those, and a fault came. The ends of those that failed were
 -- told. None was served before this was said of the server.
-pub record HasServed (clean : Type 0) (old new : Standing) (count : ℕ) (said : Type 0) (CameIn : List Visit → Type 0) (a b : Option (List ℕ)) (done : Result ⊤ Fault) : Type 0 where
+pub record HasServed (clean : Type 0) (old new : Standing) (count : ℕ) (said deaf : Type 0) (CameIn : List Visit → Type 0) (a b : Option (List ℕ)) (done : Result ⊤ Fault) : Type 0 where
   pub visits : List Visit
   pub came_in : CameIn visits
   pub served : ServesAll clean old new visits
   pub told : TellsEach a b visits
   pub all : OnOk done (length visits ≡ count)
   pub few : length visits ≤ count
-  pub fault : IfErr done (StopsServing visits)
+  pub fault : IfErr done (StopsServing deaf visits)
   pub first : (visits ≡ []) ⊎ said
 
--- The line that says where the server listens was printed, or where a fault ended it a front of it.
-abbrev pub IsAnnounced : ℕ → Option (List ℕ) → Option (List ℕ) → Result ⊤ Fault → Type 0
-IsAnnounced port a b done = AppendsFront a b (listening port) × OnOk done (Appends a b (listening port))
+-- The line that says where the server listens was printed, or where a fault ended it a front of it. Nothing was printed unless
+-- this is said of its listener.
+abbrev pub IsAnnounced : Type 0 → ℕ → Option (List ℕ) → Option (List ℕ) → Result ⊤ Fault → Type 0
+IsAnnounced listens port a b done =
+    AppendsFront a b (listening port) × OnOk done (Appends a b (listening port)) × (Keeps a b ⊎ listens)
 
--- The register was not opened, nothing was printed or told, and this stayed as it was; or its file was opened, and connections that came in so were
--- served: as long as nobody else wrote to the file, from the book that it held, and what is left holds the book after them. The line that says where
+-- The register was not opened, nothing was printed or told, and this stayed as it was; or its file was opened, which held a register, and connections that
+-- came in so were served: as long as nobody else wrote to the file, from the book that it held, and what is left holds the book after them. The line that says where
 -- the server listens was printed before.
-abbrev pub IsServed : {D : Type 0} {g : Ghosts D} → Image → Option (Leftover D g) → ℕ → ℕ → Type 0 → (List Visit → Type 0)
+abbrev pub IsServed : {D : Type 0} {g : Ghosts D} → Image → Option (Leftover D g) → ℕ → ℕ → Type 0 → Type 0 → (List Visit → Type 0)
     → Option (List ℕ) → Option (List ℕ) → Option (List ℕ) → Option (List ℕ) → Result ⊤ Fault → Type 0
-IsServed {D} {g} file rest port count stayed CameIn out out' a b done =
+IsServed {D} {g} file rest port count stayed deaf CameIn out out' a b done =
     ((fault : Fault) × (done ≡ Err fault) × IsNotOpened file rest fault × stayed × Keeps out out' × Keeps a b)
-    ⊎ ((last : Leftover D g) × (rest ≡ Some last)
-    × HasServed (IsCleanLeft last) (Held file) (IsLeftWith last) count (Appends out out' (listening port)) CameIn a b done)
+    ⊎ ((last : Leftover D g) × IsLeftOf file rest last
+    × HasServed (IsCleanLeft last) (Held file) (IsLeftWith last) count (Appends out out' (listening port)) deaf CameIn a b done)

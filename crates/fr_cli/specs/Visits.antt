@@ -20,35 +20,51 @@ abbrev pub visit_of : Exchange → Visit
 visit_of x = record { read = x.read; written = x.written; done = x.done }
 
 module _ {L R W : Type 0} (listener : Listener.Ghosts L R W) (reader : Read.Ghosts R) (writer : Write.Ghosts W) where
-  -- A connection came in. Exactly these bytes were read of it, and exactly these were written to it, and then it was closed.
-  pub record IsVisited (old : L) (visit : Visit) (new : L) : Type 0 where
+  -- A connection came in, which is to last so many seconds at most. Exactly these bytes were read of it, and exactly these were written
+  -- to it, and then it was closed, as one that ended so.
+  pub record IsVisited (seconds : ℕ) (old : L) (visit : Visit) (new : L) : Type 0 where
     pub input : R
     pub output : W
     pub between : L
     pub input_left : R
     pub output_made : W
-    pub accepted : listener.accepts old input output between
+    pub accepted : listener.accepts old seconds input output between
     pub consumed : Consumes (reader.remaining input) (reader.remaining input_left) visit.read
     pub appended : Appends (writer.contents output) (writer.contents output_made) visit.written
-    pub closed : listener.closes between input_left output_made new
+    pub closed : listener.closes between input_left output_made visit.done new
 
   -- So connections came in, one after another, and no other.
-  abbrev pub AreVisited : L → List Visit → L → Type 0
-  AreVisited old [] new = new ≡ old
-  AreVisited old (visit ∷ visits) new = (next : L) × IsVisited old visit next × AreVisited next visits new
+  abbrev pub AreVisited : ℕ → L → List Visit → L → Type 0
+  AreVisited seconds old [] new = new ≡ old
+  AreVisited seconds old (visit ∷ visits) new = (next : L) × IsVisited seconds old visit next × AreVisited seconds next visits new
 
   -- It listened at the port, and then so connections came in; or none came in, and it is as it was.
-  abbrev pub AreVisitedAt : L → ℕ → List Visit → L → Type 0
-  AreVisitedAt old port visits new = ((visits ≡ []) × (new ≡ old)) ⊎ ((first : L) × listener.listens old port first × AreVisited first visits new)
+  abbrev pub AreVisitedAt : ℕ → ℕ → L → List Visit → L → Type 0
+  AreVisitedAt port seconds old visits new =
+      ((visits ≡ []) × (new ≡ old)) ⊎ ((first : L) × listener.listens old port first × AreVisited seconds first visits new)
 
--- The connections that came in at a listener while a job was done: none, and it is as it was; or these, at a port.
+-- It may have come to listen at the port.
+abbrev pub MayListen : {L R W : Type 0} → Listener.Ghosts L R W → ℕ → L → Type 0
+MayListen {L} listener port old = (first : L) × listener.listens old port first
+
+-- It refused to listen at the port, and is as it was; or no further connection came in.
+abbrev pub IsDeaf : {L R W : Type 0} → Listener.Ghosts L R W → ℕ → L → L → Type 0
+IsDeaf listener port old new = (listener.refuses old port × (new ≡ old)) ⊎ listener.ends new
+
+-- The connections that came in at a listener while a job was done: none, and it is as it was; or these, at a port, for so many
+-- seconds at most. Whether it may have come to listen at a port. Whether it may be that it refused the port, or that
+-- no further one comes in.
 pub record Comings : Type 1 where
   pub none : Type 0
-  pub at : ℕ → List Visit → Type 0
+  pub at : ℕ → ℕ → List Visit → Type 0
+  pub heard : ℕ → Type 0
+  pub deaf : ℕ → Type 0
 
 -- those that came in while one listener became another
 abbrev pub comings : {L R W : Type 0} → Listener.Ghosts L R W → Read.Ghosts R → Write.Ghosts W → L → L → Comings
 comings listener reader writer old new = record {
   none = new ≡ old;
-  at = λ port visits. AreVisitedAt listener reader writer old port visits new;
+  at = λ port seconds visits. AreVisitedAt listener reader writer port seconds old visits new;
+  heard = λ port. MayListen listener port old;
+  deaf = λ port. IsDeaf listener port old new;
 }

@@ -159,15 +159,29 @@ AskFor words job = IsJobFound (Some job) (subcommand_of slotplan words)
 abbrev pub AskForNone : List Text → Type 0
 AskForNone words = IsJobFound None (subcommand_of slotplan words)
 
+-- The subcommand of this name has no object with these words. `check` names no file, or several. Or `export` names rows that are neither
+-- frames nor placements nor signals.
+abbrev pub HasNoObject : Text → List Row → Type 0
+HasNoObject name rows = ((name ≡ codes "check") × IsFileIn None rows) ⊎ ((name ≡ codes "export") × IsHeaderIn None rows)
+
+-- A subcommand was found, and has no object.
+abbrev pub IsFoundWithoutObject : Option (Text × List Row) → Type 0
+IsFoundWithoutObject (Some found) = HasNoObject found.0 found.1
+IsFoundWithoutObject None = ⊥
+
+-- The words name a subcommand, but not its object.
+abbrev pub LackAnObject : List Text → Type 0
+LackAnObject words = IsFoundWithoutObject (subcommand_of slotplan words)
+
 -- `clap` finds no fault in the words.
 abbrev pub AreTaken : List Text → Type 0
 AreTaken words = fault_of slotplan words ≡ []
 
 -- An error of this kind may refuse the words. Memory ran out; or `clap` finds a fault of this kind in them; or it finds none, and they ask for
--- no job.
+-- no job, since they lack an object.
 abbrev pub MayRefuse : List Text → ErrorKind → Type 0
 MayRefuse words kind = (kind ≡ OutOfMemory) ⊎ (IsAmong kind (fault_of slotplan words)
-    ⊎ ((kind ≡ ValueValidation) × AreTaken words × AskForNone words))
+    ⊎ ((kind ≡ ValueValidation) × AreTaken words × AskForNone words × LackAnObject words))
 
 -- An error of this kind is told as this fault. Help is for help and for the version. The usage is for all other kinds but want of memory.
 -- `NoMemory` may be for any, since the text takes memory.

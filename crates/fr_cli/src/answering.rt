@@ -25,8 +25,9 @@ pub fn write_answers<D: Desk, W: Write>(
     output: &mut Output<'_, W>,
 ) -> Result<(), ScriptFault>
     ensures falls { D.clean desk.new → D.clean desk.old }
-    ensures written { HasWritten (D.clean desk.new) (D.stands desk.old) (D.stands desk.new) (request_lines requests.now)
-        (W.contents output.old.writer.now) (W.contents output.new.writer.now) result }
+    ensures written { HasWritten (D.clean desk.new) (D.stands desk.old) (D.stands desk.new)
+        (request_lines requests.now) (W.contents output.old.writer.now)
+        (W.contents output.new.writer.now) result }
     ensures same { output.new.writer.ghost_name ≡ output.old.writer.ghost_name }
 {
     for line in RequestLines::new(requests) {
@@ -47,7 +48,9 @@ fn text_line(alloc: Global, answer: Answer) -> Result<Vec<u8>, NoMemory>
 // The answer to a request's line, which may change the register.
 fn answer_line<D: Desk>(alloc: Global, desk: &mut D, line: &[u8]) -> Result<Answer, ScriptFault>
     ensures falls { D.clean desk.new → D.clean desk.old }
-    ensures answers { D.clean desk.new → IfOk result (λ answer. AnswersLine (D.stands desk.old) (D.stands desk.new) line.now answer) }
+    ensures answers { D.clean desk.new
+        → IfOk result (λ answer.
+        AnswersLine (D.stands desk.old) (D.stands desk.new) line.now answer) }
     ensures fault { IfErr result (λ fault. (fault ≡ ScriptFault.NoMemory) × (desk.new ≡ desk.old)) }
 {
     match read_ask(alloc, desk, line) {
@@ -71,7 +74,8 @@ fn read_ask<D: Desk>(alloc: Global, desk: &D, line: &[u8]) -> Result<Ask, Refusa
 
 /// Who asks with this key. A key that is not UTF-8 is nobody's.
 pub fn actor_of<D: Desk>(desk: &D, key: &[u8]) -> Option<Actor>
-    ensures { (c : Cluster) (b : Book) → D.stands desk.now c b → IsSound c b → result ≡ actor_of c b key.now }
+    ensures { (c : Cluster) (b : Book) → D.stands desk.now c b → IsSound c b
+        → result ≡ actor_of c b key.now }
 {
     desk.actor_of(str::from_utf8(key).ok()?)
 }

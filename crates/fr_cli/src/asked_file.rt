@@ -26,7 +26,8 @@ pub fn ask_file<S: Start, R: Read, O: Write>(
     input: &mut R,
     out: &mut O,
 ) -> (Result<(), Fault>, Left<S>)
-    ensures { IsAsked (image_at S.Start) result.1 (R.remaining input.old) (R.remaining input.new) (O.contents out.old) (O.contents out.new) result.0 }
+    ensures { IsAsked (image_at S.Start) result.1 (R.remaining input.old) (R.remaining input.new)
+        (O.contents out.old) (O.contents out.new) result.0 }
 {
     match file_desk::open(rt, db, start) {
         Ok(desk) => {
@@ -46,8 +47,10 @@ fn ask_office<R: Records, I: Read, O: Write>(
     out: &mut O,
 ) -> (Result<(), ScriptFault>, Office<R>)
     ensures falls { ⟦<Office<R> as Desk>⟧.clean result.1 → ⟦<Office<R> as Desk>⟧.clean office }
-    ensures answered { HasAnswered (⟦<Office<R> as Desk>⟧.clean result.1) (⟦<Office<R> as Desk>⟧.stands office) (⟦<Office<R> as Desk>⟧.stands result.1)
-        (I.remaining input.old) (I.remaining input.new) (O.contents out.old) (O.contents out.new) result.0 }
+    ensures answered { HasAnswered (⟦<Office<R> as Desk>⟧.clean result.1)
+        (⟦<Office<R> as Desk>⟧.stands office) (⟦<Office<R> as Desk>⟧.stands result.1)
+        (I.remaining input.old) (I.remaining input.new) (O.contents out.old) (O.contents out.new)
+        result.0 }
     ensures end { OnOk result.0 (IsAtEnd (I.remaining input.new)) }
 {
     let watch = match Watch::new(rt, db) {

@@ -22,7 +22,9 @@ pub fn report_on<D: Desk>(
     query: Inquiry<'_>,
 ) -> Result<Vec<u8>, Failure>
     ensures falls { D.clean desk.new → D.clean desk.old }
-    ensures prints { Prints (IsForReader (IsAnswer (D.clean desk.new) (D.stands desk.old) (D.stands desk.new) (query_of query.entry))) result }
+    ensures prints { Prints (IsForReader
+        (IsAnswer (D.clean desk.new) (D.stands desk.old) (D.stands desk.new)
+        (query_of query.entry))) result }
     ensures stays { Stays (D.clean desk.new) (D.stands desk.old) (D.stands desk.new) }
 {
     let request = query.request(alloc)?;
@@ -38,8 +40,10 @@ pub fn change<D: Desk>(
     request: Request,
 ) -> Result<Vec<u8>, Failure>
     ensures falls { D.clean desk.new → D.clean desk.old }
-    ensures prints { Prints (IsAnswer (D.clean desk.new) (D.stands desk.old) (D.stands desk.new) (asked_with key.now request)) result }
-    ensures leads { Leads (D.clean desk.new) (D.stands desk.old) (D.stands desk.new) (asked_with key.now request) }
+    ensures prints { Prints (IsAnswer (D.clean desk.new) (D.stands desk.old) (D.stands desk.new)
+        (asked_with key.now request)) result }
+    ensures leads { Leads (D.clean desk.new) (D.stands desk.old) (D.stands desk.new)
+        (asked_with key.now request) }
 {
     let answer = ask_by(alloc, desk, key, request);
     told(alloc, &answer)
@@ -48,7 +52,8 @@ pub fn change<D: Desk>(
 // Asks as who has the key.
 fn ask_by<D: Desk>(alloc: Global, desk: &mut D, key: &[u8], request: Request) -> Answer
     ensures falls { D.clean desk.new → D.clean desk.old }
-    ensures answers { IsAnswer (D.clean desk.new) (D.stands desk.old) (D.stands desk.new) (asked_with key.now request) result }
+    ensures answers { IsAnswer (D.clean desk.new) (D.stands desk.old) (D.stands desk.new)
+        (asked_with key.now request) result }
 {
     let actor = actor_of(desk, key);
     ask_as(alloc, desk, actor, request)
@@ -57,7 +62,8 @@ fn ask_by<D: Desk>(alloc: Global, desk: &mut D, key: &[u8], request: Request) ->
 // Asks as this actor. Nobody is refused.
 fn ask_as<D: Desk>(alloc: Global, desk: &mut D, actor: Option<Actor>, request: Request) -> Answer
     ensures falls { D.clean desk.new → D.clean desk.old }
-    ensures answers { IsAnswer (D.clean desk.new) (D.stands desk.old) (D.stands desk.new) (λ c b. asked_by actor request) result }
+    ensures answers { IsAnswer (D.clean desk.new) (D.stands desk.old) (D.stands desk.new)
+        (λ c b. asked_by actor request) result }
 {
     match actor {
         Some(actor) => desk.ask(alloc, &Ask { actor, request }),

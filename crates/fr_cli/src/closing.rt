@@ -15,9 +15,11 @@ use std::io::Write;
 /// The status that the process ends with, after a job whose status this is, and that left this of its register file. Where
 /// the job was done, and the file failed to close, it is 1, and that is told; what the job printed stands.
 pub fn end_closed<S: Start, E: Write>(status: u8, left: &Left<S>, err: &mut E) -> u8
-    ensures failed { status ≡ 0 → FailedToClose left.now → (result ≡ 1)
-        × AppendsFront (E.contents err.old) (E.contents err.new) (word_line (store_word StoreFault.Unavailable)) }
-    ensures closed { (status ≢ 0) ⊎ (¬ FailedToClose left.now) → (result ≡ status) × Keeps (E.contents err.old) (E.contents err.new) }
+    ensures failed { status ≡ 0 → FailedToClose left.now
+        → (result ≡ 1) × AppendsFront (E.contents err.old) (E.contents err.new)
+        (word_line (store_word StoreFault.Unavailable)) }
+    ensures closed { (status ≢ 0) ⊎ (¬ FailedToClose left.now)
+        → (result ≡ status) × Keeps (E.contents err.old) (E.contents err.new) }
 {
     match left {
         Some(Leftover::Store(_)) if status == 0 => {

@@ -49,7 +49,8 @@ pub fn program<'a>(alloc: Global) -> Result<Command<'a>, AllocError>
 
 // The words begin with a subcommand; without a word the help is shown.
 fn settings<'a>(command: Command<'a>) -> Command<'a>
-    ensures { (name : Text) → IsReadAs (new_app name) command.entry → IsReadAs (app.unasked name) result }
+    ensures { (name : Text) → IsReadAs (new_app name) command.entry
+        → IsReadAs (app.unasked name) result }
 {
     command
         .about(PROGRAM_ABOUT)

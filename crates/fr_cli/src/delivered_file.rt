@@ -48,8 +48,9 @@ pub fn deliver_file<S: Start, F: TextFiles, R: Read>(
     input: &mut R,
 ) -> (Result<Vec<u8>, Failure>, Left<S>)
     ensures { let read = readings F.TextFiles F.Reader.Read files.old files.new in
-        Says (IsNotDelivered (image_at S.Start) result.1 read delivery.entry.file.now delivery.entry.key.now)
-        (IsDeliveryToFile (image_at S.Start) result.1 read delivery.entry (R.remaining input.old) (R.remaining input.new)) result.0 }
+        Says (IsNotDelivered (image_at S.Start) result.1 read delivery.entry.file.now
+        delivery.entry.key.now) (IsDeliveryToFile (image_at S.Start) result.1 read delivery.entry
+        (R.remaining input.old) (R.remaining input.new)) result.0 }
 {
     match read_front(rt.alloc(), files, delivery.file, FILE_BYTES) {
         Ok(body) => deliver(rt, db, start, delivery, &body, input),
@@ -67,8 +68,9 @@ fn deliver<S: Start, R: Read>(
     input: &mut R,
 ) -> (Result<Vec<u8>, Failure>, Left<S>)
     ensures { Says (IsNotGiven (image_at S.Start) result.1 delivery.entry.key.now)
-        (IsAnswerToGiven (image_at S.Start) result.1 delivery.entry.key.now (request_with delivery.entry body.now)
-        (R.remaining input.old) (R.remaining input.new)) result.0 }
+        (IsAnswerToGiven (image_at S.Start) result.1 delivery.entry.key.now
+        (request_with delivery.entry body.now) (R.remaining input.old) (R.remaining input.new))
+        result.0 }
 {
     match delivery.request(rt.alloc(), body) {
         Ok(request) => change_given(rt, db, start, delivery.key, request, input),
@@ -86,7 +88,8 @@ fn change_given<S: Start, R: Read>(
     input: &mut R,
 ) -> (Result<Vec<u8>, Failure>, Left<S>)
     ensures { Says (IsNotGiven (image_at S.Start) result.1 key.now)
-        (IsAnswerToGiven (image_at S.Start) result.1 key.now request (R.remaining input.old) (R.remaining input.new)) result.0 }
+        (IsAnswerToGiven (image_at S.Start) result.1 key.now request (R.remaining input.old)
+        (R.remaining input.new)) result.0 }
 {
     if key != KEY_ON_INPUT {
         return change_file(rt, db, start, key.as_bytes(), request);
@@ -118,7 +121,8 @@ fn change_file<S: Start>(
     key: &[u8],
     request: Request,
 ) -> (Result<Vec<u8>, Failure>, Left<S>)
-    ensures { Says (IsNotReported (image_at S.Start) result.1) (IsAnswerOfFile (image_at S.Start) result.1 (asked_with key.now request)) result.0 }
+    ensures { Says (IsNotReported (image_at S.Start) result.1)
+        (IsAnswerOfFile (image_at S.Start) result.1 (asked_with key.now request)) result.0 }
 {
     match file_desk::open(rt, db, start) {
         Ok(mut desk) => {

@@ -54,7 +54,8 @@ fn open<F: TextFiles>(files: &mut F, path: &str) -> Result<F::Reader, Fault>
 
 // Reads a reader to its end, within bounds.
 fn read_whole<R: Read>(alloc: Global, reader: &mut R, bytes: usize) -> Result<Vec<u8>, Fault>
-    ensures whole { IfOk result (λ text. IfSome (R.remaining reader.old) (λ all. text.items ≡ all)) }
+    ensures whole { IfOk result (λ text.
+        IfSome (R.remaining reader.old) (λ all. text.items ≡ all)) }
     ensures end { OnOk result (IsAtEnd (R.remaining reader.new)) }
     ensures bound { IfOk result (λ text. vec_len text ≤ bytes) }
     ensures fault { IfErr result (λ fault. (fault ≡ Fault.CannotOpen) ⊎ (fault ≡ Fault.NoMemory)) }

@@ -45,8 +45,11 @@ impl<'a, R: Records> Guarded<'a, R> {
 
     // Whether the register tells its variants. One that a fault has shut tells nothing any more.
     fn tells(&mut self, alloc: Global) -> bool
-        ensures falls { ⟦<Guarded<'a, R> as Desk>⟧.clean self.new → ⟦<Guarded<'a, R> as Desk>⟧.clean self.old }
-        ensures stays { ⟦<Guarded<'a, R> as Desk>⟧.clean self.new → (c : Cluster) (b : Book) → ⟦<Guarded<'a, R> as Desk>⟧.stands self.old c b → ⟦<Guarded<'a, R> as Desk>⟧.stands self.new c b }
+        ensures falls { ⟦<Guarded<'a, R> as Desk>⟧.clean self.new
+            → ⟦<Guarded<'a, R> as Desk>⟧.clean self.old }
+        ensures stays { ⟦<Guarded<'a, R> as Desk>⟧.clean self.new → (c : Cluster) (b : Book)
+            → ⟦<Guarded<'a, R> as Desk>⟧.stands self.old c b
+            → ⟦<Guarded<'a, R> as Desk>⟧.stands self.new c b }
     {
         self.office.variants(alloc, &Actor::Integrator).is_ok()
     }

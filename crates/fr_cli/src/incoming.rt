@@ -7,11 +7,11 @@ ghost use Rattle.fr_cli.specs.ScriptFault.{script_fault_of};
 ghost use Rattle.fr_cli.specs.declared.input.InputFault.{InputFault};
 
 use crate::answering::write_answers;
-use crate::input::{PIECE_BYTES, SCRIPT_BYTES, SCRIPT_READS, append, try_again};
+use crate::input::{InputFault, PIECE_BYTES, SCRIPT_BYTES, SCRIPT_READS, append};
 use crate::lasting::Lasting;
 use crate::lines::{RequestLines, split_once};
 use crate::script_fault::ScriptFault;
-use fr_text::Output;
+use fr_text::{Output, try_again};
 use std::alloc::Global;
 use std::io::{Read, Write};
 
@@ -32,7 +32,9 @@ pub fn answer_input<D: Lasting, R: Read, W: Write>(
     writer: &mut W,
 ) -> Result<(), ScriptFault>
     ensures falls { D.clean desk.new → D.clean desk.old }
-    ensures answered { HasAnswered (D.clean desk.new) (D.stands desk.old) (D.stands desk.new) (R.remaining reader.old) (R.remaining reader.new) (W.contents writer.old) (W.contents writer.new) result }
+    ensures answered { HasAnswered (D.clean desk.new) (D.stands desk.old) (D.stands desk.new)
+        (R.remaining reader.old) (R.remaining reader.new) (W.contents writer.old)
+        (W.contents writer.new) result }
     ensures end { OnOk result (IsAtEnd (R.remaining reader.new)) }
 {
     let mut output = Output::new(writer);
@@ -47,8 +49,9 @@ fn answer_pieces<D: Lasting, R: Read, W: Write>(
     output: &mut Output<'_, W>,
 ) -> Result<(), ScriptFault>
     ensures falls { D.clean desk.new → D.clean desk.old }
-    ensures answered { HasAnswered (D.clean desk.new) (D.stands desk.old) (D.stands desk.new) (R.remaining reader.old) (R.remaining reader.new)
-        (W.contents output.old.writer.now) (W.contents output.new.writer.now) result }
+    ensures answered { HasAnswered (D.clean desk.new) (D.stands desk.old) (D.stands desk.new)
+        (R.remaining reader.old) (R.remaining reader.new) (W.contents output.old.writer.now)
+        (W.contents output.new.writer.now) result }
     ensures end { OnOk result (IsAtEnd (R.remaining reader.new)) }
     ensures same { output.new.writer.ghost_name ≡ output.old.writer.ghost_name }
 {
@@ -62,7 +65,7 @@ fn answer_pieces<D: Lasting, R: Read, W: Write>(
                 room = room.checked_sub(n).ok_or(ScriptFault::TooLong)?;
                 answer_piece(alloc, desk, &mut begun, &piece[..n], output)?;
             }
-            Err(error) => try_again(&error)?,
+            Err(error) => try_again(&error, InputFault::ReadFailed)?,
         }
     }
     Err(ScriptFault::TooManyReads)
@@ -81,8 +84,9 @@ fn answer_piece<D: Lasting, W: Write>(
     requires short { vec_len begun.old ≤ LINE_BYTES }
     ensures short { OnOk result (vec_len begun.new ≤ LINE_BYTES) }
     ensures falls { D.clean desk.new → D.clean desk.old }
-    ensures heard { HasHeard (D.clean desk.new) (D.stands desk.old) (D.stands desk.new) (begun.old.items ++ piece.now) begun.new.items
-        (W.contents output.old.writer.now) (W.contents output.new.writer.now) result }
+    ensures heard { HasHeard (D.clean desk.new) (D.stands desk.old) (D.stands desk.new)
+        (begun.old.items ++ piece.now) begun.new.items (W.contents output.old.writer.now)
+        (W.contents output.new.writer.now) result }
     ensures faults { IfErr result (λ fault. (fault ≡ ScriptFault.TooLong) ⊎ EndsAsking fault) }
     ensures same { output.new.writer.ghost_name ≡ output.old.writer.ghost_name }
 {
@@ -105,8 +109,9 @@ fn answer_requests<D: Lasting, W: Write>(
     output: &mut Output<'_, W>,
 ) -> Result<(), ScriptFault>
     ensures falls { D.clean desk.new → D.clean desk.old }
-    ensures asked { HasAsked (D.clean desk.new) (D.stands desk.old) (D.stands desk.new) (request_lines requests.now)
-        (W.contents output.old.writer.now) (W.contents output.new.writer.now) result }
+    ensures asked { HasAsked (D.clean desk.new) (D.stands desk.old) (D.stands desk.new)
+        (request_lines requests.now) (W.contents output.old.writer.now)
+        (W.contents output.new.writer.now) result }
     ensures same { output.new.writer.ghost_name ≡ output.old.writer.ghost_name }
 {
     write_answers(alloc, desk, requests, output)?;

@@ -1,7 +1,6 @@
 //! A whole input, read within bounds.
-ghost use Rattle.std.specs.Prelude.{◌≡◌, ◌↔◌, ◌⊎◌, ℕ, List, ◌+◌, ◌<◌, ◌≤◌, ◌++◌, length, vec_len, IfSome, IfOk, IfErr, OnOk, IsErrOf, IsOk};
+ghost use Rattle.std.specs.Prelude.{◌≡◌, ◌↔◌, ◌⊎◌, ℕ, List, ◌+◌, ◌<◌, ◌≤◌, ◌++◌, length, vec_len, IfSome, IfOk, IfErr, OnOk, IsErrOf};
 ghost use Rattle.std.specs.Io.KnownBytes.{Consumes, IsAtEnd};
-ghost use Rattle.std.specs.IoError.{error_kind};
 ghost use Rattle.fr_cli.specs.Keys.{TakesLine};
 ghost use Rattle.fr_cli.specs.ScriptFault.{script_fault_of};
 ghost use Rattle.fr_cli.specs.declared.input.InputFault.{InputFault};
@@ -9,8 +8,9 @@ ghost use Rattle.fr_cli.specs.declared.input.InputFault.{InputFault};
 use crate::lines::split_once;
 use crate::script_fault::ScriptFault;
 use fr_base::NoMemory;
+use fr_text::try_again;
 use std::alloc::Global;
-use std::io::{Error, ErrorKind, Read};
+use std::io::Read;
 
 /// The most bytes that a script may have.
 pub const SCRIPT_BYTES: usize = 16_777_216;
@@ -71,11 +71,14 @@ impl From<InputFault> for ScriptFault {
 /// Reads a whole script: at most [`SCRIPT_BYTES`] bytes, in at most [`SCRIPT_READS`] reads. The
 /// faults are those of [`read_within`].
 pub fn read_all<R: Read>(alloc: Global, reader: &mut R) -> Result<Vec<u8>, ScriptFault>
-    ensures whole { IfOk result (λ script. IfSome (R.remaining reader.old) (λ all. script.items ≡ all)) }
+    ensures whole { IfOk result (λ script.
+        IfSome (R.remaining reader.old) (λ all. script.items ≡ all)) }
     ensures bound { IfOk result (λ script. vec_len script ≤ SCRIPT_BYTES) }
     ensures end { OnOk result (IsAtEnd (R.remaining reader.new)) }
-    ensures too_long { IsErrOf result ScriptFault.TooLong → IfSome (R.remaining reader.old) (λ all. SCRIPT_BYTES < length all) }
-    ensures taken { (front : List ℕ) × Consumes (R.remaining reader.old) (R.remaining reader.new) front }
+    ensures too_long { IsErrOf result ScriptFault.TooLong
+        → IfSome (R.remaining reader.old) (λ all. SCRIPT_BYTES < length all) }
+    ensures taken { (front : List ℕ)
+        × Consumes (R.remaining reader.old) (R.remaining reader.new) front }
     ensures fault { IfErr result (λ fault. (input : InputFault) × (fault ≡ script_fault_of input)) }
 {
     let bounds = ReadBounds {
@@ -93,11 +96,14 @@ pub fn read_within<R: Read>(
     reader: &mut R,
     bounds: ReadBounds,
 ) -> Result<Vec<u8>, InputFault>
-    ensures whole { IfOk result (λ input. IfSome (R.remaining reader.old) (λ all. input.items ≡ all)) }
+    ensures whole { IfOk result (λ input.
+        IfSome (R.remaining reader.old) (λ all. input.items ≡ all)) }
     ensures bound { IfOk result (λ input. vec_len input ≤ bounds.bytes) }
     ensures end { OnOk result (IsAtEnd (R.remaining reader.new)) }
-    ensures too_long { IsErrOf result InputFault.TooLong → IfSome (R.remaining reader.old) (λ all. bounds.bytes < length all) }
-    ensures taken { (front : List ℕ) × Consumes (R.remaining reader.old) (R.remaining reader.new) front }
+    ensures too_long { IsErrOf result InputFault.TooLong
+        → IfSome (R.remaining reader.old) (λ all. bounds.bytes < length all) }
+    ensures taken { (front : List ℕ)
+        × Consumes (R.remaining reader.old) (R.remaining reader.new) front }
 {
     let mut input = Vec::new(alloc);
     let mut piece = [0u8; PIECE_BYTES];
@@ -105,7 +111,7 @@ pub fn read_within<R: Read>(
         match reader.read(&mut piece) {
             Ok(0) => return Ok(input),
             Ok(n) => append(&mut input, &piece[..n], bounds.bytes)?,
-            Err(error) => try_again(&error)?,
+            Err(error) => try_again(&error, InputFault::ReadFailed)?,
         }
     }
     Err(InputFault::TooManyReads)
@@ -118,9 +124,11 @@ pub fn read_line<R: Read>(
     reader: &mut R,
     bounds: ReadBounds,
 ) -> Result<Vec<u8>, InputFault>
-    ensures line { IfOk result (λ front. TakesLine (R.remaining reader.old) (R.remaining reader.new) front.items) }
+    ensures line { IfOk result (λ front.
+        TakesLine (R.remaining reader.old) (R.remaining reader.new) front.items) }
     ensures bound { IfOk result (λ front. vec_len front ≤ bounds.bytes) }
-    ensures taken { (front : List ℕ) × Consumes (R.remaining reader.old) (R.remaining reader.new) front }
+    ensures taken { (front : List ℕ)
+        × Consumes (R.remaining reader.old) (R.remaining reader.new) front }
 {
     let mut front = Vec::new(alloc);
     let mut piece = [0u8; PIECE_BYTES];
@@ -133,21 +141,10 @@ pub fn read_line<R: Read>(
                     return Ok(front);
                 }
             }
-            Err(error) => try_again(&error)?,
+            Err(error) => try_again(&error, InputFault::ReadFailed)?,
         }
     }
     Err(InputFault::TooManyReads)
-}
-
-/// Whether a read that failed so is tried again: it is, where it was interrupted.
-pub fn try_again(error: &Error) -> Result<(), InputFault>
-    ensures ok { IsOk result ↔ (error_kind error.now ≡ ErrorKind.Interrupted) }
-    ensures fault { IfErr result (λ fault. fault ≡ InputFault.ReadFailed) }
-{
-    match error.kind() {
-        ErrorKind::Interrupted => Ok(()),
-        _ => Err(InputFault::ReadFailed),
-    }
 }
 
 /// Adds a piece to the input's end, unless the input were then longer than the bound.
@@ -155,8 +152,10 @@ pub fn append(input: &mut Vec<u8>, piece: &[u8], bound: usize) -> Result<(), Inp
     requires { vec_len input.old ≤ bound }
     ensures ok { OnOk result (input.new.items ≡ input.old.items ++ piece.now) }
     ensures within { vec_len input.new ≤ bound }
-    ensures too_long { IsErrOf result InputFault.TooLong ↔ (bound < vec_len input.old + length piece.now) }
-    ensures fault { IfErr result (λ fault. (fault ≡ InputFault.TooLong) ⊎ (fault ≡ InputFault.NoMemory)) }
+    ensures too_long { IsErrOf result InputFault.TooLong ↔
+        (bound < vec_len input.old + length piece.now) }
+    ensures fault { IfErr result
+        (λ fault. (fault ≡ InputFault.TooLong) ⊎ (fault ≡ InputFault.NoMemory)) }
 {
     if bound - input.len() < piece.len() {
         return Err(InputFault::TooLong);

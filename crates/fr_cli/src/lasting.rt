@@ -11,5 +11,6 @@ pub trait Lasting: Desk {
     /// Whether the register can still be asked. Its rows stay. When it comes to an end, no clause says.
     fn lasts(&mut self, alloc: Global) -> bool
         ensures falls { Self.clean self.new → Self.clean self.old }
-        ensures stays { Self.clean self.new → (c : Cluster) (b : Book) → Self.stands self.old c b → Self.stands self.new c b };
+        ensures stays { Self.clean self.new → (c : Cluster) (b : Book) → Self.stands self.old c b
+            → Self.stands self.new c b };
 }

@@ -5,7 +5,9 @@ use std::io::{self, Read, Write};
 /// Connections come in at it, one after another. Each has two ends: one gives what comes in, the other takes what goes out.
 /// What a server is proved to do, it is proved to do at each listener, whatever may come in at it.
 pub trait Listener {
-    ghost use Rattle.std.specs.Prelude.{◌≡◌, ℕ, IfOk, OnOk, OnErr};
+    ghost use Rattle.std.specs.Prelude.{◌≡◌, ℕ, Result, IfOk, OnOk, OnErr};
+    ghost use Rattle.fr_http.specs.declared.fault.LinkFault.{LinkFault as Fault};
+    ghost use Rattle.fr_http.specs.declared.serve.Served.{Served as Reply};
 
     /// Gives the bytes that come in.
     type Reader: Read + Drop;
@@ -16,21 +18,27 @@ pub trait Listener {
     /// So it may come to listen at a port.
     ghost listens: { Self → ℕ → Self → Type 0 };
 
-    /// So a connection with these ends may come in.
-    ghost accepts: { Self → Self.Reader → Self.Writer → Self → Type 0 };
+    /// So it may refuse to listen at a port.
+    ghost refuses: { Self → ℕ → Type 0 };
 
-    /// So the connection may end whose ends these are now.
-    ghost closes: { Self → Self.Reader → Self.Writer → Self → Type 0 };
+    /// So a connection with these ends may come in, which is to last so many seconds at most.
+    ghost accepts: { Self → ℕ → Self.Reader → Self.Writer → Self → Type 0 };
+
+    /// So no further connection may come in.
+    ghost ends: { Self → Type 0 };
+
+    /// So the connection may end whose ends these are now, and that was served so.
+    ghost closes: { Self → Self.Reader → Self.Writer → Result Reply Fault → Self → Type 0 };
 
     /// Listens at the port.
     fn listen(&mut self, port: u16) -> io::Result<()>
         ensures ok { OnOk result (listens self.old port self.new) }
-        ensures err { OnErr result (self.new ≡ self.old) };
+        ensures err { OnErr result (refuses self.old port × (self.new ≡ self.old)) };
 
     /// The next connection, which is to last so many seconds at most. No clause speaks of time.
     fn accept(&mut self, seconds: u32) -> io::Result<(Self::Reader, Self::Writer)>
-        ensures ok { IfOk result (λ ends. accepts self.old ends.0 ends.1 self.new) }
-        ensures err { OnErr result (self.new ≡ self.old) };
+        ensures ok { IfOk result (λ made. accepts self.old seconds made.0 made.1 self.new) }
+        ensures err { OnErr result (ends self.old × (self.new ≡ self.old)) };
 
     /// Ends the connection that was served so. What its client sent behind its request may be read before.
     fn close(
@@ -39,5 +47,5 @@ pub trait Listener {
         writer: Self::Writer,
         done: &Result<Served, LinkFault>,
     )
-        ensures { closes self.old reader writer self.new };
+        ensures { closes self.old reader writer done.now self.new };
 }

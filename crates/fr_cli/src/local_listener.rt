@@ -59,9 +59,13 @@ impl<'a> Listener for LocalListener<'a> {
 
     ghost listens = { λ _ _ _. ⊤ };
 
-    ghost accepts = { λ _ _ _ _. ⊤ };
+    ghost refuses = { λ _ _. ⊤ };
 
-    ghost closes = { λ _ _ _ _. ⊤ };
+    ghost accepts = { λ _ _ _ _ _. ⊤ };
+
+    ghost ends = { λ _. ⊤ };
+
+    ghost closes = { λ _ _ _ _ _. ⊤ };
 
     fn listen(&mut self, port: u16) -> io::Result<()> {
         let listener = TcpListener::bind(self.rt, (Ipv4Addr::LOCALHOST, port))?;

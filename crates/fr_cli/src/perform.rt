@@ -124,10 +124,13 @@ pub fn perform<S: Start, F: TextFiles, R: Read, O: Write, E: Write, L: Listener>
 /// cannot be printed, or there was no memory; 2 where the program was called otherwise.
 pub fn explain<O: Write, E: Write>(fault: &WordFault, out: &mut O, err: &mut E) -> u8
     ensures help { (text : _) → fault.now ≡ WordFault.Help text
-        → IsPrinted text.bytes.items (O.contents out.old) (O.contents out.new) (E.contents err.old) (E.contents err.new) result }
-    ensures usage { (text : _) → fault.now ≡ WordFault.Usage text → (result ≡ 2) × Keeps (O.contents out.old) (O.contents out.new)
+        → IsPrinted text.bytes.items (O.contents out.old) (O.contents out.new) (E.contents err.old)
+        (E.contents err.new) result }
+    ensures usage { (text : _) → fault.now ≡ WordFault.Usage text
+        → (result ≡ 2) × Keeps (O.contents out.old) (O.contents out.new)
         × AppendsFront (E.contents err.old) (E.contents err.new) text.bytes.items }
-    ensures memory { fault.now ≡ WordFault.NoMemory → (result ≡ 1) × Keeps (O.contents out.old) (O.contents out.new)
+    ensures memory { fault.now ≡ WordFault.NoMemory
+        → (result ≡ 1) × Keeps (O.contents out.old) (O.contents out.new)
         × Tells (E.contents err.old) (E.contents err.new) (Err Fault.NoMemory) }
 {
     let mut err = Output::new(err);
@@ -150,7 +153,8 @@ fn end_script<R: Read, O: Write, E: Write>(
 ) -> u8
     ensures run { (done : Result ⊤ Early) × (result ≡ status_of (of_script done))
         × Tells (E.contents err.old.writer.now) (E.contents err.new.writer.now) (of_script done)
-        × IsRunOf (R.remaining input.old) (R.remaining input.new) (O.contents out.old) (O.contents out.new) done }
+        × IsRunOf (R.remaining input.old) (R.remaining input.new) (O.contents out.old)
+        (O.contents out.new) done }
     ensures same { err.new.writer.ghost_name ≡ err.old.writer.ghost_name }
 {
     end(of_script(run_script(alloc, input, out)), err)
@@ -174,7 +178,8 @@ fn report_file<S: Start>(
     start: S,
     query: Inquiry<'_>,
 ) -> (Result<Vec<u8>, Failure>, Left<S>)
-    ensures { Says (IsNotReported (image_at S.Start) result.1) (IsForReader (IsAnswerOfFile (image_at S.Start) result.1 (query_of query.entry))) result.0 }
+    ensures { Says (IsNotReported (image_at S.Start) result.1)
+        (IsForReader (IsAnswerOfFile (image_at S.Start) result.1 (query_of query.entry))) result.0 }
 {
     match file_desk::open(rt, db, start) {
         Ok(mut desk) => {
@@ -193,7 +198,9 @@ fn picture_file<S: Start>(
     variant: &str,
     supplier: Option<&str>,
 ) -> (Result<Vec<u8>, Failure>, Left<S>)
-    ensures { PrintsRead (IsNotReported (image_at S.Start) result.1) (IsReadOfFile (image_at S.Start) result.1 (plans_for (named supplier.entry) variant.now)) IsPage result.0 }
+    ensures { PrintsRead (IsNotReported (image_at S.Start) result.1)
+        (IsReadOfFile (image_at S.Start) result.1 (plans_for (named supplier.entry) variant.now))
+        IsPage result.0 }
 {
     match file_desk::open(rt, db, start) {
         Ok(mut desk) => {

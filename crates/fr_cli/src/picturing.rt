@@ -21,7 +21,9 @@ pub fn picture<D: Desk>(
     supplier: Option<&str>,
 ) -> Result<Vec<u8>, Failure>
     ensures falls { D.clean desk.new → D.clean desk.old }
-    ensures prints { PrintsRead (λ fault. fault ≡ Lacking) (IsRead (D.clean desk.new) (D.stands desk.old) (D.stands desk.new) (plans_for (named supplier.entry) variant.now)) IsPage result }
+    ensures prints { PrintsRead (λ fault. fault ≡ Lacking)
+        (IsRead (D.clean desk.new) (D.stands desk.old) (D.stands desk.new)
+        (plans_for (named supplier.entry) variant.now)) IsPage result }
     ensures stays { Stays (D.clean desk.new) (D.stands desk.old) (D.stands desk.new) }
 {
     match plan_for(alloc, desk, variant, named(supplier)) {
@@ -38,7 +40,8 @@ fn plan_for<D: Desk>(
     reader: Option<Actor>,
 ) -> Result<Plan, Refusal>
     ensures falls { D.clean desk.new → D.clean desk.old }
-    ensures drawn { IsRead (D.clean desk.new) (D.stands desk.old) (D.stands desk.new) (plans_for reader variant.now) result }
+    ensures drawn { IsRead (D.clean desk.new) (D.stands desk.old) (D.stands desk.new)
+        (plans_for reader variant.now) result }
 {
     match reader {
         Some(reader) => read_plan(alloc, desk, &View { reader, variant }),

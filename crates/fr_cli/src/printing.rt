@@ -14,7 +14,8 @@ pub fn tell<O: Write, E: Write>(
     out: &mut O,
     err: &mut Output<'_, E>,
 ) -> u8
-    ensures told { IsTold done (O.contents out.old) (O.contents out.new) (E.contents err.old.writer.now) (E.contents err.new.writer.now) result }
+    ensures told { IsTold done (O.contents out.old) (O.contents out.new)
+        (E.contents err.old.writer.now) (E.contents err.new.writer.now) result }
     ensures same { err.new.writer.ghost_name ≡ err.old.writer.ghost_name }
 {
     match done {
@@ -33,7 +34,8 @@ pub fn tell<O: Write, E: Write>(
 
 /// Prints a whole text, and gives the status.
 pub fn print_all<O: Write, E: Write>(text: &[u8], out: &mut O, err: &mut Output<'_, E>) -> u8
-    ensures printed { IsPrinted text.now (O.contents out.old) (O.contents out.new) (E.contents err.old.writer.now) (E.contents err.new.writer.now) result }
+    ensures printed { IsPrinted text.now (O.contents out.old) (O.contents out.new)
+        (E.contents err.old.writer.now) (E.contents err.new.writer.now) result }
     ensures same { err.new.writer.ghost_name ≡ err.old.writer.ghost_name }
 {
     let done = print(text, &mut Output::new(out));
@@ -57,9 +59,12 @@ pub fn end<E: Write>(done: Result<(), Fault>, err: &mut Output<'_, E>) -> u8
 
 /// Writes the text.
 pub fn print<W: Write>(text: &[u8], output: &mut Output<'_, W>) -> Result<(), WriteFailed>
-    ensures ok { OnOk result (Appends (W.contents output.old.writer.now) (W.contents output.new.writer.now) text.now) }
-    ensures err { OnErr result (AppendsLess (W.contents output.old.writer.now) (W.contents output.new.writer.now) text.now) }
-    ensures front { AppendsFront (W.contents output.old.writer.now) (W.contents output.new.writer.now) text.now }
+    ensures ok { OnOk result (Appends (W.contents output.old.writer.now)
+        (W.contents output.new.writer.now) text.now) }
+    ensures err { OnErr result (AppendsLess (W.contents output.old.writer.now)
+        (W.contents output.new.writer.now) text.now) }
+    ensures front { AppendsFront (W.contents output.old.writer.now)
+        (W.contents output.new.writer.now) text.now }
     ensures same { output.new.writer.ghost_name ≡ output.old.writer.ghost_name }
 {
     output.write_all(text)
@@ -67,11 +72,12 @@ pub fn print<W: Write>(text: &[u8], output: &mut Output<'_, W>) -> Result<(), Wr
 
 /// Writes the line that names a fault. The line has retries of its own.
 pub fn print_word<W: Write>(word: &str, output: &mut Output<'_, W>) -> Result<(), WriteFailed>
-    ensures front { AppendsFront (W.contents output.old.writer.now) (W.contents output.new.writer.now) (word_line word.now) }
+    ensures front { AppendsFront (W.contents output.old.writer.now)
+        (W.contents output.new.writer.now) (word_line word.now) }
     ensures retries { output.new.retries ≤ WRITE_RETRIES }
     ensures same { output.new.writer.ghost_name ≡ output.old.writer.ghost_name }
 {
-    output.renew();
+    output.restore_retries();
     output.write_all(b"slotplan: ")?;
     output.write_all(word.as_bytes())?;
     output.write_all(b"\n")

@@ -51,7 +51,8 @@ fn line_faults(alloc: Global, line: &[u8]) -> Result<Vec<String>, NoMemory>
 
 // What is wrong with a key and the text behind it.
 fn part_faults(alloc: Global, key: &[u8], text: &[u8]) -> Result<Vec<String>, NoMemory>
-    ensures { IfOk result (λ faults. are_none faults.items ≡ (is_key key.now && is_fine_request text.now)) }
+    ensures { IfOk result (λ faults.
+        are_none faults.items ≡ (is_key key.now && is_fine_request text.now)) }
 {
     let mut faults = text_faults(alloc, text, key.len() + 1)?;
     if !is_key(key) {

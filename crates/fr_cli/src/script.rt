@@ -30,7 +30,8 @@ pub fn run_script<R: Read, W: Write>(
     reader: &mut R,
     writer: &mut W,
 ) -> Result<(), ScriptFault>
-    ensures { IsRunOf (R.remaining reader.old) (R.remaining reader.new) (W.contents writer.old) (W.contents writer.new) result }
+    ensures { IsRunOf (R.remaining reader.old) (R.remaining reader.new) (W.contents writer.old)
+        (W.contents writer.new) result }
 {
     let script = read_all(alloc, reader)?;
     let (cluster, requests) = split_script(&script).ok_or(ScriptFault::NoSeparator)?;
@@ -49,7 +50,8 @@ fn answer_requests<D: Desk, W: Write>(
     writer: &mut W,
 ) -> Result<(), ScriptFault>
     ensures falls { D.clean desk.new → D.clean desk.old }
-    ensures written { HasWritten (D.clean desk.new) (D.stands desk.old) (D.stands desk.new) (request_lines requests.now) (W.contents writer.old) (W.contents writer.new) result }
+    ensures written { HasWritten (D.clean desk.new) (D.stands desk.old) (D.stands desk.new)
+        (request_lines requests.now) (W.contents writer.old) (W.contents writer.new) result }
 {
     let mut output = Output::new(writer);
     write_answers(alloc, desk, requests, &mut output)

@@ -1,4 +1,5 @@
 //! The files at an open register's path: whether they are still those that were there.
+ghost use Rattle.std.specs.Prelude.{◌≡◌};
 
 use std::fs;
 use std::io::{self, ErrorKind};
@@ -23,7 +24,12 @@ struct Sight {
 
 impl Sight {
     // The same files, as long and as old as those that are seen now.
-    fn written_as(self, now: Sight) -> Sight {
+    fn written_as(self, now: Sight) -> Sight
+        ensures { result ≡ record {
+          db = record now.db { device = self.db.device; inode = self.db.inode };
+          log = record now.log { device = self.log.device; inode = self.log.inode };
+        } }
+    {
         Sight {
             db: self.db.written_as(now.db),
             log: self.log.written_as(now.log),
@@ -42,7 +48,10 @@ struct Mark {
 }
 
 impl Mark {
-    fn written_as(self, now: Mark) -> Mark {
+    // The same file, as long and as old as the one that is seen now.
+    fn written_as(self, now: Mark) -> Mark
+        ensures { result ≡ record now { device = self.device; inode = self.inode } }
+    {
         Mark {
             device: self.device,
             inode: self.inode,
@@ -60,7 +69,13 @@ impl<'a> Watch<'a> {
 
     /// Takes the files' lengths and times as they are now: what was written to them is the register's own. Which files
     /// they are stays as it was seen first, so that one that was put in another's place stays another.
-    pub fn note_own_writes(&mut self) {
+    pub fn note_own_writes(&mut self)
+        ensures db { let seen = self.old.seen.db in let now = self.new.seen.db in
+            (now.device ≡ seen.device) × (now.inode ≡ seen.inode) }
+        ensures log { let seen = self.old.seen.log in let now = self.new.seen.log in
+            (now.device ≡ seen.device) × (now.inode ≡ seen.inode) }
+        ensures path { self.new.db ≡ self.old.db }
+    {
         if let Ok(now) = look(self.rt, self.db) {
             self.seen = self.seen.written_as(now);
         }

@@ -1,9 +1,10 @@
 //! The words of the command line, and the job for which they ask.
-ghost use Rattle.std.specs.Prelude.{◌≡◌, codes, map, option_map, string_bytes, IfErr, IfOk, OnOk};
+ghost use Rattle.std.specs.Prelude.{◌≡◌, ◌⊎◌, codes, map, option_map, string_bytes, IfErr, IfOk, OnOk};
 ghost use Rattle.clap.specs.Walk.{first_of, rows_of};
 ghost use Rattle.clap.specs.Words.{found_of, kind_of, subcommand_rows_of};
 ghost use Rattle.fr_base.specs.Queries.{word_of_inventory};
-ghost use Rattle.fr_cli.specs.Words.{AreTaken, AskFor, HasKind, HasReport, IsFaultOf, IsFileIn, IsFlagIn, IsHeaderIn, IsJobFound, IsJobIn, IsJobOf, IsNumberIn, IsOfKind, MayRefuse, word_of_delivery, word_of_report};
+ghost use Rattle.fr_cli.specs.Words.{AreTaken, AskFor, HasKind, HasReport, IsFaultOf, IsFileIn, IsFlagIn, IsHeaderIn, IsJobFound, IsJobIn, IsJobOf, IsNumberIn, IsOfKind, LackAnObject, MayRefuse, word_of_delivery, word_of_report};
+ghost use Rattle.fr_cli.specs.declared.words.WordFault.TheVariants.{NoMemory};
 
 use crate::commands::{MAX_CONNECTIONS, MAX_PORT, MAX_SECONDS, program};
 use crate::delivery::{Delivery, DeliveryKind};
@@ -83,11 +84,14 @@ pub enum WordFault {
     NoMemory,
 }
 
-/// The job that the words after the program's name ask for.
+/// The job that the words after the program's name ask for. Where `clap` takes the words there is one, unless memory runs
+/// out, or they lack an object: `check` names no file or several, or `export` names rows that are none of its three.
 pub fn read_words<'a>(alloc: Global, words: &'a [String]) -> Result<Job<'a>, WordFault>
     ensures taken { OnOk result (AreTaken (map string_bytes words.entry.now)) }
     ensures job { IfOk result (AskFor (map string_bytes words.entry.now)) }
     ensures fault { IfErr result (IsFaultOf (map string_bytes words.entry.now)) }
+    ensures finds { AreTaken (map string_bytes words.entry.now) → IfErr result
+        (λ fault. (fault ≡ NoMemory) ⊎ LackAnObject (map string_bytes words.entry.now)) }
 {
     match read(alloc, words) {
         Ok(job) => Ok(job),
@@ -99,7 +103,8 @@ pub fn read_words<'a>(alloc: Global, words: &'a [String]) -> Result<Job<'a>, Wor
 fn read<'a>(alloc: Global, words: &'a [String]) -> Result<Job<'a>, Error>
     ensures taken { OnOk result (AreTaken (map string_bytes words.entry.now)) }
     ensures job { IfOk result (AskFor (map string_bytes words.entry.now)) }
-    ensures fault { IfErr result (λ error. MayRefuse (map string_bytes words.entry.now) (kind_of error)) }
+    ensures fault { IfErr result
+        (λ error. MayRefuse (map string_bytes words.entry.now) (kind_of error)) }
 {
     let mut program = program(alloc)?;
     let matches = program.try_get_matches_from_mut(words)?;
@@ -218,7 +223,8 @@ fn diff_job<'a>(found: &ArgMatches<'a>) -> Option<Job<'a>>
 }
 
 fn report_job<'a>(found: &ArgMatches<'a>, report: Report<&'a str>) -> Option<Job<'a>>
-    ensures { HasReport report.entry (rows_of (found_of found.now)) → IsJobIn result (word_of_report report.entry) (rows_of (found_of found.now)) }
+    ensures { HasReport report.entry (rows_of (found_of found.now))
+        → IsJobIn result (word_of_report report.entry) (rows_of (found_of found.now)) }
 {
     let db = word(found, "DB")?;
     let variant = word(found, "VARIANT")?;
@@ -289,7 +295,8 @@ fn try_job<'a>(found: &ArgMatches<'a>) -> Option<Job<'a>>
 }
 
 fn deliver_job<'a>(found: &ArgMatches<'a>, kind: DeliveryKind<'a>) -> Option<Job<'a>>
-    ensures { HasKind kind.entry (rows_of (found_of found.now)) → IsJobIn result (word_of_delivery kind.entry) (rows_of (found_of found.now)) }
+    ensures { HasKind kind.entry (rows_of (found_of found.now))
+        → IsJobIn result (word_of_delivery kind.entry) (rows_of (found_of found.now)) }
 {
     let db = word(found, "DB")?;
     let delivery = Delivery {
@@ -334,7 +341,8 @@ fn explain_job<'a>(found: &ArgMatches<'a>) -> Job<'a>
 
 // The word at this place, if one stands there.
 fn word<'a>(found: &ArgMatches<'a>, name: &str) -> Option<&'a str>
-    ensures { option_map (λ text. text.now) result ≡ first_of name.now (rows_of (found_of found.now)) }
+    ensures { option_map (λ text. text.now) result
+        ≡ first_of name.now (rows_of (found_of found.now)) }
 {
     found.get_str(name)
 }

@@ -53,7 +53,7 @@ pub crash_found : {D Desk Found : Type 0} (g : Ghosts D) (stands : Desk → Stan
 crash_found {D} {Desk} g stands serves leaves held clean finds settled c b first last asks answers files found stood sound up asked given are crash finds_held is_clean =
     let kept = were_kept stands leaves c b first last asks answers asked stood sound (settled first c b up stood) in
     ∥∥₁_map (given are held crash c kept.books kept.left) (λ one.
-    let x = one_of c (IsOrNext c (WasLacking asks answers) kept.last) kept.books one.0 kept.each one.2 in
+    let x = one_of c (IsOrNext c (WasLacking c b asks answers) kept.last) kept.books one.0 kept.each one.2 in
     is_found (finds found c) c b kept.last x.0 asks answers sound kept.run x.1 (finds_held is_clean c x.0 (inr (one.0, one.1, x.2))))
 
 -- what is opened of the files of a desk that was given up

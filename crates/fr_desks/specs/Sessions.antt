@@ -9,6 +9,7 @@ use Rattle.sqlite_wal.specs.Reads.{AreClean}
 use Rattle.sqlite_wal.specs.Recovery.{Image}
 use Rattle.fr_base.specs.Book.{Book}
 use Rattle.fr_base.specs.Cluster.{Cluster}
+use Rattle.fr_base.specs.Run.{IsRun}
 use Rattle.fr_base.specs.Sound.{IsSound}
 use Rattle.fr_base.specs.declared.answer.Answer.{Answer}
 use Rattle.fr_base.specs.declared.request.Ask.{Ask}
@@ -49,19 +50,24 @@ abbrev pub AllLead : Image → List Session → Image → Type 0
 AllLead held [] last = last ≡ held
 AllLead held (session ∷ more) last = (next : Image) × Leads held session next × AllLead next more last
 
--- These are all requests of the sessions, in order; and at the end of each maybe one more, which had been answered
--- Unavailable in it.
-abbrev pub AreAllOf : List Session → List Ask → List Answer → Type 0
-AreAllOf [] asks answers = (asks ≡ []) × (answers ≡ [])
-AreAllOf (session ∷ more) asks answers = (rest : Session) × AreAllOf more rest.asks rest.answers
-    × (((asks ≡ session.asks ++ rest.asks) × (answers ≡ session.answers ++ rest.answers))
-    ⊎ ((ask : Ask) × (answer : Answer) × WasLacking session.asks session.answers ask
-    × (asks ≡ (session.asks ++ ask ∷ []) ++ rest.asks) × (answers ≡ (session.answers ++ answer ∷ []) ++ rest.answers)))
+-- What was done in the session: all that was asked; or this and one request more, which had been answered Unavailable.
+abbrev pub WasDone : Cluster → Book → Session → Session → Type 0
+WasDone c b session done = (done ≡ session)
+    ⊎ ((ask : Ask) × (answer : Answer) × WasLacking c b session.asks session.answers ask
+    × (done ≡ record { asks = session.asks ++ ask ∷ []; answers = session.answers ++ answer ∷ [] }))
+
+-- These are all requests of the sessions, in order, with what was done at the end of each. The first begins from this book, and each of the
+-- others from the one to which that led.
+abbrev pub AreAllOf : Cluster → Book → List Session → List Ask → List Answer → Type 0
+AreAllOf c b [] asks answers = (asks ≡ []) × (answers ≡ [])
+AreAllOf c b (session ∷ more) asks answers = (done rest : Session) × (next : Book)
+    × WasDone c b session done × IsRun c b done.asks done.answers next × AreAllOf c next more rest.asks rest.answers
+    × (asks ≡ done.asks ++ rest.asks) × (answers ≡ done.answers ++ rest.answers)
 
 -- From a sound book that the files held at first, they hold at last the one after all requests of the sessions, which were
 -- answered as promised: to each supplier as if it were alone, and free of collisions after each.
 abbrev pub SessionsAreKept : Type 0
 SessionsAreKept = (held last : Image) (sessions : List Session) → AllLead held sessions last
     → (c : Cluster) (b : Book) → Held held c b → IsSound c b
-    → ∥ ((all : Session) × AreAllOf sessions all.asks all.answers
+    → ∥ ((all : Session) × AreAllOf c b sessions all.asks all.answers
     × WereAnswered (Held last c) c b all.asks all.answers) ∥₁

@@ -119,7 +119,8 @@ pub fn open<S: Start>(rt: &HostRuntime, path: &str, start: S) -> Result<FileDesk
 /// after a crash is then the register as it stood, or after one request more.
 pub fn close<S: Start>(desk: FileDesk<S>) -> Leftover<FileFrom<S>>
     ensures clean { IsCleanLeft result → ⟦<FileDesk<S> as Desk>⟧.clean desk }
-    ensures book { (c : Cluster) (b : Book) → ⟦<FileDesk<S> as Desk>⟧.stands desk c b → IsLeftWith result c b }
+    ensures book { (c : Cluster) (b : Book) → ⟦<FileDesk<S> as Desk>⟧.stands desk c b
+        → IsLeftWith result c b }
 {
     match closed(desk) {
         Ok(files) => Leftover::Files(files),
@@ -129,11 +130,15 @@ pub fn close<S: Start>(desk: FileDesk<S>) -> Leftover<FileFrom<S>>
 
 // Closes the register: its files, or the store that is left of them where they fail to close.
 fn closed<S: Start>(desk: FileDesk<S>) -> Result<Files<FileFrom<S>>, FileStore<FileFrom<S>>>
-    ensures clean { IfOk result (λ files. AreClean ⟦<FileFrom<S> as Disk>⟧ files.log files.db → ⟦<FileDesk<S> as Desk>⟧.clean desk) }
-    ensures still { IfErr result (λ it. IsTrue (view it).is_clean → ⟦<FileDesk<S> as Desk>⟧.clean desk) }
-    ensures left { IfErr result (λ it. (c : Cluster) (books : List Book) →
-        leaves_of ⟦<Store<FileStore<FileFrom<S>>> as Records>⟧.leaves desk c books → FindsOneOf it c books) }
-    ensures book { IfOk result (λ files. (c : Cluster) (b : Book) → ⟦<FileDesk<S> as Desk>⟧.stands desk c b → LeavesBook ⟦<FileFrom<S> as Disk>⟧ files c b) }
+    ensures clean { IfOk result (λ files. AreClean ⟦<FileFrom<S> as Disk>⟧ files.log files.db
+        → ⟦<FileDesk<S> as Desk>⟧.clean desk) }
+    ensures still { IfErr result
+        (λ it. IsTrue (view it).is_clean → ⟦<FileDesk<S> as Desk>⟧.clean desk) }
+    ensures left { IfErr result (λ it. (c : Cluster) (books : List Book)
+        → leaves_of ⟦<Store<FileStore<FileFrom<S>>> as Records>⟧.leaves desk c books
+        → FindsOneOf it c books) }
+    ensures book { IfOk result (λ files. (c : Cluster) (b : Book)
+        → ⟦<FileDesk<S> as Desk>⟧.stands desk c b → LeavesBook ⟦<FileFrom<S> as Disk>⟧ files c b) }
 {
     let conn = desk.into_records().into_connection();
     // Gives the proof that what is committed is a database.
@@ -147,7 +152,8 @@ fn closed<S: Start>(desk: FileDesk<S>) -> Result<Files<FileFrom<S>>, FileStore<F
 /// Gives the register's files back as they are, as a stop of the program leaves them, with nothing done to them. What a
 /// crash leaves of them is a register that it might have left before.
 pub fn give_up<S: Start>(desk: FileDesk<S>) -> Files<FileFrom<S>>
-    ensures { AreGivenUp ⟦<FileFrom<S> as Disk>⟧ (leaves_of ⟦<Store<FileStore<FileFrom<S>>> as Records>⟧.leaves desk) result }
+    ensures { AreGivenUp ⟦<FileFrom<S> as Disk>⟧
+        (leaves_of ⟦<Store<FileStore<FileFrom<S>>> as Records>⟧.leaves desk) result }
 {
     desk.into_records().give_up()
 }

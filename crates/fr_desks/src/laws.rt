@@ -16,27 +16,32 @@ use sqlite_disk::Disk;
 
 /// A register that was closed and is opened again has the same book, after a crash too.
 pub fn left_is_found<D: Disk, S: Start>()
-    ensures { LeftIsFound D.Disk (image_at S.Start) ⟦<FileDesk<S> as Desk>⟧.clean ⟦<FileDesk<S> as Desk>⟧.stands }
+    ensures { LeftIsFound D.Disk (image_at S.Start) ⟦<FileDesk<S> as Desk>⟧.clean
+        ⟦<FileDesk<S> as Desk>⟧.stands }
 {}
 
 /// A register that was made and is opened then has the book of a new register.
 pub fn made_is_found<D: Disk, S: Start>()
-    ensures { MadeIsFound D.Disk (image_at S.Start) ⟦<FileDesk<S> as Desk>⟧.clean ⟦<FileDesk<S> as Desk>⟧.stands }
+    ensures { MadeIsFound D.Disk (image_at S.Start) ⟦<FileDesk<S> as Desk>⟧.clean
+        ⟦<FileDesk<S> as Desk>⟧.stands }
 {}
 
 /// Whatever is asked of a register in files, and wherever a crash falls: what is opened afterwards is the register after
 /// all that was answered, or after one request more, which had been answered `Unavailable`; each supplier was answered
 /// as if it were alone, and at most one frame is sent in a cell.
 pub fn crash_is_found<D: Disk, S: Start>()
-    ensures { CrashIsFound D.Disk (StandsWarm ⟦<Store<FileStore<D>> as Records>⟧.stands) (serves_of ⟦<Store<FileStore<D>> as Records>⟧.serves)
-        (leaves_of ⟦<Store<FileStore<D>> as Records>⟧.leaves) (image_at S.Start) ⟦<FileDesk<S> as Desk>⟧.clean ⟦<FileDesk<S> as Desk>⟧.stands }
+    ensures { CrashIsFound D.Disk (StandsWarm ⟦<Store<FileStore<D>> as Records>⟧.stands)
+        (serves_of ⟦<Store<FileStore<D>> as Records>⟧.serves)
+        (leaves_of ⟦<Store<FileStore<D>> as Records>⟧.leaves) (image_at S.Start)
+        ⟦<FileDesk<S> as Desk>⟧.clean ⟦<FileDesk<S> as Desk>⟧.stands }
 {}
 
 /// Whatever job was done at a register in files, and wherever a crash falls: what is opened afterwards has the book for
 /// which the register stood, with all that was answered, or the one after one request more.
 pub fn stopped_is_found<D: Disk, S: Start>()
-    ensures { StoppedIsFound D.Disk ⟦<Office<Store<FileStore<D>>> as Desk>⟧.stands (leaves_of ⟦<Store<FileStore<D>> as Records>⟧.leaves)
-        (image_at S.Start) ⟦<FileDesk<S> as Desk>⟧.clean ⟦<FileDesk<S> as Desk>⟧.stands }
+    ensures { StoppedIsFound D.Disk ⟦<Office<Store<FileStore<D>>> as Desk>⟧.stands
+        (leaves_of ⟦<Store<FileStore<D>> as Records>⟧.leaves) (image_at S.Start)
+        ⟦<FileDesk<S> as Desk>⟧.clean ⟦<FileDesk<S> as Desk>⟧.stands }
 {}
 
 /// A session at a register's files leads from the book that they held to the one that they hold next, whether they are closed or

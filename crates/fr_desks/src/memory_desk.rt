@@ -45,7 +45,8 @@ impl Desk for MemoryDesk {
 impl MemoryDesk {
     /// The desk of a new register of this cluster. The only refusal is `Unavailable`.
     pub fn new(alloc: Global, config: &Config) -> Result<MemoryDesk, StoreFault>
-        ensures stands { IfOk result (λ it. ⟦<MemoryDesk as Desk>⟧.stands it config.now.cluster (opening config.now)) }
+        ensures stands { IfOk result
+            (λ it. ⟦<MemoryDesk as Desk>⟧.stands it config.now.cluster (opening config.now)) }
         ensures told { IfErr result (λ e. e ≡ Unavailable) }
     {
         // Gives the proof that the suppliers are in order.
@@ -59,7 +60,8 @@ impl MemoryDesk {
     pub fn run(&mut self, alloc: Global, asks: &[Ask]) -> Result<Vec<Answer>, Stopped>
         ensures each { IfOk result (λ answers. length answers.items ≡ length asks.now) }
         ensures front { IfErr result (λ stopped. length stopped.answers.items < length asks.now) }
-        ensures headline { AnswersEach (⟦<MemoryDesk as Desk>⟧.stands self.old) (⟦<MemoryDesk as Desk>⟧.stands self.new) asks.now result }
+        ensures headline { AnswersEach (⟦<MemoryDesk as Desk>⟧.stands self.old)
+            (⟦<MemoryDesk as Desk>⟧.stands self.new) asks.now result }
     {
         self.office.run(alloc, asks)
     }

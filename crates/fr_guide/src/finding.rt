@@ -35,7 +35,8 @@ pub fn examine(alloc: Global, bytes: &[u8]) -> Result<Finding, NoMemory>
 
 // The text of a fault.
 fn bad_text(alloc: Global, fault: ConfigFault, bytes: &[u8]) -> Result<Vec<u8>, NoMemory>
-    ensures { IfOk result (λ text. (place : List ℕ) × (text.items ≡ config_fault_word fault ++ codes ": " ++ place)) }
+    ensures { IfOk result (λ text. (place : List ℕ)
+        × (text.items ≡ config_fault_word fault ++ codes ": " ++ place)) }
 {
     let place = place(alloc, fault, bytes)?;
     let mut text = Vec::new(alloc);

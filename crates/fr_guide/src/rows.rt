@@ -36,8 +36,10 @@ pub fn row_faults(alloc: Global, body: &[u8]) -> Result<Vec<LineFaults>, NoMemor
 // The faults of each record of a file that is not too long.
 #[tactic(auto, unfolding(crate::specs::Rows::fine_records))]
 fn record_faults(alloc: Global, body: &[u8]) -> Result<Vec<LineFaults>, NoMemory>
-    ensures rows { IfOk result (λ told. map is_fine told.items ≡ fine_records (records_of body.now)) }
-    ensures lines { IfOk result (λ told. AreInOrder 1 (line_count body.now) (numbers_of told.items)) }
+    ensures rows { IfOk result (λ told.
+        map is_fine told.items ≡ fine_records (records_of body.now)) }
+    ensures lines { IfOk result (λ told.
+        AreInOrder 1 (line_count body.now) (numbers_of told.items)) }
 {
     let mut records = Records::new(alloc, body);
     let mut fields = ByteRecord::new(alloc);
@@ -83,9 +85,12 @@ fn tell_rows(
     told: &mut Vec<LineFaults>,
 ) -> Result<(), NoMemory>
     requires room { place.old.line + line_ends place.old.rest.now < 2 ^ 64 }
-    ensures rows { OnOk result (map is_fine told.new.items ≡ map is_fine told.old.items ++ fine_rows header MAX_ROWS records.old) }
-    ensures lines { OnOk result (AreInOrder 1 place.old.line (numbers_of told.old.items) → AreInOrder 1 place.new.line (numbers_of told.new.items)) }
-    ensures all { place.new.line + line_ends place.new.rest.now ≡ place.old.line + line_ends place.old.rest.now }
+    ensures rows { OnOk result (map is_fine told.new.items ≡ map is_fine told.old.items
+        ++ fine_rows header MAX_ROWS records.old) }
+    ensures lines { OnOk result (AreInOrder 1 place.old.line (numbers_of told.old.items)
+        → AreInOrder 1 place.new.line (numbers_of told.new.items)) }
+    ensures all { place.new.line + line_ends place.new.rest.now
+        ≡ place.old.line + line_ends place.old.rest.now }
 {
     let mut room = MAX_ROWS;
     while read(records, fields)? {
@@ -104,7 +109,8 @@ fn tell_rows(
 
 // Reads the fields of the next record, if there is one.
 fn read(records: &mut Records<'_>, fields: &mut ByteRecord) -> Result<bool, NoMemory>
-    ensures { IfOk result (λ found. records.old ≡ (if found then fields_of fields.new ∷ records.new else [])) }
+    ensures { IfOk result (λ found.
+        records.old ≡ (if found then fields_of fields.new ∷ records.new else [])) }
 {
     match records.read(fields) {
         Ok(found) => Ok(found),

@@ -3,6 +3,7 @@ pub mod RouteLaws
 pub mod ReplyLaws
 pub mod PlanLaws
 pub mod ReadingLaws
+pub mod ReadsLaws
 pub mod ServeLaws
 pub mod KeyLaws
 mod WorkedRows

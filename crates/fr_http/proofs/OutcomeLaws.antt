@@ -1,19 +1,16 @@
 -- Bytes that begin with a head have one outcome; so two exchanges with them, from one book, have one reply.
-use Rattle.std.proofs.Common.{◌≡◌, inl, inr, ℕ, Bool, true, false, true≢false, List, [], ◌∷◌, ◌++◌, Option, Some, None, Result, Ok, Err, MatchResult, refl, sym, ap, ◌∙◌, subst}
+use Rattle.std.proofs.Common.{◌≡◌, inl, inr, ℕ, Bool, true, false, true≢false, List, [], ◌∷◌, ◌++◌, Option, Some, None, Result, Ok, Err, MatchResult, sym, ap, ◌∙◌, subst}
 use Rattle.std.specs.Prelude.{unwrap_or}
 use Rattle.httparse.specs.Grammar.{RequestHead}
 use Rattle.httparse.proofs.GrammarLemmas.{request_unique}
 use Rattle.fr_base.specs.Actors.{actor_of}
-use Rattle.fr_base.specs.Alone.{is_unavailable}
 use Rattle.fr_base.specs.Book.{Book}
 use Rattle.fr_base.specs.Cluster.{Cluster}
 use Rattle.fr_base.specs.Run.{IsRun}
 use Rattle.fr_base.specs.declared.actor.Actor.{Actor}
 use Rattle.fr_base.specs.declared.answer.Answer.{Answer}
-use Rattle.fr_base.specs.declared.refusal.Refusal.{Refusal}
 use Rattle.fr_base.specs.declared.request.Ask.{Ask}
 use Rattle.fr_base.proofs.RunLaws.{runs-one}
-use Rattle.fr_picture.specs.declared.plan.Plan.{Plan}
 use Rattle.fr_http.specs.Exchanges.{Answered, Asks, Dealing, Drawn, Exchange, IsBrokenOff, IsExchange, IsReplied, IsTold, IsUnasked, asked_in, unasked_reply}
 use Rattle.fr_http.specs.Head.{BeginsWith, said}
 use Rattle.fr_http.specs.Outcome.{IsOutcome, interim, outcome_of}
@@ -21,7 +18,6 @@ use Rattle.fr_http.specs.OutcomeLaws.{is_drawn, was_lacking}
 use Rattle.fr_http.specs.Reply.{Reply, answer_reply, print}
 use Rattle.fr_http.specs.declared.asking.Demand.{Demand}
 use Rattle.fr_http.specs.declared.asking.Demand.TheVariants as asked
-use Rattle.fr_http.specs.declared.fault.LinkFault.{LinkFault}
 use Rattle.fr_http.specs.declared.fault.Unasked.{Unasked}
 use Rattle.fr_http.specs.declared.method.Method.{Method}
 use Rattle.fr_http.specs.declared.serve.Served.{Served}

@@ -1,8 +1,12 @@
 -- Laws of what is read of a connection.
-use Rattle.std.proofs.Common.{◌≡◌, ℕ, ◌<◌, ◌≤◌, ◌+◌, ◌-◌, List, [], ◌++◌, length, take, map, Some, None, refl, sym, ap, ◌∙◌, subst, arith, append-nil, append_assoc, length-append}
+use Rattle.std.proofs.Common.{◌≡◌, ℕ, ◌<◌, ◌≤◌, ◌+◌, ◌-◌, List, [], ◌++◌, length, take, map, Some, None, refl, sym, ap, ◌∙◌, subst, arith, append-nil, append_assoc, length-append, inl, lit<, lit≤}
+use Rattle.std.specs.Prelude.{codes, slice_index, zero, suc}
 use Rattle.std.proofs.lemmas.List.{take_all, length-map, length-take}
+use Rattle.std.proofs.lemmas.List.Elements.{All-nil}
+use Rattle.std.proofs.lemmas.List.Sums.{AllPass-from_list_all}
+use Rattle.std.proofs.lemmas.Str.{IsUtf8-from_ascii}
 use Rattle.std.proofs.lemmas.Bool.{le-leb, lt-leb}
-use Rattle.httparse.specs.Grammar.{HasNoRequest, NeverHasRequest, RequestHead, print_request}
+use Rattle.httparse.specs.Grammar.{HasNoRequest, IsRequestHead, MayBecomeRequest, NeverHasRequest, RequestHead, crlf, is_token_byte, is_uri_byte, print_request}
 use Rattle.httparse.specs.Spans.{IsRequestAt, IsRequestOf, IsRequestWithin, RequestOverflows, header_bytes, name_and_value}
 use Rattle.httparse.specs.declared.spans.HeaderSpan.{HeaderSpan}
 use Rattle.httparse.specs.declared.spans.RequestSpans.{RequestSpans}
@@ -16,6 +20,27 @@ use Rattle.fr_http.specs.Received.{shown}
 pub no_request_at_first : HasNoRequest []
 unfolding print_request
 no_request_at_first h rest reads = grind (arith, ap length reads.1, length-append, reads.0.method.0)
+
+-- a short head
+short_head : RequestHead
+short_head = record { blank = []; method = codes "GET"; target = codes "/"; minor = 1; line_end = crlf; fields = []; last = crlf }
+
+slash_is_ascii : (i : ℕ) → slice_index (codes "/") i < 128
+slash_is_ascii zero = lit< tt
+slash_is_ascii (suc i) = lit< tt
+
+short_head-is : IsRequestHead short_head
+unfolding short_head is_token_byte
+short_head-is = record {
+  method = (lit< tt, AllPass-from_list_all is_token_byte (codes "GET") refl);
+  target = (lit< tt, AllPass-from_list_all is_uri_byte (codes "/") refl);
+  target_text = IsUtf8-from_ascii (codes "/") slash_is_ascii;
+  minor = lit≤ tt;
+  fields = All-nil _;
+}
+
+pub may_become_at_first : MayBecomeRequest []
+may_become_at_first = inl (print_request short_head, short_head, (short_head-is, sym (append-nil (print_request short_head))))
 
 pub no_head : (bytes : List ℕ) → HasNoRequest bytes → HasNoHead bytes
 no_head bytes none h rest begins = none h rest begins.reads

@@ -1,8 +1,9 @@
 -- Connection: what was read and written on a connection, how it ended, that it was an exchange, and what became of the
 -- register.
-use Rattle.std.specs.Prelude.{ℕ, ◌≡◌, ◌≤◌, ◌⊎◌, Bool, true, false, List, length, Option, Result, Ok, Err, IfErr, IsErrOf}
+use Rattle.std.specs.Prelude.{ℕ, ◌≡◌, ◌≤◌, ◌⊎◌, Bool, true, false, List, length, Option, Result, Ok, Err, IfErr, IsErrOf, ⊤}
 use Rattle.std.specs.Global.{Vec}
 use Rattle.std.specs.Io.KnownBytes.{Appends, Consumes, IsAtEnd, Keeps}
+use Rattle.std.specs.declared.io.Error.{Error}
 use Rattle.httparse.specs.Grammar.{RequestHead}
 use Rattle.fr_base.specs.Actors.{actor_of}
 use Rattle.fr_base.specs.Book.{Book}
@@ -76,6 +77,10 @@ pub record HasTaken (stands : Standing) (input left held now : Option (List ℕ)
   pub appended : Appends held now written
   pub takes : Takes stands bytes written left taken
   pub bound : ReadsNoMore bytes
+
+-- The last call of the writer was a flush, and did not fail.
+abbrev pub WasFlushed : {W : Type 0} → (W → Result ⊤ Error → W → Type 0) → W → Type 0
+WasFlushed {W} flushes last = (mid : W) × flushes mid (Ok tt) last
 
 -- A front of the text was written behind what was there.
 abbrev pub AppendsFront : Option (List ℕ) → Option (List ℕ) → List ℕ → Type 0

@@ -4,6 +4,7 @@ pub mod Routes
 pub mod Outcome
 pub mod Planning
 pub mod Reading
+pub mod Reads
 pub mod Asking
 pub mod Reply
 pub mod Replying

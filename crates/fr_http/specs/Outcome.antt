@@ -5,7 +5,7 @@ use Rattle.std.specs.Char.{is_ascii_digit}
 use Rattle.std.specs.List.{list_all, list_any}
 use Rattle.std.specs.Option.{option_map}
 use Rattle.std.specs.Str.Parse.{digits_value}
-use Rattle.httparse.specs.Grammar.{NeverHasRequest, RequestHead}
+use Rattle.httparse.specs.Grammar.{MayBecomeRequest, NeverHasRequest, RequestHead}
 use Rattle.httparse.specs.Spans.{RequestExceeds}
 use Rattle.fr_base.specs.Names.{same_text}
 use Rattle.fr_base.specs.Refusing.{◌>>=◌, ◌>>◌, ◌or◌, refuse◌when◌}
@@ -128,12 +128,12 @@ outcome_of who head rest = do
   Ok (asked_by actor (method_of plan.route) matter)
 
 -- Why bytes that do not begin with a head demand nothing. No head can come of them. Or they are too
--- many, or some of their lines and an empty line would be a head with too many fields. Or the input
--- ended before they were too many.
+-- many, or some of their lines and an empty line would be a head with too many fields. Or they
+-- are not too many, and bytes could follow that make them a head, or they end in a target.
 abbrev pub HeadFails : List ℕ → Unasked → Type 0
 HeadFails bytes (Engine BadRequest) = NeverHasRequest bytes
 HeadFails bytes (Engine HeadTooLarge) = (max_head ≤ length bytes) ⊎ RequestExceeds max_fields bytes
-HeadFails bytes (Fault Truncated) = length bytes < max_head
+HeadFails bytes (Fault Truncated) = (length bytes < max_head) × MayBecomeRequest bytes
 HeadFails bytes _ = ⊥
 
 -- The bytes begin with a head, and this is their outcome and their interim reply.

@@ -1,7 +1,7 @@
 -- Laws of outcomes: bytes that begin with a head have one outcome and one interim reply. Two connections that are served
 -- from one book, with the same such bytes, have the same reply and lead to the same book, but for pictures, and for where
 -- `Unavailable` comes.
-use Rattle.std.specs.Prelude.{◌≡◌, ℕ, Bool, true, false, List, Option, Some, None, Result, Ok}
+use Rattle.std.specs.Prelude.{◌≡◌, ℕ, Bool, true, false, List, Option, Some, Result, Ok}
 use Rattle.httparse.specs.Grammar.{RequestHead}
 use Rattle.fr_base.specs.Alone.{is_unavailable}
 use Rattle.fr_base.specs.Book.{Book}

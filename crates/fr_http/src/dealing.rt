@@ -19,7 +19,8 @@ pub(crate) fn deal<D: Desk>(
     desk: &mut D,
 ) -> Result<ReplyText, NoMemory>
     ensures falls { D.clean desk.new → D.clean desk.old }
-    ensures dealt { (reply : Reply) × HasDealt (D.clean desk.new) (D.stands desk.old) (D.stands desk.new) demand.now reply
+    ensures dealt { (reply : Reply)
+        × HasDealt (D.clean desk.new) (D.stands desk.old) (D.stands desk.new) demand.now reply
         × IfOk result (IsReply reply) }
 {
     match demand {
@@ -45,7 +46,8 @@ fn picture<D: Desk>(
     desk: &mut D,
 ) -> Result<Vec<u8>, Refusal>
     ensures falls { D.clean desk.new → D.clean desk.old }
-    ensures drawn { HasDrawn (D.clean desk.new) (D.stands desk.old) (D.stands desk.new) reader variant.now result }
+    ensures drawn { HasDrawn (D.clean desk.new) (D.stands desk.old) (D.stands desk.new) reader
+        variant.now result }
 {
     let plan = read_plan(alloc, desk, &View { reader, variant })?;
     let page = write_page(alloc, &plan)?;

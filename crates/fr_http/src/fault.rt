@@ -24,7 +24,7 @@ pub enum Rejection {
 }
 
 /// Why a connection had no final reply, or may not have a whole one. `asked` says whether the register was asked. When a
-/// read or a write fails, or the reads are too many, no clause says.
+/// write fails, no clause says.
 #[derive(Clone, Copy, Debug, PartialEq, Eq)]
 pub enum LinkFault {
     /// The input ended before a whole request had come.

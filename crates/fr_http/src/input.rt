@@ -2,9 +2,11 @@
 ghost use Rattle.std.specs.Prelude.{◌≡◌, ◌⊎◌, ◌↔◌, ◌<◌, ◌≤◌, length, take, IfOk, IfErr, IsErrOf, IsOk, OnErr};
 ghost use Rattle.std.specs.Io.KnownBytes.{Consumes, IsAtEnd, Keeps};
 ghost use Rattle.std.specs.IoError.{error_kind};
+ghost use Rattle.fr_http.specs.Reads.{IsRead, MayEnd, Spends};
 
 use crate::fault::LinkFault;
-use std::io::{Error, ErrorKind, Read};
+use crate::source::Source;
+use fr_text::try_again;
 
 /// In how many reads a request is read at most, interrupted ones included.
 pub const MAX_READS: u32 = 100_000;
@@ -16,7 +18,7 @@ pub(crate) struct Input<'a, R> {
     reads: u32,
 }
 
-impl<'a, R: Read> Input<'a, R> {
+impl<'a, R: Source> Input<'a, R> {
     /// The input of a reader, which is read at most [`MAX_READS`] times.
     pub(crate) fn new(reader: &'a mut R) -> Input<'a, R>
         ensures same { result.reader.ghost_name ≡ reader.entry.ghost_name }
@@ -33,10 +35,23 @@ impl<'a, R: Read> Input<'a, R> {
     /// that is interrupted is tried again.
     pub(crate) fn read(&mut self, piece: &mut [u8]) -> Result<usize, LinkFault>
         ensures bound { IfOk result (λ n. n ≤ length piece.new) }
-        ensures bytes { IfOk result (λ n. Consumes (R.remaining self.old.reader.now) (R.remaining self.new.reader.now) (take n piece.new)) }
-        ensures end { IfOk result (λ n. n ≡ 0 → 0 < length piece.new → IsAtEnd (R.remaining self.new.reader.now)) }
-        ensures kept { OnErr result (Keeps (R.remaining self.old.reader.now) (R.remaining self.new.reader.now)) }
-        ensures fault { IfErr result (λ fault. (fault ≡ LinkFault.ReadFailed) ⊎ (fault ≡ LinkFault.TooManyReads)) }
+        ensures bytes { IfOk result
+            (λ n. Consumes (R.remaining self.old.reader.now) (R.remaining self.new.reader.now)
+            (take n piece.new)) }
+        ensures end { IfOk result (λ n. n ≡ 0 → 0 < length piece.new
+            → IsAtEnd (R.remaining self.new.reader.now)) }
+        ensures kept { OnErr result
+            (Keeps (R.remaining self.old.reader.now) (R.remaining self.new.reader.now)) }
+        ensures fault { IfErr result
+            (λ fault. (fault ≡ LinkFault.ReadFailed) ⊎ (fault ≡ LinkFault.TooManyReads)) }
+
+        // An interrupted read is tried again as long as a read is left, and no other failed one is. Each counts.
+        ensures made { IsRead R.reads self.old.reader.now self.old.reads piece.new result
+            self.new.reader.now self.new.reads }
+        ensures spends { Spends R.reads self.old.reader.now self.old.reads self.new.reader.now
+            self.new.reads }
+        ensures ended { IfErr result
+            (λ fault. MayEnd R.reads fault self.new.reader.now self.new.reads) }
         ensures spent { IsErrOf result LinkFault.TooManyReads → self.new.reads ≡ 0 }
         ensures reads { self.new.reads ≤ self.old.reads }
 
@@ -46,22 +61,11 @@ impl<'a, R: Read> Input<'a, R> {
     {
         while self.reads > 0 {
             self.reads -= 1;
-            match self.reader.read(piece) {
+            match self.reader.read_once(piece) {
                 Ok(n) => return Ok(n),
-                Err(error) => try_again(&error)?,
+                Err(error) => try_again(&error, LinkFault::ReadFailed)?,
             }
         }
         Err(LinkFault::TooManyReads)
-    }
-}
-
-// Whether a read that failed so is tried again: it is, where it was interrupted.
-fn try_again(error: &Error) -> Result<(), LinkFault>
-    ensures again { IsOk result ↔ (error_kind error.now ≡ ErrorKind.Interrupted) }
-    ensures fault { IfErr result (λ fault. fault ≡ LinkFault.ReadFailed) }
-{
-    match error.kind() {
-        ErrorKind::Interrupted => Ok(()),
-        _ => Err(LinkFault::ReadFailed),
     }
 }

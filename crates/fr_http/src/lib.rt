@@ -15,6 +15,7 @@ mod receive;
 mod reply;
 mod routes;
 mod serve;
+mod source;
 
 pub use fault::{LinkFault, Rejection};
 pub use head::{MAX_FIELDS, MAX_HEAD};
@@ -26,3 +27,4 @@ pub use laws::{
 pub use method::{Allowed, Method};
 pub use plan::MAX_BODY;
 pub use serve::{Served, serve_one};
+pub use source::Source;

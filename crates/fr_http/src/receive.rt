@@ -1,19 +1,29 @@
 //! Reads until a request's head is there.
-ghost use Rattle.std.specs.Prelude.{◌≡◌};
+ghost use Rattle.std.specs.Prelude.{◌≡◌, IfErr};
 ghost use Rattle.fr_http.specs.Reading.{HasReceived};
+ghost use Rattle.fr_http.specs.Reads.{MayEndAsking, Spends};
 
 use crate::fault::{LinkFault, Rejection, Unasked};
 use crate::head::{MAX_FIELDS, MAX_HEAD, Received};
 use crate::input::Input;
+use crate::source::Source;
 use httparse::spans::{EMPTY_HEADER_SPAN, parse_request};
 use httparse::{Error, Status};
 use std::alloc::Global;
-use std::io::Read;
 
-/// Reads until the input begins with a head, or cannot begin with one within the bounds. Each time
-/// that more bytes have come, they are read as a head again.
-pub(crate) fn receive<R: Read>(alloc: Global, input: &mut Input<'_, R>) -> Result<Received, Unasked>
-    ensures received { HasReceived (R.remaining input.old.reader.now) (R.remaining input.new.reader.now) result }
+/// Reads until the input begins with a head, or can't within the bounds. What came is read as a head
+/// again each time that more has come.
+#[tactic(auto, using(crate::proofs::ReadsLaws::spending))]
+pub(crate) fn receive<R: Source>(
+    alloc: Global,
+    input: &mut Input<'_, R>,
+) -> Result<Received, Unasked>
+    ensures received { HasReceived (R.remaining input.old.reader.now)
+        (R.remaining input.new.reader.now) result }
+    ensures spends { Spends R.reads input.old.reader.now input.old.reads input.new.reader.now
+        input.new.reads }
+    ensures ended { IfErr result
+        (λ unasked. MayEndAsking R.reads unasked input.new.reader.now input.new.reads) }
     ensures same { input.new.reader.ghost_name ≡ input.old.reader.ghost_name }
 {
     let mut bytes = Vec::new(alloc);

@@ -93,7 +93,8 @@ pub(crate) fn find_route(alloc: Global, path: &str) -> Result<Option<Route>, NoM
 /// The bytes as a text, where they are ASCII.
 #[tactic(auto, using(crate::proofs::RouteLaws::ascii_is_text))]
 pub(crate) fn ascii(bytes: &[u8]) -> Option<&str>
-    ensures { option_map (λ text. text.now) result ≡ (if list_all is_ascii bytes.now then Some bytes.now else None) }
+    ensures { option_map (λ text. text.now) result
+        ≡ (if list_all is_ascii bytes.now then Some bytes.now else None) }
 {
     if !is_ascii(bytes) {
         return None;

@@ -2,24 +2,25 @@
 ghost use Rattle.std.specs.Prelude.{◌≡◌, ◌≤◌, Err, IfOk, IfErr, OnOk, OnErr, true, false};
 ghost use Rattle.std.specs.List.{list_any};
 ghost use Rattle.std.specs.Io.KnownBytes.{Appends};
-ghost use Rattle.fr_http.specs.Connection.{AppendsFront, HasAnswered, HasSent, HasTaken, IsConnection};
+ghost use Rattle.fr_http.specs.Connection.{AppendsFront, HasAnswered, HasSent, HasTaken, IsConnection, WasFlushed};
 ghost use Rattle.fr_http.specs.Exchanges.{was_asked};
 ghost use Rattle.fr_http.specs.Outcome.{continue_if, continue_reply, due, is_continue};
+ghost use Rattle.fr_http.specs.Reads.{IsReadWithin, MayEnd, MayEndAsking, Spends};
 
 use crate::asking::{Demand, actor, asked_matter};
 use crate::body::read_body;
 use crate::dealing::deal;
 use crate::fault::{LinkFault, Unasked};
 use crate::head::{Received, Values};
-use crate::input::Input;
+use crate::input::{Input, MAX_READS};
 use crate::method::Method;
 use crate::plan::{Plan, make_plan};
 use crate::receive::receive;
 use crate::reply::{ReplyText, answer_reply, engine_reply};
+use crate::source::Source;
 use fr_base::{Answer, Desk, NoMemory, Refusal};
-use fr_text::{Output, WriteFailed};
+use fr_text::{Output, Sink, WriteFailed};
 use std::alloc::Global;
-use std::io::{Read, Write};
 
 /// A connection was served: the final reply's status, and whether the register was asked.
 #[derive(Clone, Copy, Debug, PartialEq, Eq)]
@@ -28,20 +29,28 @@ pub struct Served {
     pub asked: bool,
 }
 
-/// Serves one connection: reads a request, asks the register or draws a picture of what the key's
-/// owner sees, and writes the reply. It gives the reply's status, or the fault that ended the
-/// connection; and whether the register was asked. Where it was not, the desk is as it was.
-pub fn serve_one<R: Read, W: Write, D: Desk>(
+/// Serves one connection: reads a request, asks the register or draws a picture of what the key's owner sees, and
+/// writes the reply. It gives the reply's status, or the fault that ended the connection, and whether the register
+/// was asked. Where it was not, the desk is as it was.
+#[tactic(auto, using(crate::proofs::ReadsLaws::spending))]
+pub fn serve_one<R: Source, W: Sink, D: Desk>(
     alloc: Global,
     reader: &mut R,
     writer: &mut W,
     desk: &mut D,
 ) -> Result<Served, LinkFault>
     ensures falls { D.clean desk.new → D.clean desk.old }
-    ensures served { IsConnection (D.clean desk.new) (D.stands desk.old) (D.stands desk.new) (R.remaining reader.old) (R.remaining reader.new)
-        (W.contents writer.old) (W.contents writer.new) result }
+    ensures served { IsConnection (D.clean desk.new) (D.stands desk.old) (D.stands desk.new)
+        (R.remaining reader.old) (R.remaining reader.new) (W.contents writer.old)
+        (W.contents writer.new) result }
 
-    // Where the register was not asked, the desk is as it was.
+    // The connection is read at most so often, and such a fault of reading comes only for its cause.
+    ensures reads { IsReadWithin R.reads MAX_READS reader.old reader.new result }
+
+    // Where a reply was written it was flushed.
+    ensures flushed { OnOk result (WasFlushed W.flushes writer.new) }
+
+    // Where the register was not asked it is as it was.
     ensures stays { was_asked result ≡ false → desk.new ≡ desk.old }
 {
     let mut input = Input::new(reader);
@@ -50,16 +59,23 @@ pub fn serve_one<R: Read, W: Write, D: Desk>(
 }
 
 // Serves the connection of this input and output.
-fn serve<R: Read, W: Write, D: Desk>(
+#[tactic(auto, using(crate::proofs::ReadsLaws::spending))]
+fn serve<R: Source, W: Sink, D: Desk>(
     alloc: Global,
     input: &mut Input<'_, R>,
     output: &mut Output<'_, W>,
     desk: &mut D,
 ) -> Result<Served, LinkFault>
     ensures falls { D.clean desk.new → D.clean desk.old }
-    ensures served { IsConnection (D.clean desk.new) (D.stands desk.old) (D.stands desk.new) (R.remaining input.old.reader.now) (R.remaining input.new.reader.now)
+    ensures served { IsConnection (D.clean desk.new) (D.stands desk.old) (D.stands desk.new)
+        (R.remaining input.old.reader.now) (R.remaining input.new.reader.now)
         (W.contents output.old.writer.now) (W.contents output.new.writer.now) result }
     ensures stays { was_asked result ≡ false → desk.new ≡ desk.old }
+    ensures spends { Spends R.reads input.old.reader.now input.old.reads input.new.reader.now
+        input.new.reads }
+    ensures ended { IfErr result
+        (λ fault. MayEnd R.reads fault input.new.reader.now input.new.reads) }
+    ensures flushed { OnOk result (WasFlushed W.flushes output.new.writer.now) }
     ensures same_input { input.new.reader.ghost_name ≡ input.old.reader.ghost_name }
     ensures retries { output.new.retries ≤ output.old.retries }
     ensures same_output { output.new.writer.ghost_name ≡ output.old.writer.ghost_name }
@@ -76,15 +92,21 @@ fn serve<R: Read, W: Write, D: Desk>(
     }
 }
 
-// Reads a request, and gives its demand, or why it asks nothing.
-fn take<R: Read, W: Write, D: Desk>(
+// Reads a request, as far as what it asks of the register, or why it asks nothing.
+#[tactic(auto, using(crate::proofs::ReadsLaws::spending))]
+fn take<R: Source, W: Sink, D: Desk>(
     alloc: Global,
     input: &mut Input<'_, R>,
     output: &mut Output<'_, W>,
     desk: &D,
 ) -> Result<Demand, Unasked>
-    ensures taken { HasTaken (D.stands desk.now) (R.remaining input.old.reader.now) (R.remaining input.new.reader.now)
-        (W.contents output.old.writer.now) (W.contents output.new.writer.now) result }
+    ensures taken { HasTaken (D.stands desk.now) (R.remaining input.old.reader.now)
+        (R.remaining input.new.reader.now) (W.contents output.old.writer.now)
+        (W.contents output.new.writer.now) result }
+    ensures spends { Spends R.reads input.old.reader.now input.old.reads input.new.reader.now
+        input.new.reads }
+    ensures ended { IfErr result
+        (λ unasked. MayEndAsking R.reads unasked input.new.reader.now input.new.reads) }
     ensures same_input { input.new.reader.ghost_name ≡ input.old.reader.ghost_name }
     ensures retries { output.new.retries ≤ output.old.retries }
     ensures same_output { output.new.writer.ghost_name ≡ output.old.writer.ghost_name }
@@ -99,15 +121,17 @@ fn take<R: Read, W: Write, D: Desk>(
 }
 
 // Writes the interim reply, if it is due.
-fn invite<W: Write>(
+fn invite<W: Sink>(
     received: &Received,
     plan: &Plan<'_>,
     output: &mut Output<'_, W>,
 ) -> Result<(), LinkFault>
-    ensures ok { OnOk result (Appends
-        (W.contents output.old.writer.now) (W.contents output.new.writer.now) (continue_if (due plan.now.length received.now.0))) }
-    ensures err { IfErr result (λ fault. (fault ≡ LinkFault.WriteFailed false) × (due plan.now.length received.now.0 ≡ true)
-        × AppendsFront (W.contents output.old.writer.now) (W.contents output.new.writer.now) continue_reply) }
+    ensures ok { OnOk result (Appends (W.contents output.old.writer.now)
+        (W.contents output.new.writer.now) (continue_if (due plan.now.length received.now.0))) }
+    ensures err { IfErr result (λ fault. (fault ≡ LinkFault.WriteFailed false)
+        × (due plan.now.length received.now.0 ≡ true)
+        × AppendsFront (W.contents output.old.writer.now) (W.contents output.new.writer.now)
+        continue_reply) }
     ensures retries { output.new.retries ≤ output.old.retries }
     ensures same { output.new.writer.ghost_name ≡ output.old.writer.ghost_name }
 {
@@ -139,16 +163,17 @@ fn expects_continue(mut values: Values<'_>) -> bool
     false
 }
 
-// Deals with the demand, and writes the reply.
-fn answer<W: Write, D: Desk>(
+// Deals with what is asked, and writes the reply.
+fn answer<W: Sink, D: Desk>(
     alloc: Global,
     demand: &Demand,
     output: &mut Output<'_, W>,
     desk: &mut D,
 ) -> Result<Served, LinkFault>
     ensures falls { D.clean desk.new → D.clean desk.old }
-    ensures answered { HasAnswered (D.clean desk.new) (D.stands desk.old) (D.stands desk.new) demand.now
-        (W.contents output.old.writer.now) (W.contents output.new.writer.now) result }
+    ensures answered { HasAnswered (D.clean desk.new) (D.stands desk.old) (D.stands desk.new)
+        demand.now (W.contents output.old.writer.now) (W.contents output.new.writer.now) result }
+    ensures flushed { OnOk result (WasFlushed W.flushes output.new.writer.now) }
     ensures retries { output.new.retries ≤ output.old.retries }
     ensures same { output.new.writer.ghost_name ≡ output.old.writer.ghost_name }
 {
@@ -156,13 +181,17 @@ fn answer<W: Write, D: Desk>(
 }
 
 // Writes a reply, if there was memory for it.
-fn send<W: Write>(
+fn send<W: Sink>(
     reply: Result<ReplyText, NoMemory>,
     output: &mut Output<'_, W>,
     asked: bool,
 ) -> Result<Served, LinkFault>
-    ensures sent { IfOk reply (λ r. HasSent r asked (W.contents output.old.writer.now) (W.contents output.new.writer.now) result) }
-    ensures none { OnErr reply ((result ≡ Err (LinkFault.NoMemory asked)) × (W.contents output.new.writer.now ≡ W.contents output.old.writer.now)) }
+    ensures sent { IfOk reply (λ r.
+        HasSent r asked (W.contents output.old.writer.now) (W.contents output.new.writer.now)
+        result) }
+    ensures none { OnErr reply ((result ≡ Err (LinkFault.NoMemory asked))
+        × (W.contents output.new.writer.now ≡ W.contents output.old.writer.now)) }
+    ensures flushed { OnOk result (WasFlushed W.flushes output.new.writer.now) }
     ensures retries { output.new.retries ≤ output.old.retries }
     ensures same { output.new.writer.ghost_name ≡ output.old.writer.ghost_name }
 {
@@ -174,11 +203,14 @@ fn send<W: Write>(
     })
 }
 
-// Writes all the bytes and flushes the writer, or gives the fault.
-fn write<W: Write>(bytes: &[u8], output: &mut Output<'_, W>, asked: bool) -> Result<(), LinkFault>
-    ensures ok { OnOk result (Appends (W.contents output.old.writer.now) (W.contents output.new.writer.now) bytes.now) }
+// Writes all the bytes, and hands them on.
+fn write<W: Sink>(bytes: &[u8], output: &mut Output<'_, W>, asked: bool) -> Result<(), LinkFault>
+    ensures ok { OnOk result (Appends (W.contents output.old.writer.now)
+        (W.contents output.new.writer.now) bytes.now) }
     ensures err { IfErr result (λ fault. (fault ≡ LinkFault.WriteFailed asked)
-        × AppendsFront (W.contents output.old.writer.now) (W.contents output.new.writer.now) bytes.now) }
+        × AppendsFront (W.contents output.old.writer.now) (W.contents output.new.writer.now)
+        bytes.now) }
+    ensures flushed { OnOk result (WasFlushed W.flushes output.new.writer.now) }
     ensures retries { output.new.retries ≤ output.old.retries }
     ensures same { output.new.writer.ghost_name ≡ output.old.writer.ghost_name }
 {
@@ -188,10 +220,13 @@ fn write<W: Write>(bytes: &[u8], output: &mut Output<'_, W>, asked: bool) -> Res
     }
 }
 
-// Writes all the bytes and flushes the writer.
-fn write_out<W: Write>(bytes: &[u8], output: &mut Output<'_, W>) -> Result<(), WriteFailed>
-    ensures ok { OnOk result (Appends (W.contents output.old.writer.now) (W.contents output.new.writer.now) bytes.now) }
-    ensures err { OnErr result (AppendsFront (W.contents output.old.writer.now) (W.contents output.new.writer.now) bytes.now) }
+// Writes all the bytes, and hands them on.
+fn write_out<W: Sink>(bytes: &[u8], output: &mut Output<'_, W>) -> Result<(), WriteFailed>
+    ensures ok { OnOk result (Appends (W.contents output.old.writer.now)
+        (W.contents output.new.writer.now) bytes.now) }
+    ensures err { OnErr result (AppendsFront (W.contents output.old.writer.now)
+        (W.contents output.new.writer.now) bytes.now) }
+    ensures flushed { OnOk result (WasFlushed W.flushes output.new.writer.now) }
     ensures retries { output.new.retries ≤ output.old.retries }
     ensures same { output.new.writer.ghost_name ≡ output.old.writer.ghost_name }
 {

@@ -87,7 +87,8 @@ impl Layout {
     /// there are 64, `OutOfPayload` where one of its bits lies past the payload, `BitTaken` with the
     /// least bit that a signal uses and that signal's name; the first of these that applies.
     pub fn admits(&self, signal: &Signal) -> Result<(), Refusal>
-        ensures { MatchResult result (λ _. IsOk (add_signal self.now signal.now)) (λ e. add_signal self.now signal.now ≡ Err e) }
+        ensures { MatchResult result (λ _. IsOk (add_signal self.now signal.now))
+            (λ e. add_signal self.now signal.now ≡ Err e) }
     {
         if has_signal(&self.signals, signal.name()) {
             return Err(Refusal::Exists);
@@ -105,7 +106,9 @@ impl Layout {
     /// refusal changes nothing.
     pub fn add(&mut self, signal: Signal) -> Result<(), Refusal>
         ensures ok { OnOk result (add_signal self.old signal ≡ Ok self.new) }
-        ensures refused { IfErr result (λ e. MatchResult (add_signal self.old signal) (λ _. e ≡ Unavailable) (λ first. e ≡ first)) }
+        ensures refused { IfErr result
+            (λ e. MatchResult (add_signal self.old signal) (λ _. e ≡ Unavailable)
+            (λ first. e ≡ first)) }
         ensures err { OnErr result (self.new ≡ self.old) }
     {
         self.admits(&signal)?;
@@ -121,7 +124,8 @@ impl Layout {
     /// Removes the signal of this name, or refuses with `NoSignal`, which changes nothing.
     pub fn remove(&mut self, name: Name) -> Result<(), Refusal>
         ensures ok { OnOk result (remove_signal self.old name ≡ Ok self.new) }
-        ensures err { IfErr result (λ e. (remove_signal self.old name ≡ Err e) × (self.new ≡ self.old)) }
+        ensures err { IfErr result (λ e. (remove_signal self.old name ≡ Err e)
+            × (self.new ≡ self.old)) }
     {
         match index_of(&self.signals, name) {
             None => Err(Refusal::NoSignal),
@@ -137,7 +141,8 @@ impl Layout {
     /// than its signal; `NoMemory` where memory is refused.
     pub fn pack(&self, alloc: Global, values: &[u64]) -> Result<Vec<u8>, PackFault>
         ensures bytes { IfOk result (λ bytes. packed self.now values.now ≡ Ok bytes.items) }
-        ensures fault { IfErr result (λ fault. FailsAs NoMemory fault (packed self.now values.now)) }
+        ensures fault { IfErr result
+            (λ fault. FailsAs NoMemory fault (packed self.now values.now)) }
     {
         if values.len() != self.signals.len() {
             return Err(PackFault::WrongCount);
@@ -152,7 +157,8 @@ impl Layout {
     /// the layout's number of bytes; `NoMemory` where memory is refused.
     pub fn unpack(&self, alloc: Global, bytes: &[u8]) -> Result<Vec<u64>, PackFault>
         ensures values { IfOk result (λ values. unpacked self.now bytes.now ≡ Ok values.items) }
-        ensures fault { IfErr result (λ fault. FailsAs NoMemory fault (unpacked self.now bytes.now)) }
+        ensures fault { IfErr result
+            (λ fault. FailsAs NoMemory fault (unpacked self.now bytes.now)) }
     {
         if bytes.len() != 2 * self.words as usize {
             return Err(PackFault::WrongLength);
@@ -163,7 +169,8 @@ impl Layout {
     /// Refuses the signal, which lies inside the payload, where one of its bits is used.
     fn first_taken(&self, signal: Signal) -> Result<(), Refusal>
         requires { IsTrue (lies_inside self.now.words signal) }
-        ensures { MatchResult result (λ _. first_taken_bit self.now signal ≡ None) (λ e. bit_taken (first_taken_bit self.now signal) ≡ Err e) }
+        ensures { MatchResult result (λ _. first_taken_bit self.now signal ≡ None)
+            (λ e. bit_taken (first_taken_bit self.now signal) ≡ Err e) }
     {
         match least_taken(&self.signals, signal) {
             None => Ok(()),

@@ -4,7 +4,6 @@ use Rattle.std.proofs.Common.{◌≡◌, Ok, IfOk, IsTrue, refl, subst}
 use Rattle.std.specs.Prelude.{⊤}
 use Rattle.fr_base.specs.Book.{Book}
 use Rattle.fr_base.specs.Checks.{asking, channel, check, key, name, parent_name, placement, query, signal, slot}
-use Rattle.fr_base.specs.Cluster.{Cluster}
 use Rattle.fr_base.specs.Step.{knows}
 use Rattle.fr_base.specs.declared.actor.Actor.{Actor}
 use Rattle.fr_base.specs.declared.actor.Actor.TheVariants.{Integrator, Supplier}
@@ -23,8 +22,7 @@ use Rattle.fr_base.specs.declared.request.FrameChange.TheVariants.{Add, Drop, Pl
 use Rattle.fr_base.proofs.SoundChecks.{HasForm, IsFormed, IsFormedChange, IsFormedFrame, check-form}
 use Rattle.fr_world.specs.Decisions.{IsChecked}
 use Rattle.fr_base.proofs.SoundRefusing.{gives_bind, gives_each, gives_when}
-use Rattle.fr_office.specs.Decided.{FromKnown, IsCheckedCommand, IsOfKnown, IsOwnChange, IsOwnCommand}
-use Rattle.fr_world.specs.Held.{Standing}
+use Rattle.fr_office.specs.Decided.{IsCheckedCommand, IsOfKnown, IsOwnChange, IsOwnCommand}
 
 -- a change of the right form is checked
 frame-checked : (p : Params) (f : Name) (change : FrameChange) → IsFormedFrame p f change → IsChecked p (Frame f change)
@@ -135,14 +133,7 @@ pub command-own : (p : Params) (actor : Actor) (request : Request) (command : Co
 command-own p actor request command said = subst (λ r. IfOk r (IsOwn actor)) said (check-own p actor request)
 
 -- a supplier that is known changes its own frames
-of-known : (b : Book) (actor : Actor) (s : Name) (change : Change) → IsOwnChange actor s change → IsTrue (knows b actor) → IsOfKnown b s change
+pub of-known : (b : Book) (actor : Actor) (s : Name) (change : Change) → IsOwnChange actor s change → IsTrue (knows b actor) → IsOfKnown b s change
 of-known b actor s (Grant k c n) own known = tt
 of-known b actor s (Revoke k c) own known = tt
 of-known b actor s (Frame f change) own known = subst (λ a. IsTrue (knows b a)) own known
-
-pub from-known : (stands : Standing) (actor : Actor) (command : Command) → IsOwnCommand actor command → ((c : Cluster) (b : Book) → stands c b → IsTrue (knows b actor)) → FromKnown stands command
-from-known stands actor (Common command) own known = tt
-from-known stands actor (AddSupplier s key) own known = tt
-from-known stands actor (SetKey s key) own known = tt
-from-known stands actor (AddNode s n) own known = tt
-from-known stands actor (Rows s v change) own known = λ c b stood. of-known b actor s change own (known c b stood)

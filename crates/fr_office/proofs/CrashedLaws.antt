@@ -1,6 +1,6 @@
 -- A crash leaves what was answered.
 use Rattle.std.specs.Bool.{⊤}
-use Rattle.std.proofs.Common.{◌≡◌, ◌≢◌, ◌⊎◌, ◌∙◌, inl, inr, List, [], ◌∷◌, ◌++◌, refl, sym, ap, subst}
+use Rattle.std.proofs.Common.{◌≡◌, ◌⊎◌, ◌∙◌, inl, inr, List, [], ◌∷◌, ◌++◌, refl, sym, ap, subst}
 use Rattle.fr_base.specs.Book.{Book}
 use Rattle.fr_base.specs.Cluster.{Cluster}
 use Rattle.fr_base.specs.Run.{IsRun}
@@ -14,7 +14,7 @@ use Rattle.fr_base.specs.declared.request.Ask.{Ask}
 use Rattle.fr_base.specs.declared.request.Request.{Request}
 use Rattle.fr_base.proofs.SoundLaws.{run-sound}
 use Rattle.fr_office.specs.Answering.{Answers, AfterChange, KeepsChange, LeavesStep, WhereChanged}
-use Rattle.fr_office.specs.Crashed.{IsTurn, WereAsked, NoneDone, WasLacking, IsOrNext, IsNear, EachBook, IsKept, WereKept, KeepsAnswered, IsFound}
+use Rattle.fr_office.specs.Crashed.{IsTurn, WereAsked, NoneDone, TellsNoChange, WasLacking, WasNotDone, IsOrNext, IsNear, EachBook, IsKept, WereKept, KeepsAnswered, IsFound}
 use Rattle.fr_office.proofs.DoneLaws.{changes, step-quiet}
 use Rattle.fr_office.proofs.RunLaws.{run_more, were_answered}
 use Rattle.fr_world.specs.Held.{Leaving, Standing}
@@ -41,16 +41,16 @@ keeps_change old new left serves ask answer settled answers opened c b stood sou
 
 -- a step that was answered led to what is kept, or changed nothing
 led : (c : Cluster) (b : Book) (actor : Actor) (request : Request) (answer : Answer) (P : Type 0) → answer ≡ (step c b actor request).answer → WhereChanged b (step c b actor request).book answer P
-    → P ⊎ ((answer ≢ Done) × ((step c b actor request).book ≡ b))
+    → P ⊎ (TellsNoChange answer × ((step c b actor request).book ≡ b))
 led c b actor request Done P is kept = inl kept
-led c b actor request (Imported n) P is kept = elim kept [ inl same ↦ inr (λ done. absurd cc, same) | inr p ↦ inl p ]
+led c b actor request (Imported n) P is kept = elim kept [ inl same ↦ inr (tt, same) | inr p ↦ inl p ]
 led c b actor request (Replaced n) P is kept = inl kept
-led c b actor request (Report all rows) P is kept = inr (λ done. absurd cc, step-quiet c b actor request (ap changes (sym is)))
-led c b actor request (Refused e) P is kept = inr (λ done. absurd cc, step-quiet c b actor request (ap changes (sym is)))
-led c b actor request (RefusedRow line e) P is kept = inr (λ done. absurd cc, step-quiet c b actor request (ap changes (sym is)))
+led c b actor request (Report all rows) P is kept = inr (tt, step-quiet c b actor request (ap changes (sym is)))
+led c b actor request (Refused e) P is kept = inr (tt, step-quiet c b actor request (ap changes (sym is)))
+led c b actor request (RefusedRow line e) P is kept = inr (tt, step-quiet c b actor request (ap changes (sym is)))
 
-not_done : (answer : Answer) → answer ≡ Refused Unavailable → answer ≢ Done
-not_done answer lacked = λ done. absurd cc
+not_done : (c : Cluster) (b : Book) (ask : Ask) (answer : Answer) → answer ≡ Refused Unavailable → WasNotDone c b ask answer
+not_done c b ask answer lacked = (subst TellsNoChange (sym lacked) tt, inl lacked)
 
 -- ---- the book, or the one after one request more
 
@@ -132,9 +132,9 @@ module _ {R : Type 0} (stands : R → Standing) (leaves : R → Leaving) where
         let rest = asked_run a.0 asked.0 last asks answers asked.2 a.1 (run-sound c b a.0 (ask ∷ []) (answer ∷ []) sound a.2) in
         (rest.0, rest.1, run_from c b a.0 rest.0 ask answer asks answers a.2 rest.2)
 
-    -- requests that were lacking before, where none was answered Done since, or that were lacking then
-    abbrev Since : (Ask → Type 0) → List Ask → List Answer → Ask → Type 0
-    Since Was asks answers ask = (Was ask × NoneDone answers) ⊎ WasLacking asks answers ask
+    -- requests that were lacking before, where none was carried out since, or that were lacking then
+    abbrev Since : (Ask → Type 0) → Book → List Ask → List Answer → Ask → Type 0
+    Since Was b asks answers ask = (Was ask × NoneDone c b asks answers) ⊎ WasLacking c b asks answers ask
 
     record Kept (Was : Ask → Type 0) (b : Book) (last : R) (asks : List Ask) (answers : List Answer) : Type 0 where
       book : Book
@@ -142,23 +142,26 @@ module _ {R : Type 0} (stands : R → Standing) (leaves : R → Leaving) where
       run : IsRun c b asks answers book
       books : List Book
       left : leaves last c books
-      each : EachBook (IsOrNext c (Since Was asks answers) book) books
+      each : EachBook (IsOrNext c (Since Was b asks answers) book) books
 
     -- the first of the requests may be lacking
     abbrev WasOr : (Ask → Type 0) → Ask → Answer → Ask → Type 0
     WasOr Was first answer ask = Was ask ⊎ ((ask ≡ first) × (answer ≡ Refused Unavailable))
 
-    go_on : (Was : Ask → Type 0) (b mid : Book) (last : R) (ask : Ask) (answer : Answer) (asks : List Ask) (answers : List Answer) → IsRun c b (ask ∷ []) (answer ∷ []) mid → answer ≢ Done
-        → Kept (WasOr Was ask answer) mid last asks answers → Kept Was b last (ask ∷ asks) (answer ∷ answers)
-    go_on Was b mid last ask answer asks answers first other rest = record {
+    go_on : (Was : Ask → Type 0) (b mid : Book) (last : R) (ask : Ask) (answer : Answer) (asks : List Ask) (answers : List Answer) → IsRun c b (ask ∷ []) (answer ∷ []) mid
+        → WasNotDone c b ask answer → mid ≡ b → Kept (WasOr Was ask answer) mid last asks answers → Kept Was b last (ask ∷ asks) (answer ∷ answers)
+    go_on Was b mid last ask answer asks answers first other same rest = record {
       book = rest.book;
       stood = rest.stood;
       run = run_from c b mid rest.book ask answer asks answers first rest.run;
       books = rest.books;
       left = rest.left;
-      each = each_so _ _ rest.books (λ x near. next_so c (Since (WasOr Was ask answer) asks answers) (Since Was (ask ∷ asks) (answer ∷ answers)) rest.book x (λ k since. elim since [
-        | inl was ↦ elim was.0 [ inl before ↦ inl (before, (other, was.1)) | inr now ↦ inr (inl (now.0, now.1, was.1)) ]
-        | inr later ↦ inr (inr later)
+      each = each_so _ _ rest.books (λ x near. next_so c (Since (WasOr Was ask answer) mid asks answers) (Since Was b (ask ∷ asks) (answer ∷ answers)) rest.book x (λ k since. elim since [
+        | inl was ↦ elim was.0 [
+          | inl before ↦ inl (before, (other, subst (λ (book : Book). NoneDone c book asks answers) same was.1))
+          | inr now ↦ inr (mid, first, inl (now.0, now.1, was.1))
+        ]
+        | inr later ↦ inr (mid, first, inr later)
       ]) near) rest.each;
     }
 
@@ -171,9 +174,9 @@ module _ {R : Type 0} (stands : R → Standing) (leaves : R → Leaving) where
       run = run_from c b mid rest.book ask answer asks answers first rest.run;
       books = rest.books;
       left = rest.left;
-      each = each_so _ _ rest.books (λ x near. next_so c (Since (λ _. ⊥) asks answers) (Since Was (ask ∷ asks) (answer ∷ answers)) rest.book x (λ k since. elim since [
+      each = each_so _ _ rest.books (λ x near. next_so c (Since (λ _. ⊥) mid asks answers) (Since Was b (ask ∷ asks) (answer ∷ answers)) rest.book x (λ k since. elim since [
         | inl was ↦ absurd was.0
-        | inr later ↦ inr (inr later)
+        | inr later ↦ inr (mid, first, inr later)
       ]) near) rest.each;
     }
 
@@ -196,7 +199,7 @@ module _ {R : Type 0} (stands : R → Standing) (leaves : R → Leaving) where
       run = refl;
       books = books;
       left = subst (λ r. leaves r c books) (sym asked) left;
-      each = each_so _ _ books (λ x near. next_so c Was (Since Was [] []) b x (λ k was. inl (was, tt)) near) each;
+      each = each_so _ _ books (λ x near. next_so c Was (Since Was b [] []) b x (λ k was. inl (was, tt)) near) each;
     }
     kept_by Was b first last [] (a ∷ answers) books asked stood sound left each = absurd asked
     kept_by Was b first last (ask ∷ asks) [] books asked stood sound left each = absurd asked
@@ -206,14 +209,14 @@ module _ {R : Type 0} (stands : R → Standing) (leaves : R → Leaving) where
         let after = (step c b ask.actor ask.request).book in elim a.2 [
           | inl lacked ↦
               let found = with_step Was b a.0 asked.0 ask answer books lacked.2 (inr (ask, inr (refl, lacked.1), refl)) each (asked.1.left c b books stood sound left) in
-              go_on Was b a.0 last ask answer asks answers a.2 (not_done answer lacked.1)
+              go_on Was b a.0 last ask answer asks answers a.2 (not_done c b ask answer lacked.1) lacked.2
               (kept_by (WasOr Was ask answer) a.0 asked.0 last asks answers found.0 asked.2 a.1 next found.1 found.2)
           | inr ran ↦ elim (led c b ask.actor ask.request answer (leaves asked.0 c (after ∷ [])) ran.0 (asked.1.keeps c b stood sound)) [
             | inl kept ↦ afresh Was b a.0 last ask answer asks answers a.2 (kept_by (λ _. ⊥) a.0 asked.0 last asks answers (after ∷ []) asked.2 a.1 next kept (inl (sym ran.1), tt))
             | inr still ↦
                 let same : a.0 ≡ b = subst (λ k. a.0 ≡ k) still.1 ran.1 in
                 let found = with_step Was b a.0 asked.0 ask answer books same (inl still.1) each (asked.1.left c b books stood sound left) in
-                go_on Was b a.0 last ask answer asks answers a.2 still.0 (kept_by (WasOr Was ask answer) a.0 asked.0 last asks answers found.0 asked.2 a.1 next found.1 found.2)
+                go_on Was b a.0 last ask answer asks answers a.2 (still.0, inr still.1) same (kept_by (WasOr Was ask answer) a.0 asked.0 last asks answers found.0 asked.2 a.1 next found.1 found.2)
           ]
         ]
 
@@ -227,7 +230,7 @@ module _ {R : Type 0} (stands : R → Standing) (leaves : R → Leaving) where
           run = k.run;
           books = k.books;
           left = k.left;
-          each = each_so _ _ k.books (λ x near. next_so c (Since (λ _. ⊥) asks answers) (WasLacking asks answers) k.book x (λ ask since. elim since [
+          each = each_so _ _ k.books (λ x near. next_so c (Since (λ _. ⊥) b asks answers) (WasLacking c b asks answers) k.book x (λ ask since. elim since [
             | inl was ↦ absurd was.0
             | inr later ↦ later
           ]) near) k.each;
@@ -239,14 +242,14 @@ pub near_kept : {now : Book → Type 0} (leaves : List Book → Type 0) (c : Clu
 near_kept leaves c b asks answers kept = record {
   books = kept.books;
   left = kept.left;
-  each = each_so _ _ kept.books (λ x near. next_so c (WasLacking asks answers) (λ _. ⊤) kept.last x (λ _ _. tt) near) kept.each;
+  each = each_so _ _ kept.books (λ x near. next_so c (WasLacking c b asks answers) (λ _. ⊤) kept.last x (λ _ _. tt) near) kept.each;
 }
 
 pub keeps_answered : {R : Type 0} (stands : R → Standing) (leaves : R → Leaving) → KeepsAnswered stands leaves
 keeps_answered stands leaves c b first last asks answers asked stood sound left = were_kept stands leaves c b first last asks answers asked stood sound left
 
 -- what is found of what was left is as promised
-pub is_found : (now : Book → Type 0) (c : Cluster) (b last x : Book) (asks : List Ask) (answers : List Answer) → IsSound c b → IsRun c b asks answers last → IsOrNext c (WasLacking asks answers) last x
+pub is_found : (now : Book → Type 0) (c : Cluster) (b last x : Book) (asks : List Ask) (answers : List Answer) → IsSound c b → IsRun c b asks answers last → IsOrNext c (WasLacking c b asks answers) last x
     → now x → IsFound now c b asks answers
 is_found now c b last x asks answers sound run (inl same) stands = inl (were_answered now c b asks answers sound (x, stands, subst (IsRun c b asks answers) (sym same) run))
 is_found now c b last x asks answers sound run (inr next) stands =

@@ -1,6 +1,7 @@
 -- Pages that follow an edit of the register: which of them are left, and that none is stale.
-use Rattle.std.proofs.Common.{◌≡◌, inl, inr, Bool, ◌&&◌, true, false, not, true≢false, List, [], ◌∷◌, All, filter, Option, Some, None, refl, sym, ap, subst, ◌∙◌}
+use Rattle.std.proofs.Common.{◌≡◌, inl, inr, Bool, ◌&&◌, ◌||◌, true, false, not, true≢false, List, [], ◌∷◌, All, filter, Option, Some, None, refl, sym, ap, subst, ◌∙◌}
 use Rattle.std.specs.Prelude.{IfSome, if◌then◌else◌}
+use Rattle.std.specs.List.{list_any}
 use Rattle.std.proofs.lemmas.List.Elements.{All-filter}
 use Rattle.fr_base.specs.Book.{Book}
 use Rattle.fr_base.specs.Cluster.{Cluster}
@@ -11,14 +12,14 @@ use Rattle.fr_base.specs.declared.params.Params.{Params}
 use Rattle.fr_base.specs.declared.request.Change.{Change}
 use Rattle.fr_base.proofs.AloneCells.{same_text-itself}
 use Rattle.fr_world.specs.BookEdits.{applied}
-use Rattle.fr_world.specs.Edits.{IsOf, edited}
+use Rattle.fr_world.specs.Edits.{IsOf, all_edited, edited, releases}
 use Rattle.fr_world.specs.Fits.{Fits}
 use Rattle.fr_world.specs.Pages.{PageData, own_rows_of}
 use Rattle.fr_world.specs.declared.edit.Edit.{Edit}
 use Rattle.fr_world.specs.declared.edit.Edit.TheVariants.{NewVariant, SetReleased, NewSupplier, SetKey, NewNode, Rows, KeepImport}
 use Rattle.fr_world.specs.Held.{IsFresh}
 use Rattle.fr_office.specs.Decided.{MayTake, TakesAll, TakesEach}
-use Rattle.fr_office.specs.KeptPages.{Amends, AreFollowed, AreFresh, AreOf, KeptData, kept_where, kept_without, lent_where, none_lent, touches}
+use Rattle.fr_office.specs.KeptPages.{Amends, AreFollowed, AreFresh, AreOf, FollowsAll, KeptData, kept_where, kept_without, lent_where, none_lent, touches}
 use Rattle.fr_office.proofs.FreshLaws.{all_untouched, amended-fresh, edited_params, fit_spares, untouched-fresh}
 
 -- ---- what each kind of edit does
@@ -92,6 +93,26 @@ untouched-rows page (Rows s v what) other takes =
     absurd (true≢false (sym (own-touched page (Rows s v what) takes.own) ∙ other))
 untouched-rows page (KeepImport s label v body rows) other takes = refl
 
+-- and it does not release the variant
+untouched-releases : (page : PageData) (edit : Edit) → touches edit page ≡ false → MayTake page.variant (own_rows_of page) edit → releases edit ≡ false
+untouched-releases page (NewVariant v parent depth) other takes = refl
+untouched-releases page (SetReleased v) other takes = absurd (named-itself v page.variant takes.own other)
+untouched-releases page (NewSupplier s key) other takes = refl
+untouched-releases page (SetKey s key) other takes = refl
+untouched-releases page (NewNode s n) other takes = refl
+untouched-releases page (Rows s v what) other takes = refl
+untouched-releases page (KeepImport s label v body rows) other takes = refl
+
+or-moved : (a b c : Bool) → (b || (a || c)) ≡ ((a || b) || c)
+or-moved true true c = refl
+or-moved true false c = refl
+or-moved false b c = refl
+
+-- where there is no edit, the same page is lent
+pub all-followed : (lent : Option PageData) → FollowsAll [] lent lent
+all-followed None = refl
+all-followed (Some page) = record { rows = refl; supplier = refl; variant = refl; released = refl }
+
 module _ (edit : Edit) (old new : KeptData) (followed : AreFollowed edit old new) where
   left_recent : new.recent ≡ filter (λ page. not (touches edit page)) old.recent
   left_recent = ap (λ (k : KeptData). k.recent) followed.others
@@ -110,6 +131,37 @@ module _ (edit : Edit) (old new : KeptData) (followed : AreFollowed edit old new
       next (Some page) (Some now) lent takes = elim lent [
         | inl made ↦ subst (λ v. TakesEach v (own_rows_of now) edits) (sym made.variant) (subst (λ (rows : OwnRows). TakesEach page.variant rows edits) (sym made.rows) takes.1)
         | inr same ↦ subst (λ page. TakesAll page edits) (sym same.1) (subst (λ (rows : OwnRows). TakesEach page.variant rows edits) (untouched-rows page edit same.0 takes.0) takes.1)
+      ]
+
+  -- the page that is lent after it and those behind it
+  pub next_lent : (edits : List Edit) → IfSome old.lent (λ page. TakesAll page (edit ∷ edits)) → (last : Option PageData) → FollowsAll edits new.lent last → FollowsAll (edit ∷ edits) old.lent last
+  next_lent edits takes last = next old.lent new.lent last followed.lent takes
+    where
+      next : (o n l : Option PageData) → Amends edit o n → IfSome o (λ page. TakesAll page (edit ∷ edits)) → FollowsAll edits n l → FollowsAll (edit ∷ edits) o l
+      next None None l lent takes is = is
+      next None (Some now) l lent takes is = absurd lent
+      next (Some page) None l lent takes is =
+          subst (FollowsAll (edit ∷ edits) (Some page)) (sym is) (ap (λ b. b || list_any (λ e. touches e page) edits) lent)
+      next (Some page) (Some now) None lent takes is = elim lent [
+        | inl made ↦ ap (λ b. b || list_any (λ e. touches e page) edits) (own-touched page edit made.own)
+        | inr same ↦ ap (λ b. b || list_any (λ e. touches e page) edits) same.0 ∙ subst (λ p. FollowsAll edits (Some p) None) same.1 is
+      ]
+      next (Some page) (Some now) (Some l) lent takes is = elim lent [
+        | inl made ↦ record {
+          rows = is.rows ∙ ap (λ (rows : OwnRows). all_edited rows edits) made.rows;
+          supplier = is.supplier ∙ made.supplier;
+          variant = is.variant ∙ made.variant;
+          released = is.released ∙ ap (λ b. list_any releases edits || b) made.released ∙ or-moved (releases edit) (list_any releases edits) page.released;
+        }
+        | inr same ↦ (
+            let left = subst (λ p. FollowsAll edits (Some p) (Some l)) same.1 is in
+            record {
+              rows = left.rows ∙ ap (λ (rows : OwnRows). all_edited rows edits) (sym (untouched-rows page edit same.0 takes.0));
+              supplier = left.supplier;
+              variant = left.variant;
+              released = left.released ∙ ap (λ b. (b || list_any releases edits) || page.released) (sym (untouched-releases page edit same.0 takes.0));
+            }
+            )
       ]
 
   -- they have the same parameters

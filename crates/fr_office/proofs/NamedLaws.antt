@@ -1,23 +1,23 @@
 -- A page's frame of a name, looked up in its map.
-use Rattle.std.proofs.Common.{◌≡◌, Bool, true, false, not, cond, List, [], ◌∷◌, map, filter, length, Option, Some, None, refl, sym, ap, subst, ◌∙◌, append-nil, inl, inr, Less}
+use Rattle.std.proofs.Common.{◌≡◌, Bool, true, false, not, cond, List, [], ◌∷◌, map, filter, length, Option, Some, None, refl, sym, ap, subst, ◌∙◌, append-nil, Less}
 use Rattle.std.specs.Prelude.{◌==◌}
 use Rattle.std.specs.BTreeMap.{is_at}
 use Rattle.std.specs.List.{flat_map, AllByRecursion}
 use Rattle.std.specs.List.Sorted.{IsStrictlySortedBy}
 use Rattle.std.specs.Map.{keys_of, lookup}
 use Rattle.std.specs.Ordering.{is_eq}
-use Rattle.std.proofs.lemmas.Bool.{cases_Bool}
+use Rattle.std.specs.Cmp.Lexicographic.{nat_list_cmp_total}
+use Rattle.std.proofs.lemmas.Cmp.{eq_by_cmp_equiv}
 use Rattle.std.proofs.lemmas.Map.Text.{is_eq-slice_cmp}
 use Rattle.fr_base.specs.Names.{same_text}
 use Rattle.fr_base.specs.Queries.{named, signals_of, signal_rows}
 use Rattle.fr_base.specs.Tables.{len, only}
 use Rattle.fr_base.specs.declared.name.Name.{Name}
-use Rattle.fr_base.proofs.AloneCells.{same_text-itself}
 use Rattle.fr_base.proofs.SoundRows.{same_text-is}
 use Rattle.fr_base.specs.Keys.{names}
 use Rattle.fr_world.specs.Pages.{IsKept, PageData, frames_data, own_rows_of}
 use Rattle.fr_world.specs.declared.page.PageFrame.{PageFrame}
-use Rattle.fr_world.proofs.KeyLaws.{name_cmp}
+use Rattle.fr_world.proofs.KeyLaws.{keys-frames_data, name_cmp}
 use Rattle.fr_office.proofs.PageRows.{FrameEntry, entry, rows-page}
 
 -- what was found, as the rows of the register
@@ -29,30 +29,14 @@ module _ (s n : Name) where
   abbrev is_named : FrameEntry → Bool
   is_named e = same_text e.0.1 n
 
-  -- names that are above it are others
-  other : (y : Name) → name_cmp n y ≡ Less → same_text y n ≡ false
-  other y less = elim (cases_Bool (same_text y n)) [
-    | inl same ↦
-        let e : y ≡ n = same_text-is y n same in
-        let tied : is_eq (name_cmp n n) ≡ true = is_eq-slice_cmp n n ∙ same_text-itself n in
-        let low : name_cmp n n ≡ Less = ap (name_cmp n) (sym e) ∙ less in
-        let no : false ≡ true = sym (ap is_eq low) ∙ tied in
-        cc
-    | inr differs ↦ differs
-  ]
+  -- the rows' test of a name is that of a look-up
+  tested : (y : Name) → same_text y n ≡ is_at (name_cmp n) y
+  tested y = sym (is_eq-slice_cmp y n) ∙ (eq_by_cmp_equiv nat_list_cmp_total).symm y n
 
+  -- names that are above it are others
   none_above : (es : List (Name × PageFrame)) → AllByRecursion (λ y. name_cmp n y ≡ Less) (keys_of es) → filter is_named (map (entry s) es) ≡ []
   none_above [] h = refl
-  none_above (e ∷ es) h = ap (λ b. cond b (entry s e ∷ filter is_named (map (entry s) es)) (filter is_named (map (entry s) es))) (other e.0 h.0) ∙ none_above es h.1
-
-  at_same : (y : Name) → same_text y n ≡ true → is_eq (name_cmp n y) ≡ true
-  at_same y same = is_eq-slice_cmp n y ∙ ap (same_text n) (same_text-is y n same) ∙ same_text-itself n
-
-  at_other : (y : Name) → same_text y n ≡ false → is_eq (name_cmp n y) ≡ false
-  at_other y differs = is_eq-slice_cmp n y ∙ elim (cases_Bool (same_text n y)) [
-    | inl same ↦ let no : true ≡ false = sym (same_text-itself n) ∙ ap (λ z. same_text z n) (same_text-is n y same) ∙ differs in cc
-    | inr turned ↦ turned
-  ]
+  none_above (e ∷ es) h = ap (λ b. cond b (entry s e ∷ filter is_named (map (entry s) es)) (filter is_named (map (entry s) es))) (tested e.0 ∙ ap is_eq h.0) ∙ none_above es h.1
 
   -- the rows of this name are what is found at it
   pub picked : (es : List (Name × PageFrame)) → IsStrictlySortedBy name_cmp (keys_of es) → filter is_named (map (entry s) es) ≡ found s n (lookup (is_at (name_cmp n)) es)
@@ -60,27 +44,19 @@ module _ (s n : Name) where
   picked [] h = refl
   picked (e ∷ es) h =
       let rest : List FrameEntry = filter is_named (map (entry s) es) in
-      elim (cases_Bool (same_text e.0 n)) [
-        | inl same ↦
-            let e_n : e.0 ≡ n = same_text-is e.0 n same in
-            let above : AllByRecursion (λ y. name_cmp n y ≡ Less) (keys_of es) = subst (λ x. AllByRecursion (λ y. name_cmp x y ≡ Less) (keys_of es)) e_n h.0 in
-            ap (λ b. cond b (entry s e ∷ rest) rest) same
-            ∙ (λ i. entry s (e_n i, e.1) ∷ none_above es above i)
-            ∙ ap (λ b. found s n (cond b (Some e.1) (lookup (is_at (name_cmp n)) es))) (sym (at_same e.0 same))
-        | inr differs ↦
-            ap (λ b. cond b (entry s e ∷ rest) rest) differs
-            ∙ picked es h.1
-            ∙ ap (λ b. found s n (cond b (Some e.1) (lookup (is_at (name_cmp n)) es))) (sym (at_other e.0 differs))
-      ]
-
-keys-data : (es : List (Name × PageFrame)) → keys_of (frames_data es) ≡ keys_of es
-keys-data [] = refl
-keys-data (e ∷ es) = ap (λ ks. e.0 ∷ ks) (keys-data es)
+      ap (λ b. cond b (entry s e ∷ rest) rest) (tested e.0)
+      ∙ elim (is_at (name_cmp n) e.0) as (λ b. is_at (name_cmp n) e.0 ≡ b → cond b (entry s e ∷ rest) rest ≡ found s n (cond b (Some e.1) (lookup (is_at (name_cmp n)) es))) [
+        | true ↦ λ tie.
+            let same : e.0 ≡ n = same_text-is e.0 n (tested e.0 ∙ tie) in
+            let above : AllByRecursion (λ y. name_cmp n y ≡ Less) (keys_of es) = subst (λ x. AllByRecursion (λ y. name_cmp x y ≡ Less) (keys_of es)) same h.0 in
+            λ i. entry s (same i, e.1) ∷ none_above es above i
+        | false ↦ λ other. picked es h.1
+      ] refl
 
 -- the names of a page's frames rise in their map
 frames-rise : (page : PageData) (es : List (Name × PageFrame)) → frames_data es ≡ page.frames → IsKept page → IsStrictlySortedBy name_cmp (keys_of es)
 unfolding names
-frames-rise page es e kept = subst (IsStrictlySortedBy name_cmp) (sym (ap keys_of e) ∙ keys-data es) kept.order.frames.names
+frames-rise page es e kept = subst (IsStrictlySortedBy name_cmp) (sym (ap keys_of e) ∙ keys-frames_data es) kept.order.frames.names
 
 module _ (page : PageData) (n : Name) (es : List (Name × PageFrame)) (e : frames_data es ≡ page.frames) (kept : IsKept page) where
   h : IsStrictlySortedBy name_cmp (keys_of es)

@@ -1,6 +1,6 @@
 -- What a request comes to: who asks, its check, and what is made of it.
 use Rattle.std.proofs.Common.{◌≡◌, ℕ, Bool, true, false, [], ◌∷◌, Result, Ok, Err, IfOk, refl, sym, ap, subst, ◌∙◌, inl, inr}
-use Rattle.std.specs.Prelude.{IsTrue, is_ok, ⊤}
+use Rattle.std.specs.Prelude.{IsTrue, MatchResult, is_ok, ⊤}
 use Rattle.fr_base.specs.Refusing.{◌>>=◌, ◌>>◌, refuse◌when◌}
 use Rattle.fr_base.specs.Checks.{check}
 use Rattle.fr_base.specs.Cluster.{Cluster, ClusterFile}
@@ -28,7 +28,7 @@ use Rattle.fr_base.specs.declared.request.Checked.TheVariants as checked
 use Rattle.fr_base.proofs.SoundChecks.{IsFormed, check-form}
 use Rattle.fr_base.proofs.SuppliersLaws.{contains-listed}
 use Rattle.fr_office.specs.Answering.{Acts, Answers, HasPassed, answer_of, is_known}
-use Rattle.fr_office.specs.Carried.{IsRefused, Performs, Replies}
+use Rattle.fr_office.specs.Carried.{Performs, Replies}
 use Rattle.fr_world.specs.Held.{Standing}
 use Rattle.fr_office.specs.Imports.{GivesImport}
 use Rattle.fr_office.specs.Replacements.{GivesReplacement}
@@ -107,21 +107,12 @@ module _ (now : Standing) (config : ClusterFile) (same : (c : Cluster) (b : Book
 -- ---- what is made of it
 
 module _ (old new : Standing) (actor : Actor) where
-  -- a command that was carried out
-  pub command_done : (command : Command) (r : Result ⊤ Refusal) → r ≡ Ok tt → Performs old new r (λ c b. perform c b command) → Acts old new (Ok Done) actor (checked.Command command)
-  unfolding act
-  command_done command (Ok x) is does c b stood sound known = does c b stood sound
-  command_done command (Err e) is does c b stood sound known = cc
-
-  -- one that was not
-  pub command_refused : (command : Command) (said : Result Answer Refusal) (r : Result ⊤ Refusal) (e : Refusal) → said ≡ Err e → r ≡ Err e → Performs old new r (λ c b. perform c b command)
+  -- a command that was carried out, or was not
+  pub command_acts : (command : Command) (carried : Result ⊤ Refusal) (said : Result Answer Refusal) → MatchResult carried (λ _. said ≡ Ok Done) (λ e. said ≡ Err e) → Performs old new carried (λ c b. perform c b command)
       → Acts old new said actor (checked.Command command)
   unfolding act
-  command_refused command said (Ok x) e is refused does c b stood sound known = cc
-  command_refused command (Ok a) (Err f) e is refused does c b stood sound known = cc
-  command_refused command (Err h) (Err f) e is refused does c b stood sound known =
-      let same : f ≡ h = cc in
-      subst (λ (e : Refusal). IsRefused new c b e (perform c b command)) same (does c b stood sound)
+  command_acts command (Ok x) said is does = subst (λ (r : Result Answer Refusal). Acts old new r actor (checked.Command command)) (sym is) (λ c b stood sound known. does c b stood sound)
+  command_acts command (Err e) said is refused = subst (λ (r : Result Answer Refusal). Acts old new r actor (checked.Command command)) (sym is) (λ c b stood sound known. refused c b stood sound)
 
   -- an import
   pub import_acts : (i : Import) (r : Result Answer Refusal) → actor ≡ Supplier i.supplier → GivesImport old new r i → Acts old new r actor (checked.Import i)

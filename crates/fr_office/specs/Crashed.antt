@@ -3,14 +3,14 @@
 -- register that is found afterwards is as promised. When records stand for a book that a crash
 -- leaves, or leaves after one more request.
 use Rattle.std.specs.Global.{Vec}
-use Rattle.std.specs.Prelude.{◌≡◌, ◌≢◌, ◌⊎◌, List, [], ◌∷◌, ◌++◌, length, take, Result, MatchResult, ⊤}
+use Rattle.std.specs.Prelude.{◌≡◌, ◌⊎◌, List, [], ◌∷◌, ◌++◌, length, take, Result, MatchResult, ⊤}
 use Rattle.fr_base.specs.Book.{Book}
 use Rattle.fr_base.specs.Cluster.{Cluster}
 use Rattle.fr_base.specs.Run.{IsRun}
 use Rattle.fr_base.specs.Sound.{IsSound}
 use Rattle.fr_base.specs.Step.{step}
 use Rattle.fr_base.specs.declared.answer.Answer.{Answer}
-use Rattle.fr_base.specs.declared.answer.Answer.TheVariants.{Done, Refused}
+use Rattle.fr_base.specs.declared.answer.Answer.TheVariants.{Done, Replaced, Refused}
 use Rattle.fr_base.specs.declared.refusal.Refusal.TheVariants.{Unavailable}
 use Rattle.fr_base.specs.declared.request.Ask.{Ask}
 use Rattle.fr_office.specs.Answering.{Answers, KeepsChange, LeavesStep}
@@ -40,16 +40,29 @@ AsksEach stands leaves first last asks result = MatchResult result
     (λ answers. WereAsked stands leaves first asks answers.items last)
     (λ stopped. WereAsked stands leaves first (take (length stopped.answers.items) asks) stopped.answers.items last)
 
--- None of the answers is Done.
-abbrev pub NoneDone : List Answer → Type 0
-NoneDone [] = ⊤
-NoneDone (answer ∷ answers) = (answer ≢ Done) × NoneDone answers
+-- The answer does not say that something was changed. That of an import does not: the import may have come again.
+abbrev pub TellsNoChange : Answer → Type 0
+TellsNoChange Done = ⊥
+TellsNoChange (Replaced rows) = ⊥
+TellsNoChange _ = ⊤
 
--- This request was answered Unavailable, and no request behind it was answered Done.
-abbrev pub WasLacking : List Ask → List Answer → Ask → Type 0
-WasLacking (first ∷ asks) (answer ∷ answers) ask = ((ask ≡ first) × (answer ≡ Refused Unavailable) × NoneDone answers) ⊎ WasLacking asks answers ask
-WasLacking [] answers ask = ⊥
-WasLacking asks [] ask = ⊥
+-- From this book the request was not carried out: its answer tells of no change, and it was answered Unavailable, or its step leaves the book.
+abbrev pub WasNotDone : Cluster → Book → Ask → Answer → Type 0
+WasNotDone c b ask answer = TellsNoChange answer × ((answer ≡ Refused Unavailable) ⊎ ((step c b ask.actor ask.request).book ≡ b))
+
+-- From this book, which stays, none of the requests was carried out.
+abbrev pub NoneDone : Cluster → Book → List Ask → List Answer → Type 0
+NoneDone c b (ask ∷ asks) (answer ∷ answers) = WasNotDone c b ask answer × NoneDone c b asks answers
+NoneDone c b [] [] = ⊤
+NoneDone c b [] (_ ∷ _) = ⊥
+NoneDone c b (_ ∷ _) [] = ⊥
+
+-- From this book the requests up to this one were answered so. This one was answered Unavailable, and no request behind it was carried out.
+abbrev pub WasLacking : Cluster → Book → List Ask → List Answer → Ask → Type 0
+WasLacking c b (first ∷ asks) (answer ∷ answers) ask = (next : Book) × IsRun c b (first ∷ []) (answer ∷ []) next
+    × (((ask ≡ first) × (answer ≡ Refused Unavailable) × NoneDone c next asks answers) ⊎ WasLacking c next asks answers ask)
+WasLacking c b [] answers ask = ⊥
+WasLacking c b asks [] ask = ⊥
 
 -- The book is this one, or the one after one more of these requests.
 abbrev pub IsOrNext : Cluster → (Ask → Type 0) → Book → Book → Type 0
@@ -59,15 +72,15 @@ abbrev pub EachBook : (Book → Type 0) → List Book → Type 0
 EachBook P [] = ⊤
 EachBook P (book ∷ books) = P book × EachBook P books
 
--- The requests had these answers, and the register now stands for the book to which they led. A
--- crash leaves this book, or the one after one more request, which was answered Unavailable.
+-- The requests were answered so, and the register now stands for the book to which that led. What a crash leaves is this book, or the one
+-- after one request more, which had been answered Unavailable, and behind which no other was carried out.
 pub record WereKept (now : Book → Type 0) (leaves : List Book → Type 0) (c : Cluster) (b : Book) (asks : List Ask) (answers : List Answer) : Type 0 where
   pub last : Book
   pub stands : now last
   pub run : IsRun c b asks answers last
   pub books : List Book
   pub left : leaves books
-  pub each : EachBook (IsOrNext c (WasLacking asks answers) last) books
+  pub each : EachBook (IsOrNext c (WasLacking c b asks answers) last) books
 
 -- Where the records stood for a sound book, and a crash left that book alone, this holds of all the
 -- requests; or, where memory ended, of those before.
@@ -82,12 +95,12 @@ abbrev pub KeepsAnswered : {R : Type 0} → (R → Standing) → (R → Leaving)
 KeepsAnswered {R} stands leaves = (c : Cluster) (b : Book) (first last : R) (asks : List Ask) (answers : List Answer) → WereAsked stands leaves first asks answers last → stands first c b → IsSound c b
     → leaves first c (b ∷ []) → WereKept (stands last c) (leaves last c) c b asks answers
 
--- A register that is found afterwards is as promised: for the requests as they were answered, or
--- for these and one more, which was answered Unavailable.
+-- A register that is found afterwards is as promised: of the requests as they were answered, or of these and one more, which had been
+-- answered Unavailable, and behind which no other was carried out.
 abbrev pub IsFound : (Book → Type 0) → Cluster → Book → List Ask → List Answer → Type 0
 IsFound now c b asks answers =
     WereAnswered now c b asks answers
-    ⊎ ((ask : Ask) × (answer : Answer) × WasLacking asks answers ask × WereAnswered now c b (asks ++ ask ∷ []) (answers ++ answer ∷ []))
+    ⊎ ((ask : Ask) × (answer : Answer) × WasLacking c b asks answers ask × WereAnswered now c b (asks ++ ask ∷ []) (answers ++ answer ∷ []))
 
 -- The book is the first one, or the one after one more request, whichever it was.
 abbrev pub IsNear : Cluster → Book → Book → Type 0

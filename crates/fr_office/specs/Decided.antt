@@ -79,12 +79,6 @@ abbrev pub IsOfKnown : Book → Name → Change → Type 0
 IsOfKnown b s (Frame f change) = IsTrue (contains b.suppliers s)
 IsOfKnown b s _ = ⊤
 
--- In each book for which the records stand, a supplier that changes a frame by the command is
--- there.
-abbrev pub FromKnown : Standing → Command → Type 0
-FromKnown stands (Rows s v change) = (c : Cluster) (b : Book) → stands c b → IsOfKnown b s change
-FromKnown stands _ = ⊤
-
 -- The supplier that changes a frame is the sender.
 abbrev pub IsOwnChange : Actor → Name → Change → Type 0
 IsOwnChange actor s (Frame f change) = actor ≡ Supplier s

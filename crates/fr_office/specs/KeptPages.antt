@@ -2,6 +2,7 @@
 -- counts kept beside them. Which page is found. How many bytes a page takes at most. Which pages
 -- are let go where one that was lent has no room among the others. What an edit may change.
 use Rattle.std.specs.Prelude.{◌≡◌, ◌⊎◌, ℕ, ◌+◌, ◌*◌, Bool, true, false, ◌&&◌, ◌||◌, not, if◌then◌else◌, nat_le, min, List, [], ◌∷◌, length, find, filter, sum_by, All, Option, Some, None, IfSome, ⊤}
+use Rattle.std.specs.List.{list_any}
 use Rattle.std.specs.Option.{option_or}
 use Rattle.std.specs.Ordering.{match_ordering}
 use Rattle.fr_base.specs.Book.{Variant, Book}
@@ -11,7 +12,7 @@ use Rattle.fr_base.specs.Tables.{get}
 use Rattle.fr_base.specs.declared.name.Name.{Name}
 use Rattle.fr_base.specs.declared.params.Params.{Params}
 use Rattle.fr_world.specs.BookEdits.{SparesOthers}
-use Rattle.fr_world.specs.Edits.{IsOf, edited, releases}
+use Rattle.fr_world.specs.Edits.{IsOf, all_edited, edited, releases}
 use Rattle.fr_world.specs.Pages.{IsKept, PageData, own_rows_of}
 use Rattle.fr_world.specs.Held.{IsFresh, Standing}
 use Rattle.fr_office.specs.ImportCounts.{AreCounted}
@@ -167,12 +168,26 @@ pub record IsAmended (page : PageData) (edit : Edit) (new : PageData) : Type 0 w
   pub kept : IsKept new
 
 -- The page that is lent is the one before, after the edit, or as it was where the edit leaves it.
--- No page is lent where none was, or where the edit may change the one that was.
+-- None is lent where none was; the one that was is let go only where the edit may change it.
 abbrev pub Amends : Edit → Option PageData → Option PageData → Type 0
 Amends edit None None = ⊤
 Amends edit (Some page) None = touches edit page ≡ true
 Amends edit None (Some new) = ⊥
 Amends edit (Some page) (Some new) = IsAmended page edit new ⊎ ((touches edit page ≡ false) × (new ≡ page))
+
+-- The page is the one before with the edits made in it, one after another.
+pub record HasEdits (page : PageData) (edits : List Edit) (new : PageData) : Type 0 where
+  pub rows : own_rows_of new ≡ all_edited (own_rows_of page) edits
+  pub supplier : new.supplier ≡ page.supplier
+  pub variant : new.variant ≡ page.variant
+  pub released : new.released ≡ (list_any releases edits || page.released)
+
+-- The page that is lent is the one before with the edits made in it. None is lent where none was; the
+-- one that was is let go only where an edit may change it.
+abbrev pub FollowsAll : List Edit → Option PageData → Option PageData → Type 0
+FollowsAll edits None new = new ≡ None
+FollowsAll edits (Some page) None = list_any (λ edit. touches edit page) edits ≡ true
+FollowsAll edits (Some page) (Some new) = HasEdits page edits new
 
 -- The page that is lent followed the edit. The others are those that the edit leaves as they are.
 pub record AreFollowed (edit : Edit) (old new : KeptData) : Type 0 where

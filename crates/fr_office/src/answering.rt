@@ -1,17 +1,20 @@
 //! How one request is answered: who asks, its check, and its effect.
-ghost use Rattle.std.specs.Prelude.{◌≡◌, IsTrue};
+ghost use Rattle.std.specs.Prelude.{◌≡◌, Err, IsTrue, MatchResult, Ok};
 ghost use Rattle.std.specs.List.{list_any};
 ghost use Rattle.fr_base.specs.Names.{same_text};
 ghost use Rattle.fr_base.specs.Step.{knows};
 ghost use Rattle.fr_office.specs.Answering.{Acts, AfterAct, AfterChange, Answers, HasPassed, LeavesAct, LeavesStep, is_known};
 
-use crate::commands::carry_out;
+use crate::commands::common::change_common;
+use crate::commands::nodes::add_node;
+use crate::commands::rows::change_rows;
+use crate::commands::suppliers::{add_supplier, set_key};
 use crate::imports::import;
 use crate::lender::Lender;
 use crate::queries::reply;
 use crate::replacing::replace;
 use crate::trials::try_file;
-use fr_base::{Actor, Answer, Ask, Checked, Config, Name, Refusal, Supplier, check};
+use fr_base::{Actor, Answer, Ask, Checked, Command, Config, Name, Refusal, Supplier, check};
 use fr_world::Records;
 use std::alloc::Global;
 
@@ -19,9 +22,12 @@ use std::alloc::Global;
 /// text refuses; then it is carried out, or `Unavailable`.
 pub fn answer<R: Lender>(alloc: Global, records: &mut R, ask: &Ask) -> Answer
     ensures falls { R.clean records.new → R.clean records.old }
-    ensures open { R.clean records.new → AfterChange (R.stands records.old) ask.now result (R.serves records.new) }
-    ensures leaves { R.clean records.new → LeavesStep (R.stands records.old) (R.leaves records.old) (R.leaves records.new) ask.now }
-    ensures answers { R.clean records.new → Answers (R.stands records.old) (R.stands records.new) ask.now result }
+    ensures open { R.clean records.new
+        → AfterChange (R.stands records.old) ask.now result (R.serves records.new) }
+    ensures leaves { R.clean records.new
+        → LeavesStep (R.stands records.old) (R.leaves records.old) (R.leaves records.new) ask.now }
+    ensures answers { R.clean records.new
+        → Answers (R.stands records.old) (R.stands records.new) ask.now result }
 {
     let config = records.config();
     if !is_known(config, &ask.actor) {
@@ -87,18 +93,41 @@ fn act<R: Lender>(
     requires passed { HasPassed (R.params records.old) actor.now valid.now }
     requires known { (c : _) (b : _) → R.stands records.old c b → IsTrue (knows b actor.now) }
     ensures falls { R.clean records.new → R.clean records.old }
-    ensures open { R.clean records.new → AfterAct (R.stands records.old) valid.now result (R.serves records.new) }
-    ensures leaves { R.clean records.new → LeavesAct (R.stands records.old) (R.leaves records.old) (R.leaves records.new) actor.now valid.now }
-    ensures acts { R.clean records.new → Acts (R.stands records.old) (R.stands records.new) result actor.now valid.now }
+    ensures open { R.clean records.new
+        → AfterAct (R.stands records.old) valid.now result (R.serves records.new) }
+    ensures leaves { R.clean records.new
+        → LeavesAct (R.stands records.old) (R.leaves records.old) (R.leaves records.new) actor.now
+        valid.now }
+    ensures acts { R.clean records.new
+        → Acts (R.stands records.old) (R.stands records.new) result actor.now valid.now }
 {
     match valid {
-        Checked::Command(command) => {
-            carry_out(alloc, records, command)?;
-            Ok(Answer::Done)
-        }
+        Checked::Command(command) => match command {
+            Command::Common(command) => done(change_common(alloc, records, command)),
+            Command::AddSupplier { supplier, key } => {
+                done(add_supplier(alloc, records, *supplier, *key))
+            }
+            Command::SetKey { supplier, key } => done(set_key(alloc, records, *supplier, *key)),
+            Command::AddNode { supplier, node } => {
+                done(add_node(alloc, records, *supplier, *node))
+            }
+            Command::Rows {
+                supplier,
+                variant,
+                change,
+            } => done(change_rows(alloc, records, *supplier, *variant, change)),
+        },
         Checked::Import(new) => import(alloc, records, new),
         Checked::Replace(new) => replace(alloc, records, new),
         Checked::Try(trial) => try_file(alloc, records, trial),
         Checked::Query(query) => reply(alloc, records, actor, query),
     }
+}
+
+// The answer to a command, as it was carried out.
+fn done(carried: Result<(), Refusal>) -> Result<Answer, Refusal>
+    ensures { MatchResult carried (λ _. result ≡ Ok Answer.Done) (λ e. result ≡ Err e) }
+{
+    carried?;
+    Ok(Answer::Done)
 }

@@ -55,14 +55,17 @@ impl ImportCounts {
 
     /// Notes how many imports the supplier keeps. Where memory is refused the count is not known.
     pub(crate) fn note(&mut self, supplier: Name, imports: usize)
-        ensures { (b : Book) → AreCounted b self.old → imports ≡ len (own supplier b.imports) → AreCounted b self.new }
+        ensures { (b : Book) → AreCounted b self.old → imports ≡ len (own supplier b.imports)
+            → AreCounted b self.new }
     {
         let _ = self.counts.push(ImportCount { supplier, imports });
     }
 
     /// Counts one more import of the supplier.
     pub(crate) fn add_one(&mut self, supplier: Name)
-        ensures { (p : Params) (b : Book) (label variant : NameText) (body : List ℕ) (rows : ℕ) → Fits p b (KeepImport supplier label variant body rows) → AreCounted b self.old → AreCounted (applied b (KeepImport supplier label variant body rows)) self.new }
+        ensures { (p : Params) (b : Book) (label variant : NameText) (body : List ℕ) (rows : ℕ)
+            → Fits p b (KeepImport supplier label variant body rows) → AreCounted b self.old
+            → AreCounted (applied b (KeepImport supplier label variant body rows)) self.new }
     {
         let Some(count) = self.take(supplier) else {
             return;

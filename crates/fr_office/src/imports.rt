@@ -26,9 +26,13 @@ pub(crate) fn import<R: Lender>(
     import: &Import<'_>,
 ) -> Result<Answer, Refusal>
     ensures falls { R.clean records.new → R.clean records.old }
-    ensures open { R.clean records.new → AfterNew (R.stands records.old) import.now result (R.serves records.new) }
-    ensures leaves { R.clean records.new → LeavesImport (R.stands records.old) (R.leaves records.old) (R.leaves records.new) import.now }
-    ensures gives { R.clean records.new → GivesImport (R.stands records.old) (R.stands records.new) result import.now }
+    ensures open { R.clean records.new
+        → AfterNew (R.stands records.old) import.now result (R.serves records.new) }
+    ensures leaves { R.clean records.new
+        → LeavesImport (R.stands records.old) (R.leaves records.old) (R.leaves records.new)
+        import.now }
+    ensures gives { R.clean records.new
+        → GivesImport (R.stands records.old) (R.stands records.new) result import.now }
 {
     if let Some(rows) = rows_kept(alloc, records, import)? {
         return Ok(Answer::Imported { rows });
@@ -46,7 +50,8 @@ fn rows_kept<R: Records>(
     import: &Import<'_>,
 ) -> Result<Option<u32>, Refusal>
     ensures reads { Reads R.clean R.params R.leaves records.old records.new }
-    ensures label { R.clean records.new → Replies (R.stands records.old) (R.stands records.new) result
+    ensures label { R.clean records.new
+        → Replies (R.stands records.old) (R.stands records.new) result
         (λ c b. label_decision (get b.imports (import.now.supplier, import.now.label)) import.now) }
 {
     let kept = records.import(alloc, import.supplier, import.label)?;
@@ -64,8 +69,13 @@ fn import_rows<R: Lender>(
     requires open { IfSome (R.lent records.old) (λ page. page.released ≡ false) }
     ensures falls { R.clean records.new → R.clean records.old }
     ensures open { R.clean records.new → OnImported result (R.serves records.new) }
-    ensures leaves { R.clean records.new → IfSome (R.lent records.old) (LeavesRows (R.stands records.old) (R.leaves records.old) (R.leaves records.new) import.now) }
-    ensures gives { R.clean records.new → IfSome (R.lent records.old) (GivesRows (R.stands records.old) (R.stands records.new) result import.now) }
+    ensures leaves { R.clean records.new
+        → IfSome (R.lent records.old)
+        (LeavesRows (R.stands records.old) (R.leaves records.old) (R.leaves records.new)
+        import.now) }
+    ensures gives { R.clean records.new
+        → IfSome (R.lent records.old)
+        (GivesRows (R.stands records.old) (R.stands records.new) result import.now) }
 {
     let page = records.lent();
     let rows = read_import(alloc, &page.params(), import.body.as_slice())?;
@@ -92,11 +102,16 @@ fn keep<R: Lender>(
     rows: u32,
 ) -> Result<(), Refusal>
     requires lent { IsSome (R.lent records.old) }
-    requires leads { IfSome (R.lent records.old) (λ page. LeadsTo page (kept_edits draft.edits.items import.now rows) draft.page) }
+    requires leads { IfSome (R.lent records.old)
+        (λ page. LeadsTo page (kept_edits draft.edits.items import.now rows) draft.page) }
     ensures falls { R.clean records.new → R.clean records.old }
     ensures open { R.clean records.new → OnOk result (R.serves records.new) }
-    ensures leaves { R.clean records.new → LeavesEdited (R.stands records.old) (R.leaves records.old) (R.leaves records.new) (kept_edits draft.edits.items import.now rows) }
-    ensures applies { R.clean records.new → Applies (R.stands records.old) (R.stands records.new) result (kept_edits draft.edits.items import.now rows) }
+    ensures leaves { R.clean records.new
+        → LeavesEdited (R.stands records.old) (R.leaves records.old) (R.leaves records.new)
+        (kept_edits draft.edits.items import.now rows) }
+    ensures applies { R.clean records.new
+        → Applies (R.stands records.old) (R.stands records.new) result
+        (kept_edits draft.edits.items import.now rows) }
 {
     let Draft { page, mut edits } = draft;
     edits.push(Edit::KeepImport {

@@ -5,7 +5,7 @@ ghost use Rattle.fr_base.specs.Cluster.{Cluster};
 ghost use Rattle.fr_base.specs.declared.params.Params.{Params};
 ghost use Rattle.fr_office.specs.Decided.{LeadsTo, MayTake, TakesAll};
 ghost use Rattle.fr_office.specs.ImportCounts.{AreCounted};
-ghost use Rattle.fr_office.specs.KeptPages.{AreFollowed, AreFresh, AreOf, none_lent, untouched_by};
+ghost use Rattle.fr_office.specs.KeptPages.{AreFollowed, AreFresh, AreOf, FollowsAll, none_lent, untouched_by};
 ghost use Rattle.fr_world.specs.BookEdits.{all_applied, applied};
 ghost use Rattle.fr_world.specs.Fits.{AllFit, Fits};
 ghost use Rattle.fr_world.specs.Pages.{own_rows_of};
@@ -25,7 +25,10 @@ pub(crate) struct Kept {
 impl Kept {
     /// No page and no count.
     pub(crate) fn new(alloc: Global) -> Kept
-        ensures { result ≡ record { pages = record { lent = None; recent = []; earlier = [] }; counts = [] } }
+        ensures { result ≡ record {
+          pages = record { lent = None; recent = []; earlier = [] };
+          counts = [];
+        } }
     {
         Kept {
             pages: Pages::new(alloc),
@@ -34,14 +37,19 @@ impl Kept {
     }
 
     /// Follows the register's edits. The page that is lent takes those of its rows, one after
-    /// another. Where memory is refused it is let go. Other pages that the edits may change are let
+    /// another. Where memory is refused it is let go; when else, no clause says. Other pages that the edits may change are let
     /// go too.
     pub(crate) fn follow(&mut self, alloc: Global, edits: &[Edit])
         requires takes { IfSome self.old.pages.lent (λ page. TakesAll page edits.now) }
-        ensures others { none_lent self.new.pages ≡ untouched_by edits.now (none_lent self.old.pages) }
+        ensures lent { FollowsAll edits.now self.old.pages.lent self.new.pages.lent }
+        ensures others { none_lent self.new.pages
+            ≡ untouched_by edits.now (none_lent self.old.pages) }
         ensures params { (p : Params) → AreOf p self.old.pages → AreOf p self.new.pages }
-        ensures fresh { (c : Cluster) (b : Book) → AllFit c.params b edits.now → AreFresh c.params b self.old.pages → AreFresh c.params (all_applied b edits.now) self.new.pages }
-        ensures counted { (p : Params) (b : Book) → AllFit p b edits.now → AreCounted b self.old.counts → AreCounted (all_applied b edits.now) self.new.counts }
+        ensures fresh { (c : Cluster) (b : Book) → AllFit c.params b edits.now
+            → AreFresh c.params b self.old.pages
+            → AreFresh c.params (all_applied b edits.now) self.new.pages }
+        ensures counted { (p : Params) (b : Book) → AllFit p b edits.now
+            → AreCounted b self.old.counts → AreCounted (all_applied b edits.now) self.new.counts }
     {
         for edit in edits {
             self.follow_one(alloc, edit);
@@ -54,10 +62,14 @@ impl Kept {
         requires lent { IsSome self.old.pages.lent }
         requires leads { IfSome self.old.pages.lent (λ before. LeadsTo before edits.now page) }
         ensures lent { self.new.pages.lent ≡ Some page }
-        ensures others { none_lent self.new.pages ≡ untouched_by edits.now (none_lent self.old.pages) }
+        ensures others { none_lent self.new.pages
+            ≡ untouched_by edits.now (none_lent self.old.pages) }
         ensures params { (p : Params) → AreOf p self.old.pages → AreOf p self.new.pages }
-        ensures fresh { (c : Cluster) (b : Book) → AllFit c.params b edits.now → AreFresh c.params b self.old.pages → AreFresh c.params (all_applied b edits.now) self.new.pages }
-        ensures counted { (p : Params) (b : Book) → AllFit p b edits.now → AreCounted b self.old.counts → AreCounted (all_applied b edits.now) self.new.counts }
+        ensures fresh { (c : Cluster) (b : Book) → AllFit c.params b edits.now
+            → AreFresh c.params b self.old.pages
+            → AreFresh c.params (all_applied b edits.now) self.new.pages }
+        ensures counted { (p : Params) (b : Book) → AllFit p b edits.now
+            → AreCounted b self.old.counts → AreCounted (all_applied b edits.now) self.new.counts }
     {
         // Gives the proof that a page may have the rows.
         let _frames = page.frames();
@@ -68,9 +80,11 @@ impl Kept {
 
     // Follows one edit of the register.
     fn follow_one(&mut self, alloc: Global, edit: &Edit)
-        requires takes { IfSome self.old.pages.lent (λ page. MayTake page.variant (own_rows_of page) edit.now) }
+        requires takes { IfSome self.old.pages.lent
+            (λ page. MayTake page.variant (own_rows_of page) edit.now) }
         ensures pages { AreFollowed edit.now self.old.pages self.new.pages }
-        ensures counts { (p : Params) (b : Book) → Fits p b edit.now → AreCounted b self.old.counts → AreCounted (applied b edit.now) self.new.counts }
+        ensures counts { (p : Params) (b : Book) → Fits p b edit.now → AreCounted b self.old.counts
+            → AreCounted (applied b edit.now) self.new.counts }
     {
         match edit {
             Edit::NewVariant { variant, .. } => self.pages.let_go_of_variant(*variant),

@@ -2,7 +2,7 @@
 //! change.
 #![tactic(auto, using(fr_world::proofs::ReadLaws::reads_none, fr_world::proofs::ReadLaws::reads_then))]
 
-ghost use Rattle.std.specs.Prelude.{◌≡◌, Option, Some, false, IfOk, IfSome, IsSome, OnOk, is_some};
+ghost use Rattle.std.specs.Prelude.{◌≡◌, Option, Some, false, IfOk, IfSome, IsSome, MatchResult, OnOk, is_some};
 ghost use Rattle.fr_office.specs.Decided.{Opens};
 ghost use Rattle.fr_world.specs.Held.{Reads};
 
@@ -14,6 +14,7 @@ use std::alloc::Global;
 /// comes of the request.
 pub trait Lender: Records {
     ghost use Rattle.fr_office.specs.Decided.{LeadsTo, TakesAll};
+    ghost use Rattle.fr_office.specs.KeptPages.{FollowsAll};
     ghost use Rattle.fr_world.specs.Held.{Applies, LeavesEdited, Reads, Tells, page_of};
     ghost use Rattle.fr_world.specs.Pages.{PageData};
 
@@ -27,7 +28,9 @@ pub trait Lender: Records {
         ensures reads { Reads Self.clean Self.params Self.leaves self.old self.new }
         ensures there { IfOk result (λ there. there ≡ is_some (lent self.new)) }
         ensures params { IfSome (lent self.new) (λ page. page.params ≡ Self.params self.old) }
-        ensures lends { Self.clean self.new → Tells (Self.stands self.old) (Self.stands self.new) result (λ c b _. lent self.new ≡ page_of c.params b supplier variant) };
+        ensures lends { Self.clean self.new
+            → Tells (Self.stands self.old) (Self.stands self.new) result
+            (λ c b _. lent self.new ≡ page_of c.params b supplier variant) };
 
     /// The page that is lent.
     fn lent(&self) -> &Page
@@ -35,25 +38,37 @@ pub trait Lender: Records {
         ensures { lent self.now ≡ Some result.now };
 
     /// Carries out the edits as `apply` does. They are such as the page that is lent takes, one after another, but for those
-    /// that keep an import. Which page is lent then, no clause says.
+    /// that keep an import. It is lent then with the edits made in it; or let go, as where memory is refused, if an edit may
+    /// change it. After an error it is lent as it was.
     fn change(&mut self, alloc: Global, edits: &[Edit]) -> Result<(), Refusal>
         requires takes { IfSome (lent self.old) (λ page. TakesAll page edits.now) }
         ensures falls { Self.clean self.new → Self.clean self.old }
         ensures same { Self.params self.new ≡ Self.params self.old }
         ensures open { Self.clean self.new → OnOk result (Self.serves self.new) }
-        ensures leaves { Self.clean self.new → LeavesEdited (Self.stands self.old) (Self.leaves self.old) (Self.leaves self.new) edits.now }
-        ensures applies { Self.clean self.new → Applies (Self.stands self.old) (Self.stands self.new) result edits.now };
+        ensures leaves { Self.clean self.new
+            → LeavesEdited (Self.stands self.old) (Self.leaves self.old) (Self.leaves self.new)
+            edits.now }
+        ensures applies { Self.clean self.new
+            → Applies (Self.stands self.old) (Self.stands self.new) result edits.now }
+        ensures lent { MatchResult result
+            (λ _. FollowsAll edits.now (lent self.old) (lent self.new))
+            (λ _. lent self.new ≡ lent self.old) };
 
     /// Carries out the edits as `apply` does. They lead from the page that is lent to this one, so that no edit has to be made
-    /// in a page once more. Which page is lent then, no clause says.
+    /// in a page once more. This one is lent then. After an error it is the one before.
     fn change_to(&mut self, alloc: Global, edits: &[Edit], page: Page) -> Result<(), Refusal>
         requires lent { IsSome (lent self.old) }
         requires leads { IfSome (lent self.old) (λ before. LeadsTo before edits.now page) }
         ensures falls { Self.clean self.new → Self.clean self.old }
         ensures same { Self.params self.new ≡ Self.params self.old }
         ensures open { Self.clean self.new → OnOk result (Self.serves self.new) }
-        ensures leaves { Self.clean self.new → LeavesEdited (Self.stands self.old) (Self.leaves self.old) (Self.leaves self.new) edits.now }
-        ensures applies { Self.clean self.new → Applies (Self.stands self.old) (Self.stands self.new) result edits.now };
+        ensures leaves { Self.clean self.new
+            → LeavesEdited (Self.stands self.old) (Self.leaves self.old) (Self.leaves self.new)
+            edits.now }
+        ensures applies { Self.clean self.new
+            → Applies (Self.stands self.old) (Self.stands self.new) result edits.now }
+        ensures lent { MatchResult result (λ _. lent self.new ≡ Some page)
+            (λ _. lent self.new ≡ lent self.old) };
 }
 
 /// Lends the supplier's page of the variant, where the variant is open. Refusals: `NoVariant`,
@@ -68,7 +83,9 @@ pub(crate) fn open_page<R: Lender>(
     ensures lent { OnOk result (IsSome (R.lent records.new)) }
     ensures open { OnOk result (IfSome (R.lent records.new) (λ page. page.released ≡ false)) }
     ensures params { IfSome (R.lent records.new) (λ page. page.params ≡ R.params records.old) }
-    ensures page { R.clean records.new → Opens (R.stands records.old) (R.stands records.new) (R.lent records.new) result supplier variant }
+    ensures page { R.clean records.new
+        → Opens (R.stands records.old) (R.stands records.new) (R.lent records.new) result supplier
+        variant }
 {
     if !records.lend(alloc, supplier, variant)? {
         return Err(Refusal::NoVariant);

@@ -15,7 +15,8 @@ pub fn list_variants<R: Records>(
     actor: &Actor,
 ) -> Result<Vec<VariantRow>, Refusal>
     ensures reads { Reads R.clean R.params R.leaves records.old records.new }
-    ensures lists { R.clean records.new → Lists (R.stands records.old) (R.stands records.new) actor.now result }
+    ensures lists { R.clean records.new
+        → Lists (R.stands records.old) (R.stands records.new) actor.now result }
 {
     if !is_known(records.config(), actor) {
         return Err(Refusal::UnknownKey);

@@ -62,8 +62,13 @@ impl<R: Records> Desk for Office<R> {
 impl<R: Records> Office<R> {
     /// The office of the register that has these records, with no page kept yet.
     pub fn new(alloc: Global, records: R) -> Office<R>
-        ensures value { result ≡ record { records = records; pages = record { lent = None; recent = []; earlier = [] }; counts = [] } }
-        ensures stands { (c : Cluster) (b : Book) → R.stands records c b → StandsWarm R.stands result c b }
+        ensures value { result ≡ record {
+          records = records;
+          pages = record { lent = None; recent = []; earlier = [] };
+          counts = [];
+        } }
+        ensures stands { (c : Cluster) (b : Book) → R.stands records c b
+            → StandsWarm R.stands result c b }
     {
         Office {
             warm: Warm::new(alloc, records),
@@ -80,7 +85,8 @@ impl<R: Records> Office<R> {
 
     /// Who asks with this key in a sound register: the integrator, a supplier that is there, or nobody.
     pub fn actor_of(&self, key: &str) -> Option<Actor>
-        ensures { (c : Cluster) (b : Book) → StandsWarm R.stands self.now c b → IsSound c b → result ≡ actor_of c b key.now }
+        ensures { (c : Cluster) (b : Book) → StandsWarm R.stands self.now c b → IsSound c b
+            → result ≡ actor_of c b key.now }
     {
         self.warm.config().actor_of(key.as_bytes())
     }
@@ -94,11 +100,17 @@ impl<R: Records> Office<R> {
     /// a crash left the register with all that was answered, or after one request more, it still does.
     pub fn ask(&mut self, alloc: Global, ask: &Ask) -> Answer
         ensures falls { R.clean self.new.records → R.clean self.old.records }
-        ensures answers { R.clean self.new.records → Answers (StandsWarm R.stands self.old) (StandsWarm R.stands self.new) ask.now result }
-        ensures leaves { R.clean self.new.records → LeavesStep (StandsWarm R.stands self.old) (R.leaves self.old.records) (R.leaves self.new.records) ask.now }
-        ensures durable { R.clean self.new.records → KeepsChange (StandsWarm R.stands self.old) (R.leaves self.new.records) ask.now result }
-        ensures kept { R.clean self.new.records →
-            Answers (StandsKept R.stands R.leaves self.old) (StandsKept R.stands R.leaves self.new) ask.now result }
+        ensures answers { R.clean self.new.records
+            → Answers (StandsWarm R.stands self.old) (StandsWarm R.stands self.new) ask.now result }
+        ensures leaves { R.clean self.new.records
+            → LeavesStep (StandsWarm R.stands self.old) (R.leaves self.old.records)
+            (R.leaves self.new.records) ask.now }
+        ensures durable { R.clean self.new.records
+            → KeepsChange (StandsWarm R.stands self.old) (R.leaves self.new.records) ask.now
+            result }
+        ensures kept { R.clean self.new.records
+            → Answers (StandsKept R.stands R.leaves self.old)
+            (StandsKept R.stands R.leaves self.new) ask.now result }
     {
         answer(alloc, &mut self.warm, ask)
     }
@@ -107,15 +119,18 @@ impl<R: Records> Office<R> {
     /// gives, or `Unavailable`.
     pub fn decline(&self, ask: &Ask) -> Answer
         ensures refused { (refusal : Refusal) × (result ≡ Answer.Refused refusal) }
-        ensures answers { Answers (StandsWarm R.stands self.now) (StandsWarm R.stands self.now) ask.now result }
-        ensures kept { Answers (StandsKept R.stands R.leaves self.now) (StandsKept R.stands R.leaves self.now) ask.now result }
+        ensures answers { Answers (StandsWarm R.stands self.now) (StandsWarm R.stands self.now)
+            ask.now result }
+        ensures kept { Answers (StandsKept R.stands R.leaves self.now)
+            (StandsKept R.stands R.leaves self.now) ask.now result }
     {
         decline(&self.warm, ask)
     }
 
     /// What a cluster file says of the register's cluster now, with the suppliers that are there.
     pub fn config(&self) -> &Config
-        ensures { (c : Cluster) (b : Book) → StandsWarm R.stands self.now c b → result.now ≡ file_of c b }
+        ensures { (c : Cluster) (b : Book) → StandsWarm R.stands self.now c b
+            → result.now ≡ file_of c b }
     {
         self.warm.config()
     }
@@ -124,9 +139,11 @@ impl<R: Records> Office<R> {
     /// `UnknownKey` where who asks is not there; `Unavailable` comes only where who asks is there.
     pub fn variants(&mut self, alloc: Global, actor: &Actor) -> Result<Vec<VariantRow>, Refusal>
         ensures reads { Reads R.clean R.params R.leaves self.old.records self.new.records }
-        ensures lists { R.clean self.new.records → Lists (StandsWarm R.stands self.old) (StandsWarm R.stands self.new) actor.now result }
-        ensures kept { R.clean self.new.records →
-            Lists (StandsKept R.stands R.leaves self.old) (StandsKept R.stands R.leaves self.new) actor.now result }
+        ensures lists { R.clean self.new.records
+            → Lists (StandsWarm R.stands self.old) (StandsWarm R.stands self.new) actor.now result }
+        ensures kept { R.clean self.new.records
+            → Lists (StandsKept R.stands R.leaves self.old) (StandsKept R.stands R.leaves self.new)
+            actor.now result }
     {
         list_variants(alloc, &mut self.warm, actor)
     }
@@ -145,9 +162,15 @@ impl<R: Records> Office<R> {
         ensures falls { R.clean self.new.records → R.clean self.old.records }
         ensures each { IfOk result (λ answers. length answers.items ≡ length asks.now) }
         ensures front { IfErr result (λ stopped. length stopped.answers.items < length asks.now) }
-        ensures headline { R.clean self.new.records → AnswersEach (StandsWarm R.stands self.old) (StandsWarm R.stands self.new) asks.now result }
-        ensures asked { R.clean self.new.records → AsksEach (StandsWarm R.stands) (λ office. R.leaves office.records) self.old self.new asks.now result }
-        ensures kept { R.clean self.new.records → KeepsEach (StandsWarm R.stands) (λ office. R.leaves office.records) self.old self.new asks.now result }
+        ensures headline { R.clean self.new.records
+            → AnswersEach (StandsWarm R.stands self.old) (StandsWarm R.stands self.new) asks.now
+            result }
+        ensures asked { R.clean self.new.records
+            → AsksEach (StandsWarm R.stands) (λ office. R.leaves office.records) self.old self.new
+            asks.now result }
+        ensures kept { R.clean self.new.records
+            → KeepsEach (StandsWarm R.stands) (λ office. R.leaves office.records) self.old self.new
+            asks.now result }
     {
         run(alloc, &mut self.warm, asks)
     }

@@ -162,7 +162,8 @@ impl Pages {
     /// is refused, that page is let go. The supplier's page of the variant on a shelf is let go
     /// too.
     pub(crate) fn amend(&mut self, alloc: Global, supplier: Name, variant: Name, edit: &Edit)
-        requires takes { IfSome self.old.lent (λ page. Takes page.variant (own_rows_of page) edit.now) }
+        requires takes { IfSome self.old.lent
+            (λ page. Takes page.variant (own_rows_of page) edit.now) }
         ensures lent { Amends edit.now self.old.lent self.new.lent }
         ensures others { none_lent self.new ≡ kept_without supplier variant (none_lent self.old) }
     {

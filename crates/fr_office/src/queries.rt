@@ -50,7 +50,9 @@ pub(crate) fn reply<R: Lender>(
 ) -> Result<Answer, Refusal>
     requires { IsTrue (has_repetition (R.params records.old) query.now) }
     ensures reads { Reads R.clean R.params R.leaves records.old records.new }
-    ensures replies { R.clean records.new → Replies (R.stands records.old) (R.stands records.new) result (λ c b. reply c.params b actor.now query.now) }
+    ensures replies { R.clean records.new
+        → Replies (R.stands records.old) (R.stands records.new) result
+        (λ c b. reply c.params b actor.now query.now) }
 {
     let rows = find_rows(alloc, records, actor, query)?;
     let all = is_integrator(actor);
@@ -73,7 +75,9 @@ fn find_rows<R: Lender>(
 ) -> Result<ReportRows, Refusal>
     requires { IsTrue (has_repetition (R.params records.old) query.now) }
     ensures reads { Reads R.clean R.params R.leaves records.old records.new }
-    ensures replies { R.clean records.new → Replies (R.stands records.old) (R.stands records.new) result (λ c b. found c.params b actor.now query.now) }
+    ensures replies { R.clean records.new
+        → Replies (R.stands records.old) (R.stands records.new) result
+        (λ c b. found c.params b actor.now query.now) }
 {
     match query {
         Query::Register(inventory) => held(alloc, records, actor, *inventory),
@@ -92,7 +96,9 @@ fn held<R: Lender>(
     inventory: Inventory,
 ) -> Result<ReportRows, Refusal>
     ensures reads { Reads R.clean R.params R.leaves records.old records.new }
-    ensures holds { R.clean records.new → Replies (R.stands records.old) (R.stands records.new) result (λ c b. Ok (held c.params b actor.now inventory)) }
+    ensures holds { R.clean records.new
+        → Replies (R.stands records.old) (R.stands records.new) result
+        (λ c b. Ok (held c.params b actor.now inventory)) }
 {
     match inventory {
         Inventory::Cluster => {
@@ -120,7 +126,9 @@ fn of_variant<R: Lender>(
 ) -> Result<ReportRows, Refusal>
     requires { IsTrue (divides (R.params records.old) report.now) }
     ensures reads { Reads R.clean R.params R.leaves records.old records.new }
-    ensures replies { R.clean records.new → Replies (R.stands records.old) (R.stands records.new) result (λ c b. found c.params b actor.now (OfVariant variant report.now)) }
+    ensures replies { R.clean records.new
+        → Replies (R.stands records.old) (R.stands records.new) result
+        (λ c b. found c.params b actor.now (OfVariant variant report.now)) }
 {
     match actor {
         Actor::Supplier(supplier) => of_supplier(alloc, records, *supplier, variant, report),
@@ -136,7 +144,9 @@ fn of_all<R: Lender>(
     report: &Report<Name>,
 ) -> Result<ReportRows, Refusal>
     ensures reads { Reads R.clean R.params R.leaves records.old records.new }
-    ensures replies { R.clean records.new → Replies (R.stands records.old) (R.stands records.new) result (λ c b. found c.params b Integrator (OfVariant variant report.now)) }
+    ensures replies { R.clean records.new
+        → Replies (R.stands records.old) (R.stands records.new) result
+        (λ c b. found c.params b Integrator (OfVariant variant report.now)) }
 {
     if records.has_variant(variant)? {
         show_all(alloc, records, variant, report)
@@ -153,7 +163,8 @@ fn show_all<R: Lender>(
     report: &Report<Name>,
 ) -> Result<ReportRows, Refusal>
     ensures reads { Reads R.clean R.params R.leaves records.old records.new }
-    ensures shows { R.clean records.new → ShowsAll (R.stands records.old) (R.stands records.new) variant report.now result }
+    ensures shows { R.clean records.new
+        → ShowsAll (R.stands records.old) (R.stands records.new) variant report.now result }
 {
     let params = records.config().params();
     let suppliers = supplier_names(alloc, records.config())?;
@@ -201,7 +212,9 @@ fn of_supplier<R: Lender>(
 ) -> Result<ReportRows, Refusal>
     requires { IsTrue (divides (R.params records.old) report.now) }
     ensures reads { Reads R.clean R.params R.leaves records.old records.new }
-    ensures replies { R.clean records.new → Replies (R.stands records.old) (R.stands records.new) result (λ c b. found c.params b (Supplier supplier) (OfVariant variant report.now)) }
+    ensures replies { R.clean records.new
+        → Replies (R.stands records.old) (R.stands records.new) result
+        (λ c b. found c.params b (Supplier supplier) (OfVariant variant report.now)) }
 {
     find_page(alloc, records, supplier, variant)?;
     show(alloc, records.lent(), report)
@@ -217,7 +230,9 @@ pub(crate) fn find_page<R: Lender>(
     ensures reads { Reads R.clean R.params R.leaves records.old records.new }
     ensures lent { OnOk result (IsSome (R.lent records.new)) }
     ensures params { IfSome (R.lent records.new) (λ page. page.params ≡ R.params records.old) }
-    ensures page { R.clean records.new → FindsPage (R.stands records.old) (R.stands records.new) (R.lent records.new) result supplier variant }
+    ensures page { R.clean records.new
+        → FindsPage (R.stands records.old) (R.stands records.new) (R.lent records.new) result
+        supplier variant }
 {
     if records.lend(alloc, supplier, variant)? {
         Ok(())

@@ -21,8 +21,11 @@ pub(crate) fn replace<R: Lender>(
 ) -> Result<Answer, Refusal>
     ensures falls { R.clean records.new → R.clean records.old }
     ensures open { R.clean records.new → OnReplaced result (R.serves records.new) }
-    ensures leaves { R.clean records.new → LeavesReplacement (R.stands records.old) (R.leaves records.old) (R.leaves records.new) replacement.now }
-    ensures gives { R.clean records.new → GivesReplacement (R.stands records.old) (R.stands records.new) result replacement.now }
+    ensures leaves { R.clean records.new
+        → LeavesReplacement (R.stands records.old) (R.leaves records.old) (R.leaves records.new)
+        replacement.now }
+    ensures gives { R.clean records.new
+        → GivesReplacement (R.stands records.old) (R.stands records.new) result replacement.now }
 {
     open_page(alloc, records, replacement.supplier, replacement.variant)?;
     admit_file(replacement)?;
@@ -52,8 +55,13 @@ fn replace_rows<R: Lender>(
     requires open { IfSome (R.lent records.old) (λ page. page.released ≡ false) }
     ensures falls { R.clean records.new → R.clean records.old }
     ensures open { R.clean records.new → OnReplaced result (R.serves records.new) }
-    ensures leaves { R.clean records.new → IfSome (R.lent records.old) (LeavesReplaced (R.stands records.old) (R.leaves records.old) (R.leaves records.new) replacement.now) }
-    ensures gives { R.clean records.new → IfSome (R.lent records.old) (GivesReplaced (R.stands records.old) (R.stands records.new) result replacement.now) }
+    ensures leaves { R.clean records.new
+        → IfSome (R.lent records.old)
+        (LeavesReplaced (R.stands records.old) (R.leaves records.old) (R.leaves records.new)
+        replacement.now) }
+    ensures gives { R.clean records.new
+        → IfSome (R.lent records.old)
+        (GivesReplaced (R.stands records.old) (R.stands records.new) result replacement.now) }
 {
     let page = records.lent();
     let rows = read_import(alloc, &page.params(), replacement.body.as_slice())?;
@@ -74,11 +82,15 @@ fn replace_rows<R: Lender>(
 // is the one that is lent.
 fn change_to_draft<R: Lender>(alloc: Global, records: &mut R, draft: Draft) -> Result<(), Refusal>
     requires lent { IsSome (R.lent records.old) }
-    requires leads { IfSome (R.lent records.old) (λ page. LeadsTo page draft.edits.items draft.page) }
+    requires leads { IfSome (R.lent records.old)
+        (λ page. LeadsTo page draft.edits.items draft.page) }
     ensures falls { R.clean records.new → R.clean records.old }
     ensures open { R.clean records.new → OnOk result (R.serves records.new) }
-    ensures leaves { R.clean records.new → LeavesEdited (R.stands records.old) (R.leaves records.old) (R.leaves records.new) draft.edits.items }
-    ensures applies { R.clean records.new → Applies (R.stands records.old) (R.stands records.new) result draft.edits.items }
+    ensures leaves { R.clean records.new
+        → LeavesEdited (R.stands records.old) (R.leaves records.old) (R.leaves records.new)
+        draft.edits.items }
+    ensures applies { R.clean records.new
+        → Applies (R.stands records.old) (R.stands records.new) result draft.edits.items }
 {
     let Draft { page, edits } = draft;
     records.change_to(alloc, &edits, page)

@@ -22,9 +22,12 @@ pub fn run<R: Lender>(alloc: Global, records: &mut R, asks: &[Ask]) -> Result<Ve
     ensures falls { R.clean records.new → R.clean records.old }
     ensures each { IfOk result (λ answers. length answers.items ≡ length asks.now) }
     ensures front { IfErr result (λ stopped. length stopped.answers.items < length asks.now) }
-    ensures headline { R.clean records.new → AnswersEach (R.stands records.old) (R.stands records.new) asks.now result }
-    ensures asked { R.clean records.new → AsksEach R.stands R.leaves records.old records.new asks.now result }
-    ensures kept { R.clean records.new → KeepsEach R.stands R.leaves records.old records.new asks.now result }
+    ensures headline { R.clean records.new
+        → AnswersEach (R.stands records.old) (R.stands records.new) asks.now result }
+    ensures asked { R.clean records.new
+        → AsksEach R.stands R.leaves records.old records.new asks.now result }
+    ensures kept { R.clean records.new
+        → KeepsEach R.stands R.leaves records.old records.new asks.now result }
 {
     let mut answers = Vec::new(alloc);
     for ask in asks {

@@ -20,7 +20,8 @@ pub(crate) fn try_file<R: Lender>(
     trial: &Trial<'_>,
 ) -> Result<Answer, Refusal>
     ensures reads { Reads R.clean R.params R.leaves records.old records.new }
-    ensures tells { R.clean records.new → TellsTrial (R.stands records.old) (R.stands records.new) result trial.now }
+    ensures tells { R.clean records.new
+        → TellsTrial (R.stands records.old) (R.stands records.new) result trial.now }
 {
     open_page(alloc, records, trial.supplier, trial.variant)?;
     tell_rows(alloc, records.lent(), trial)
@@ -29,7 +30,8 @@ pub(crate) fn try_file<R: Lender>(
 // The answer to the trial on this page. `Limit`, where the file has more than 65,536 bytes.
 #[tactic(auto, unfolding(crate::proofs::TrialLaws::told_open))]
 fn tell_rows(alloc: Global, page: &Page, trial: &Trial<'_>) -> Result<Answer, Refusal>
-    ensures { MatchResult result (λ answer. told_on page.now trial.now ≡ Ok answer) (λ e. (e ≡ Unavailable) ⊎ (told_on page.now trial.now ≡ Err e)) }
+    ensures { MatchResult result (λ answer. told_on page.now trial.now ≡ Ok answer)
+        (λ e. (e ≡ Unavailable) ⊎ (told_on page.now trial.now ≡ Err e)) }
 {
     if trial.body.as_slice().len() > MAX_IMPORT_BYTES {
         return Err(Refusal::Limit);
@@ -43,7 +45,8 @@ fn tell_rows(alloc: Global, page: &Page, trial: &Trial<'_>) -> Result<Answer, Re
 
 // The fate of each row of the file, on a copy of the page.
 fn fates(alloc: Global, page: &Page, trial: &Trial<'_>) -> Result<Rows<FateRow>, Refusal>
-    ensures { MatchResult result (λ fates. fates ≡ fates_on page.now trial.now) (λ e. e ≡ Unavailable) }
+    ensures { MatchResult result (λ fates. fates ≡ fates_on page.now trial.now)
+        (λ e. e ≡ Unavailable) }
 {
     let rows = read_rows(alloc, &page.params(), trial.body.as_slice())?;
     all_rows_are_checked();

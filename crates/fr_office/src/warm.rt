@@ -40,7 +40,11 @@ impl<R: Records + Drop> Drop for Warm<R> {
 impl<R: Records> Warm<R> {
     /// These records, with no page and no count kept.
     pub fn new(alloc: Global, records: R) -> Warm<R>
-        ensures { result ≡ record { records = records; pages = record { lent = None; recent = []; earlier = [] }; counts = [] } }
+        ensures { result ≡ record {
+          records = records;
+          pages = record { lent = None; recent = []; earlier = [] };
+          counts = [];
+        } }
     {
         Warm {
             records,

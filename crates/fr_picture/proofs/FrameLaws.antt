@@ -1,5 +1,5 @@
 -- Frames that are drawn one after another, their signals, and why there are none.
-use Rattle.std.proofs.Common.{◌≡◌, ℕ, Bool, List, [], ◌∷◌, ◌++◌, Some, Result, Ok, Err, zero, suc, length, map, refl, sym, subst, arith, inl, inr}
+use Rattle.std.proofs.Common.{◌≡◌, ℕ, List, [], ◌∷◌, ◌++◌, Some, Result, Ok, Err, zero, suc, length, map, refl, sym, subst, arith, inl, inr}
 use Rattle.std.specs.List.{All, slice_get}
 use Rattle.std.specs.Prelude.{IsPermutation, Vec}
 use Rattle.std.specs.declared.alloc.Global.{Global}
@@ -8,8 +8,6 @@ use Rattle.fr_base.specs.Cluster.{Cluster}
 use Rattle.fr_base.specs.Sound.{IsSound}
 use Rattle.fr_base.specs.declared.actor.Actor.{Actor}
 use Rattle.fr_base.specs.declared.actor.Actor.TheVariants.{Supplier}
-use Rattle.fr_base.specs.declared.answer.Answer.{Answer}
-use Rattle.fr_base.specs.declared.answer.Answer.TheVariants as answers
 use Rattle.fr_base.specs.declared.answer.FrameRow.{FrameRow}
 use Rattle.fr_base.specs.declared.answer.GapRow.{GapRow}
 use Rattle.fr_base.specs.declared.answer.SignalRow.{SignalRow}
@@ -17,13 +15,12 @@ use Rattle.fr_base.specs.declared.refusal.Refusal.{Refusal}
 use Rattle.fr_base.specs.declared.refusal.Refusal.TheVariants.{Unavailable}
 use Rattle.fr_base.specs.declared.request.Request.{Request}
 use Rattle.fr_base.specs.declared.report.Report.TheVariants.{Frames, Gaps, Layout}
-use Rattle.fr_base.specs.declared.request.Request.TheVariants as request
 use Rattle.fr_picture.specs.FrameTables.{AreWorstFirst, KeepTies}
 use Rattle.fr_picture.specs.Strips.{HasItsBits}
 use Rattle.fr_picture.specs.declared.frame_table.DrawnFrame.{DrawnFrame}
 use Rattle.fr_picture.specs.declared.signals.DrawnSignal.{DrawnSignal}
 use Rattle.fr_picture.specs.Frames.{AreDrawn, AreDrawnOf, AreFrames, AreSignals, IsDrawn, IsOfPlan, MayRefusePlan}
-use Rattle.fr_picture.specs.Reports.{Answered, MayRefuse, Reads, Reports, Standing, answer_to, asks, with_frames, with_gaps, with_signals}
+use Rattle.fr_picture.specs.Reports.{MayRefuse, Reads, Reports, Standing, answer_to, asks, with_frames, with_gaps, with_signals}
 use Rattle.fr_picture.proofs.ReportLaws.{refused, reported}
 
 module _ (c : Cluster) (b : Book) (variant : List ℕ) (row : FrameRow) (gap : GapRow) (frame : DrawnFrame) (is : IsDrawn c b variant row gap.gap frame) where

@@ -21,7 +21,7 @@ use Rattle.fr_picture.specs.declared.plan.Plan.{Plan}
 use Rattle.fr_picture.proofs.FrameLaws.{refuses_plan}
 use Rattle.fr_picture.specs.Frames.{AreFrames, IsOfPlan, MayRefusePlan}
 use Rattle.fr_picture.specs.Plans.{IsListed, IsPlan, supplier_of, suppliers_seen}
-use Rattle.fr_picture.specs.Reports.{Reads, Reports, Standing, answer_to, asks, asks_variants, with_cells, with_grants, with_variants}
+use Rattle.fr_picture.specs.Reports.{Reads, Reports, Standing, asks, asks_variants, with_cells, with_grants, with_variants}
 
 -- ---- the row
 

@@ -6,7 +6,6 @@ use Rattle.std.specs.List.{flat_map, list_any}
 use Rattle.fr_base.specs.Channels.{text_of_channel}
 use Rattle.fr_base.specs.Names.{same_text}
 use Rattle.fr_base.specs.declared.answer.Sending.{Sending}
-use Rattle.fr_base.specs.declared.name.Name.{Name}
 use Rattle.fr_picture.specs.declared.drawing.columns.Scale.{Scale}
 use Rattle.fr_picture.specs.declared.drawing.rectangle.Rectangle.{Rectangle}
 use Rattle.fr_picture.specs.declared.texts.Fixed.TheVariants.{CyclesStart, PathStart, QuoteEnd, PathEnd, UseEnd}

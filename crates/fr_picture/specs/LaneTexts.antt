@@ -5,7 +5,6 @@ use Rattle.std.specs.List.{flat_map}
 use Rattle.fr_base.specs.Channels.{text_of_channel}
 use Rattle.fr_base.specs.declared.answer.GrantRow.{GrantRow}
 use Rattle.fr_base.specs.declared.name.Name.{Name}
-use Rattle.fr_picture.specs.declared.drawing.columns.Place.{Place}
 use Rattle.fr_picture.specs.declared.drawing.columns.Scale.{Scale}
 use Rattle.fr_picture.specs.declared.drawing.lane.Lane.{Lane}
 use Rattle.fr_picture.specs.declared.drawing.marks.Shows.{Shows}

@@ -9,7 +9,6 @@ use Rattle.fr_base.specs.Step.{step}
 use Rattle.fr_base.specs.declared.actor.Actor.{Actor}
 use Rattle.fr_base.specs.declared.answer.Answer.{Answer}
 use Rattle.fr_base.specs.declared.answer.Answer.TheVariants.{Report as Told, Refused}
-use Rattle.fr_base.specs.declared.answer.ReportRows.{ReportRows}
 use Rattle.fr_base.specs.declared.answer.ReportRows.TheVariants as rows
 use Rattle.fr_base.specs.declared.answer.GrantRow.{GrantRow}
 use Rattle.fr_base.specs.declared.answer.FrameRow.{FrameRow}

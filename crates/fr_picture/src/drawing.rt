@@ -54,13 +54,17 @@ pub fn draw(
 fn add_grants(lanes: &mut Vec<Lane>, grants: &[GrantRow]) -> Result<(), NoMemory>
     requires { vec_len lanes.old ≡ 2046 }
     ensures len { vec_len lanes.new ≡ 2046 }
-    ensures grants { OnOk result (IsPermutation (drawn_grants lanes.new.items) (drawn_grants lanes.old.items ++ grants.now)) }
+    ensures grants { OnOk result
+        (IsPermutation (drawn_grants lanes.new.items)
+        (drawn_grants lanes.old.items ++ grants.now)) }
     ensures cells { OnOk result (drawn_cells lanes.new.items ≡ drawn_cells lanes.old.items) }
     ensures held_in_turn { OnOk result (HoldMore lanes.old.items grants.now lanes.new.items) }
     ensures still { OnOk result (HaveStill lanes.old.items lanes.new.items) }
     ensures apart { OnOk result (All IsApart lanes.old.items → All IsApart lanes.new.items) }
     ensures filled { OnOk result (All IsFilled lanes.old.items → All IsFilled lanes.new.items) }
-    ensures at { OnOk result ((channels : Channels) (shift : ℕ) (columns : List Place) → AreAt channels shift columns lanes.old.items → AreAt channels shift columns lanes.new.items) }
+    ensures at { OnOk result ((channels : Channels) (shift : ℕ) (columns : List Place)
+        → AreAt channels shift columns lanes.old.items
+        → AreAt channels shift columns lanes.new.items) }
     ensures home { OnOk result (AreHome 0 lanes.old.items → AreHome 0 lanes.new.items) }
 {
     for grant in grants {
@@ -74,13 +78,17 @@ fn add_grants(lanes: &mut Vec<Lane>, grants: &[GrantRow]) -> Result<(), NoMemory
 fn add_grant(lanes: &mut Vec<Lane>, grant: &GrantRow) -> Result<(), NoMemory>
     requires { vec_len lanes.old ≡ 2046 }
     ensures len { vec_len lanes.new ≡ 2046 }
-    ensures grants { OnOk result (IsPermutation (drawn_grants lanes.new.items) (drawn_grants lanes.old.items ++ grant.now ∷ [])) }
+    ensures grants { OnOk result
+        (IsPermutation (drawn_grants lanes.new.items)
+        (drawn_grants lanes.old.items ++ grant.now ∷ [])) }
     ensures cells { OnOk result (drawn_cells lanes.new.items ≡ drawn_cells lanes.old.items) }
     ensures held_in_turn { OnOk result (HoldMore lanes.old.items (grant.now ∷ []) lanes.new.items) }
     ensures still { OnOk result (HaveStill lanes.old.items lanes.new.items) }
     ensures apart { OnOk result (All IsApart lanes.old.items → All IsApart lanes.new.items) }
     ensures filled { OnOk result (All IsFilled lanes.old.items → All IsFilled lanes.new.items) }
-    ensures at { OnOk result ((channels : Channels) (shift : ℕ) (columns : List Place) → AreAt channels shift columns lanes.old.items → AreAt channels shift columns lanes.new.items) }
+    ensures at { OnOk result ((channels : Channels) (shift : ℕ) (columns : List Place)
+        → AreAt channels shift columns lanes.old.items
+        → AreAt channels shift columns lanes.new.items) }
     ensures home { OnOk result (AreHome 0 lanes.old.items → AreHome 0 lanes.new.items) }
 {
     lanes[lane_number(grant.slot, grant.channel)].hold(grant)
@@ -92,13 +100,16 @@ fn add_grant(lanes: &mut Vec<Lane>, grant: &GrantRow) -> Result<(), NoMemory>
 fn add_cells(lanes: &mut Vec<Lane>, cells: &[Sending]) -> Result<(), NoMemory>
     requires { vec_len lanes.old ≡ 2046 }
     ensures len { vec_len lanes.new ≡ 2046 }
-    ensures cells { OnOk result (IsPermutation (drawn_cells lanes.new.items) (drawn_cells lanes.old.items ++ cells.now)) }
+    ensures cells { OnOk result (IsPermutation (drawn_cells lanes.new.items)
+        (drawn_cells lanes.old.items ++ cells.now)) }
     ensures in_turn { OnOk result (HaveMore lanes.old.items cells.now lanes.new.items) }
     ensures grants { OnOk result (drawn_grants lanes.new.items ≡ drawn_grants lanes.old.items) }
     ensures still { OnOk result (HoldStill lanes.old.items lanes.new.items) }
     ensures apart { OnOk result (All IsApart lanes.old.items → All IsApart lanes.new.items) }
     ensures filled { OnOk result (All IsFilled lanes.old.items → All IsFilled lanes.new.items) }
-    ensures at { OnOk result ((channels : Channels) (shift : ℕ) (columns : List Place) → AreAt channels shift columns lanes.old.items → AreAt channels shift columns lanes.new.items) }
+    ensures at { OnOk result ((channels : Channels) (shift : ℕ) (columns : List Place)
+        → AreAt channels shift columns lanes.old.items
+        → AreAt channels shift columns lanes.new.items) }
     ensures home { OnOk result (AreHome 0 lanes.old.items → AreHome 0 lanes.new.items) }
 {
     for cell in cells {
@@ -112,13 +123,16 @@ fn add_cells(lanes: &mut Vec<Lane>, cells: &[Sending]) -> Result<(), NoMemory>
 fn add_cell(lanes: &mut Vec<Lane>, cell: &Sending) -> Result<(), NoMemory>
     requires { vec_len lanes.old ≡ 2046 }
     ensures len { vec_len lanes.new ≡ 2046 }
-    ensures cells { OnOk result (IsPermutation (drawn_cells lanes.new.items) (drawn_cells lanes.old.items ++ cell.now ∷ [])) }
+    ensures cells { OnOk result (IsPermutation (drawn_cells lanes.new.items)
+        (drawn_cells lanes.old.items ++ cell.now ∷ [])) }
     ensures in_turn { OnOk result (HaveMore lanes.old.items (cell.now ∷ []) lanes.new.items) }
     ensures grants { OnOk result (drawn_grants lanes.new.items ≡ drawn_grants lanes.old.items) }
     ensures still { OnOk result (HoldStill lanes.old.items lanes.new.items) }
     ensures apart { OnOk result (All IsApart lanes.old.items → All IsApart lanes.new.items) }
     ensures filled { OnOk result (All IsFilled lanes.old.items → All IsFilled lanes.new.items) }
-    ensures at { OnOk result ((channels : Channels) (shift : ℕ) (columns : List Place) → AreAt channels shift columns lanes.old.items → AreAt channels shift columns lanes.new.items) }
+    ensures at { OnOk result ((channels : Channels) (shift : ℕ) (columns : List Place)
+        → AreAt channels shift columns lanes.old.items
+        → AreAt channels shift columns lanes.new.items) }
     ensures home { OnOk result (AreHome 0 lanes.old.items → AreHome 0 lanes.new.items) }
 {
     lanes[lane_number(cell.slot, cell.channel)].add(cell)

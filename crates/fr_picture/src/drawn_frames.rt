@@ -55,8 +55,10 @@ fn draw_frames<D: Desk>(
     gaps: &[GapRow],
 ) -> Result<Vec<DrawnFrame>, Refusal>
     ensures falls { D.clean desk.new → D.clean desk.old }
-    ensures reads { D.clean desk.new → Reads (D.stands desk.old) (D.stands desk.new) result
-        (λ c b frames. AreDrawn c b variant.now rows.now gaps.now frames.items) (λ c b e. e ≡ Unavailable) }
+    ensures reads { D.clean desk.new
+        → Reads (D.stands desk.old) (D.stands desk.new) result
+        (λ c b frames. AreDrawn c b variant.now rows.now gaps.now frames.items)
+        (λ c b e. e ≡ Unavailable) }
 {
     let mut frames = Vec::new(alloc);
     for (place, row) in rows.iter().enumerate() {
@@ -113,7 +115,8 @@ fn draw_signals<D: Desk>(
 
 // The drawn signals of these rows.
 fn drawn(alloc: Global, rows: &[SignalRow]) -> Result<Rows<DrawnSignal>, NoMemory>
-    ensures signals { IfOk result (λ signals. map (λ s. s.signal) signals ≡ map (λ r. r.signal) rows.now) }
+    ensures signals { IfOk result
+        (λ signals. map (λ s. s.signal) signals ≡ map (λ r. r.signal) rows.now) }
     ensures bits { IfOk result (λ signals. All HasItsBits signals) }
 {
     let mut signals = Rows::new(alloc);

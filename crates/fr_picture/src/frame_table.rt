@@ -108,7 +108,8 @@ fn push_placement_of(
     repetition: u8,
     out: &mut String,
 ) -> Result<(), NoMemory>
-    ensures { OnOk result (Appends out.old out.new (placement_text_of slot channels.now base repetition)) }
+    ensures { OnOk result (Appends out.old out.new
+        (placement_text_of slot channels.now base repetition)) }
 {
     write!(out, "{slot} {channels} {base}/{repetition}\n")
 }

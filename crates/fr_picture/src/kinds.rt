@@ -25,7 +25,8 @@ pub(crate) fn of_same_frame(
     all: &[Rectangle],
     one: &Rectangle,
 ) -> Result<Vec<Rectangle>, NoMemory>
-    ensures { IfOk result (λ kind. kind.items ≡ filter (λ other. is_of_same_frame other one.now) all.now) }
+    ensures { IfOk result (λ kind.
+        kind.items ≡ filter (λ other. is_of_same_frame other one.now) all.now) }
 {
     let mut kind = Vec::new(alloc);
     for other in all {

@@ -42,7 +42,8 @@ fn write_parts(
     index: &[Entry],
     shares: &[Share],
 ) -> Result<String, NoMemory>
-    ensures { IfOk result (λ text. string_bytes text ≡ page_text plan.now drawing.now index.now shares.now) }
+    ensures { IfOk result (λ text.
+        string_bytes text ≡ page_text plan.now drawing.now index.now shares.now) }
 {
     let cycles = drawing.scale.cycles;
     let lanes = drawing.lanes.as_slice();

@@ -28,7 +28,9 @@ pub(crate) fn variants<D: Desk>(
     reader: Actor,
 ) -> Result<Rows<VariantRow>, Refusal>
     ensures falls { D.clean desk.new → D.clean desk.old }
-    ensures reports { D.clean desk.new → Reports (D.stands desk.old) (D.stands desk.new) reader asks_variants with_variants result }
+    ensures reports { D.clean desk.new
+        → Reports (D.stands desk.old) (D.stands desk.new) reader asks_variants with_variants
+        result }
 {
     match found(alloc, desk, reader, Query::Register(Inventory::Variants))? {
         ReportRows::Variants(rows) => Ok(rows),
@@ -43,7 +45,9 @@ pub(crate) fn grants<D: Desk>(
     view: &View<'_>,
 ) -> Result<Rows<GrantRow>, Refusal>
     ensures falls { D.clean desk.new → D.clean desk.old }
-    ensures reports { D.clean desk.new → Reports (D.stands desk.old) (D.stands desk.new) view.now.reader (asks view.now.variant.now Grants) with_grants result }
+    ensures reports { D.clean desk.new
+        → Reports (D.stands desk.old) (D.stands desk.new) view.now.reader
+        (asks view.now.variant.now Grants) with_grants result }
 {
     match report(alloc, desk, view.reader, view.variant, Report::Grants)? {
         ReportRows::Grants(rows) => Ok(rows),
@@ -58,7 +62,9 @@ pub(crate) fn schedule<D: Desk>(
     view: &View<'_>,
 ) -> Result<Rows<Sending>, Refusal>
     ensures falls { D.clean desk.new → D.clean desk.old }
-    ensures reports { D.clean desk.new → Reports (D.stands desk.old) (D.stands desk.new) view.now.reader (asks view.now.variant.now Schedule) with_cells result }
+    ensures reports { D.clean desk.new
+        → Reports (D.stands desk.old) (D.stands desk.new) view.now.reader
+        (asks view.now.variant.now Schedule) with_cells result }
 {
     match report(alloc, desk, view.reader, view.variant, Report::Schedule)? {
         ReportRows::Schedule(rows) => Ok(rows),
@@ -73,7 +79,9 @@ pub(crate) fn gaps<D: Desk>(
     view: &View<'_>,
 ) -> Result<Rows<GapRow>, Refusal>
     ensures falls { D.clean desk.new → D.clean desk.old }
-    ensures reports { D.clean desk.new → Reports (D.stands desk.old) (D.stands desk.new) view.now.reader (asks view.now.variant.now Gaps) with_gaps result }
+    ensures reports { D.clean desk.new
+        → Reports (D.stands desk.old) (D.stands desk.new) view.now.reader
+        (asks view.now.variant.now Gaps) with_gaps result }
 {
     match report(alloc, desk, view.reader, view.variant, Report::Gaps)? {
         ReportRows::Gaps(rows) => Ok(rows),
@@ -88,7 +96,9 @@ pub(crate) fn frame_rows<D: Desk>(
     view: &View<'_>,
 ) -> Result<Rows<FrameRow>, Refusal>
     ensures falls { D.clean desk.new → D.clean desk.old }
-    ensures reports { D.clean desk.new → Reports (D.stands desk.old) (D.stands desk.new) view.now.reader (asks view.now.variant.now Frames) with_frames result }
+    ensures reports { D.clean desk.new
+        → Reports (D.stands desk.old) (D.stands desk.new) view.now.reader
+        (asks view.now.variant.now Frames) with_frames result }
 {
     match report(alloc, desk, view.reader, view.variant, Report::Frames)? {
         ReportRows::Frames(rows) => Ok(rows),
@@ -105,7 +115,9 @@ pub(crate) fn signal_rows<D: Desk>(
     frame: Text,
 ) -> Result<Rows<SignalRow>, Refusal>
     ensures falls { D.clean desk.new → D.clean desk.old }
-    ensures reports { D.clean desk.new → Reports (D.stands desk.old) (D.stands desk.new) (Supplier supplier) (asks variant.now (Layout frame)) with_signals result }
+    ensures reports { D.clean desk.new
+        → Reports (D.stands desk.old) (D.stands desk.new) (Supplier supplier)
+        (asks variant.now (Layout frame)) with_signals result }
 {
     match report(
         alloc,
@@ -128,7 +140,9 @@ fn report<D: Desk>(
     report: Report<Text>,
 ) -> Result<ReportRows, Refusal>
     ensures falls { D.clean desk.new → D.clean desk.old }
-    ensures reports { D.clean desk.new → Reports (D.stands desk.old) (D.stands desk.new) actor (asks variant.now report) Told result }
+    ensures reports { D.clean desk.new
+        → Reports (D.stands desk.old) (D.stands desk.new) actor (asks variant.now report) Told
+        result }
 {
     let variant = Text::copy(alloc, variant)?;
     found(alloc, desk, actor, Query::Variant { variant, report })
@@ -142,7 +156,8 @@ fn found<D: Desk>(
     query: Query<Text>,
 ) -> Result<ReportRows, Refusal>
     ensures falls { D.clean desk.new → D.clean desk.old }
-    ensures reports { D.clean desk.new → Reports (D.stands desk.old) (D.stands desk.new) actor (Queries query) Told result }
+    ensures reports { D.clean desk.new
+        → Reports (D.stands desk.old) (D.stands desk.new) actor (Queries query) Told result }
 {
     let request = Request::Query(query);
     desk.ask(alloc, &Ask { actor, request }).into_rows()

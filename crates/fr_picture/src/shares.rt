@@ -33,7 +33,8 @@ pub(crate) fn shares_of(
     grants: &[GrantRow],
     cells: &[Sending],
 ) -> Result<Vec<Share>, NoMemory>
-    ensures { IfOk result (λ shares. shares.items ≡ map (share_of names.now cycles grants.now cells.now) names.now) }
+    ensures { IfOk result (λ shares.
+        shares.items ≡ map (share_of names.now cycles grants.now cells.now) names.now) }
 {
     let mut shares = Vec::new(alloc);
     for name in names {

@@ -87,7 +87,9 @@ fn big_runs(alloc: Global, start: u64, length: u64) -> Result<Vec<Run>, NoMemory
 #[tactic(auto, using(crate::proofs::RunLemmas::last))]
 fn push_last(runs: &mut Vec<Run>, high: u64, left: u64) -> Result<(), NoMemory>
     requires byte { left ≤ high % 8 }
-    ensures { OnOk result ((all : List ℕ) → IsPermutation (bits_in runs.old.items ++ run_big high left) all → IsPermutation (bits_in runs.new.items) all) }
+    ensures { OnOk result ((all : List ℕ)
+        → IsPermutation (bits_in runs.old.items ++ run_big high left) all
+        → IsPermutation (bits_in runs.new.items) all) }
 {
     if left == 0 {
         return Ok(());

@@ -83,7 +83,8 @@ fn push_row(
     grant: &GrantRow,
     out: &mut String,
 ) -> Result<(), NoMemory>
-    ensures { OnOk result (Appends out.old out.new (row_text names.now cycles rectangles.now grant.now)) }
+    ensures { OnOk result (Appends out.old out.new
+        (row_text names.now cycles rectangles.now grant.now)) }
 {
     push_fixed(Fixed::SlotRow, out)?;
     push_lane_name(grant.slot.get(), grant.channel.as_str(), out)?;

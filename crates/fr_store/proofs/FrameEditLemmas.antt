@@ -246,10 +246,6 @@ ended_alone v s f old new c b x frame stands is there so h = record {
       (record { heads = stands.for.heads; rows = end_alone (tables_of old) c.params.cycles b stands.for.rows v s f x is frame there (stored_so (tables_of old) c.params.cycles b stands.for.rows v false so) });
 }
 
-pub not_over : (over : Bool) → not over ≡ true → over ≡ false
-not_over true h = absurd cc
-not_over false h = refl
-
 -- the frame that a placement's edit finds
 pub place_fits : (there : Option Frame) (q : Placement) → FitsAt there (Place q) → (frame : Frame) × (there ≡ Some frame) × (contains frame.placements q ≡ false)
 place_fits None q h = absurd (true≢false (sym h))

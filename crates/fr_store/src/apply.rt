@@ -30,9 +30,11 @@ fn carry_out_all<S: Alter>(tx: &mut Transaction<'_, S>, edits: &[Edit]) -> Resul
         (state S.Store tx.old.conn.now) (state S.Store tx.new.conn.now) result }
     ensures spared { ChangeNoFrame edits.now
         → SparesFrames (state S.Store tx.old.conn.now) (state S.Store tx.new.conn.now) result }
-    ensures stays { StaysInside (state S.Store tx.old.conn.now) (state S.Store tx.new.conn.now) result }
+    ensures stays { StaysInside (state S.Store tx.old.conn.now) (state S.Store tx.new.conn.now)
+        result }
     ensures refused { IfErr result (λ fault. fault ≡ Unavailable) }
-    ensures survives { Survives (state S.Store tx.old.conn.now) (state S.Store tx.new.conn.now) (λ _. ⊥) }
+    ensures survives { Survives (state S.Store tx.old.conn.now) (state S.Store tx.new.conn.now)
+        (λ _. ⊥) }
 {
     for edit in edits {
         carry_out(tx, edit)?;
@@ -91,7 +93,8 @@ impl<S: Alter> Store<S> {
             let new = state S.Store self.new.conn in
             HasCleanDisk new → HasTables old.now → OnErr result (AreAsBefore old new) }
         ensures refused { IfErr result (λ fault. fault ≡ Unavailable) }
-        ensures outside { self.old.conn.in_transaction ≡ false → self.new.conn.in_transaction ≡ false }
+        ensures outside { self.old.conn.in_transaction ≡ false
+            → self.new.conn.in_transaction ≡ false }
         ensures config { OnOk result (self.new.config ≡ after_edits self.old.config edits.now) }
         ensures same { OnErr result (self.new.config ≡ self.old.config) }
         ensures survives { let old = state S.Store self.old.conn in

@@ -27,8 +27,10 @@ use std::alloc::Global;
 /// Makes the tables and the rows of a new register.
 fn make_and_fill<S: Alter>(tx: &mut Transaction<'_, S>, config: &Config) -> Result<(), Error>
     ensures same_reference { tx.new.conn.ghost_name ≡ tx.old.conn.ghost_name }
-    ensures made { MakesNew config.now (state S.Store tx.old.conn.now) (state S.Store tx.new.conn.now) result }
-    ensures survives { Survives (state S.Store tx.old.conn.now) (state S.Store tx.new.conn.now) (λ _. ⊥) }
+    ensures made { MakesNew config.now (state S.Store tx.old.conn.now)
+        (state S.Store tx.new.conn.now) result }
+    ensures survives { Survives (state S.Store tx.old.conn.now) (state S.Store tx.new.conn.now)
+        (λ _. ⊥) }
 {
     making::every_table(tx)?;
     filling::config(tx, config)
@@ -37,12 +39,19 @@ fn make_and_fill<S: Alter>(tx: &mut Transaction<'_, S>, config: &Config) -> Resu
 /// Makes a register of this cluster, in a database with no table: all of it, or nothing.
 fn create<S: Alter>(conn: &mut Connection<S>, config: &Config) -> Result<(), Error>
     requires { conn.old.in_transaction ≡ false }
-    ensures made { HasCleanDisk (state S.Store conn.new) → IsFresh 0 0 (state S.Store conn.old).now → OnOk result (IsNewOf config.now (state S.Store conn.new).now) }
-    ensures committed { HasCleanDisk (state S.Store conn.new) → OnOk result ((state S.Store conn.new).committed ≡ (state S.Store conn.new).now) }
-    ensures open { HasCleanDisk (state S.Store conn.new) → OnOk result (IsTrue (state S.Store conn.new).is_open) }
-    ensures undone { HasCleanDisk (state S.Store conn.new) → IsFresh 0 0 (state S.Store conn.old).now → OnErr result (AreAsBefore (state S.Store conn.old) (state S.Store conn.new)) }
+    ensures made { HasCleanDisk (state S.Store conn.new) → IsFresh 0 0 (state S.Store conn.old).now
+        → OnOk result (IsNewOf config.now (state S.Store conn.new).now) }
+    ensures committed { HasCleanDisk (state S.Store conn.new)
+        → OnOk result ((state S.Store conn.new).committed ≡ (state S.Store conn.new).now) }
+    ensures open { HasCleanDisk (state S.Store conn.new)
+        → OnOk result (IsTrue (state S.Store conn.new).is_open) }
+    ensures undone { HasCleanDisk (state S.Store conn.new)
+        → IsFresh 0 0 (state S.Store conn.old).now
+        → OnErr result (AreAsBefore (state S.Store conn.old) (state S.Store conn.new)) }
     ensures autocommit { conn.new.in_transaction ≡ false }
-    ensures survives { IsFresh 0 0 (state S.Store conn.old).now → Survives (state S.Store conn.old) (state S.Store conn.new) (λ db. IsNewOf config.now (database_of db)) }
+    ensures survives { IsFresh 0 0 (state S.Store conn.old).now
+        → Survives (state S.Store conn.old) (state S.Store conn.new)
+        (λ db. IsNewOf config.now (database_of db)) }
 {
     let _settled = conn.is_autocommit();
     let mut tx = conn.transaction();
@@ -103,20 +112,35 @@ impl<S: Alter + Drop> Store<S> {
         mut conn: Connection<S>,
         config: &Config,
     ) -> Result<Store<S>, (StoreFault, Connection<S>)>
-        ensures made { IfOk result (λ s. HasCleanDisk (state S.Store s.conn) → IsNewOf config.now (state S.Store s.conn).now) }
-        ensures stands { IfOk result (λ s. HasCleanDisk (state S.Store s.conn) → Stands (state S.Store s.conn) config.now.cluster (opening config.now)) }
-        ensures committed { IfOk result (λ s. HasCleanDisk (state S.Store s.conn) → (state S.Store s.conn).committed ≡ (state S.Store s.conn).now) }
-        ensures open { IfOk result (λ s. HasCleanDisk (state S.Store s.conn) → IsTrue (state S.Store s.conn).is_open) }
-        ensures durable { IfOk result (λ s. HasCleanDisk (state S.Store s.conn) → LeavesOnly (state S.Store s.conn) config.now.cluster (opening config.now ∷ [])) }
+        ensures made { IfOk result (λ s. HasCleanDisk (state S.Store s.conn)
+            → IsNewOf config.now (state S.Store s.conn).now) }
+        ensures stands { IfOk result
+            (λ s. HasCleanDisk (state S.Store s.conn)
+            → Stands (state S.Store s.conn) config.now.cluster (opening config.now)) }
+        ensures committed { IfOk result
+            (λ s. HasCleanDisk (state S.Store s.conn)
+            → (state S.Store s.conn).committed ≡ (state S.Store s.conn).now) }
+        ensures open { IfOk result (λ s. HasCleanDisk (state S.Store s.conn)
+            → IsTrue (state S.Store s.conn).is_open) }
+        ensures durable { IfOk result
+            (λ s. HasCleanDisk (state S.Store s.conn)
+            → LeavesOnly (state S.Store s.conn) config.now.cluster (opening config.now ∷ [])) }
         ensures config { IfOk result (λ s. s.config ≡ config.now) }
         ensures bare { IfOk result (λ _. (state S.Store conn).now.schema ≡ schema_of 0 0) }
         ensures outside { IfOk result (λ s. s.conn.in_transaction ≡ false) }
-        ensures survives { IfOk result (λ s. Survives (state S.Store conn) (state S.Store s.conn) (λ db. IsRegisterFor config.now.cluster (opening config.now) (database_of db))) }
+        ensures survives { IfOk result
+            (λ s. Survives (state S.Store conn) (state S.Store s.conn)
+            (λ db. IsRegisterFor config.now.cluster (opening config.now) (database_of db))) }
         ensures told { IfErr result (λ e. Forbids (state S.Store conn).now.schema e.0) }
         ensures untouched { IfErr result (λ e. e.0 ≡ fault.NotEmpty → e.1 ≡ conn) }
-        ensures unharmed { IfErr result (λ e. HasCleanDisk (state S.Store e.1) → AreAsBefore (state S.Store conn) (state S.Store e.1)) }
-        ensures outside_still { IfErr result (λ e. conn.in_transaction ≡ false → e.1.in_transaction ≡ false) }
-        ensures survives_still { IfErr result (λ e. Survives (state S.Store conn) (state S.Store e.1) (λ db. IsRegisterFor config.now.cluster (opening config.now) (database_of db))) }
+        ensures unharmed { IfErr result
+            (λ e. HasCleanDisk (state S.Store e.1)
+            → AreAsBefore (state S.Store conn) (state S.Store e.1)) }
+        ensures outside_still { IfErr result
+            (λ e. conn.in_transaction ≡ false → e.1.in_transaction ≡ false) }
+        ensures survives_still { IfErr result
+            (λ e. Survives (state S.Store conn) (state S.Store e.1)
+            (λ db. IsRegisterFor config.now.cluster (opening config.now) (database_of db))) }
     {
         if has_table(conn.schema()) {
             return Err((StoreFault::NotEmpty, conn));

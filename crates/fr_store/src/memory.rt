@@ -137,8 +137,10 @@ impl Store<FileStore<MemoryFile>> {
         config: &Config,
     ) -> Result<Store<FileStore<MemoryFile>>, StoreFault>
         ensures made { IfOk result (λ s. IsNewOf config.now (file_state s.conn).now) }
-        ensures stands { IfOk result (λ s. Stands (file_state s.conn) config.now.cluster (opening config.now)) }
-        ensures committed { IfOk result (λ s. (file_state s.conn).committed ≡ (file_state s.conn).now) }
+        ensures stands { IfOk result
+            (λ s. Stands (file_state s.conn) config.now.cluster (opening config.now)) }
+        ensures committed { IfOk result
+            (λ s. (file_state s.conn).committed ≡ (file_state s.conn).now) }
         ensures config { IfOk result (λ s. s.config ≡ config.now) }
         ensures outside { IfOk result (λ s. s.conn.in_transaction ≡ false) }
         ensures told { IfErr result (λ e. e ≡ fault.Unavailable) }

@@ -28,12 +28,16 @@ use std::alloc::Global;
 /// Moves the cluster's row into its new table, with the count of cycles that each cluster had before.
 fn move_cluster<S: Alter>(tx: &mut Transaction<'_, S>) -> Result<(), StoreFault>
     ensures same_reference { tx.new.conn.ghost_name ≡ tx.old.conn.ghost_name }
-    ensures moved { MovesCluster (state S.Store tx.old.conn.now) (state S.Store tx.new.conn.now) result }
-    ensures number { let old = state S.Store tx.old.conn.now in let new = state S.Store tx.new.conn.now in
-        HasCleanDisk new → IsTrue old.in_transaction → HasTables old.now → OnOk result ((tables_of new).register ≡ (tables_of old).register) }
-    ensures stays { StaysInside (state S.Store tx.old.conn.now) (state S.Store tx.new.conn.now) result }
+    ensures moved { MovesCluster (state S.Store tx.old.conn.now) (state S.Store tx.new.conn.now)
+        result }
+    ensures number { let old = state S.Store tx.old.conn.now in
+        let new = state S.Store tx.new.conn.now in HasCleanDisk new → IsTrue old.in_transaction
+        → HasTables old.now → OnOk result ((tables_of new).register ≡ (tables_of old).register) }
+    ensures stays { StaysInside (state S.Store tx.old.conn.now) (state S.Store tx.new.conn.now)
+        result }
     ensures refused { IfErr result (λ e. e ≡ fault.Unavailable) }
-    ensures survives { Survives (state S.Store tx.old.conn.now) (state S.Store tx.new.conn.now) (λ _. ⊥) }
+    ensures survives { Survives (state S.Store tx.old.conn.now) (state S.Store tx.new.conn.now)
+        (λ _. ⊥) }
 {
     let rows = tables::cluster::row_inside(tx)?;
     let Some((params, integrator)) = read_before(rows.as_slice()) else {
@@ -47,12 +51,16 @@ fn move_cluster<S: Alter>(tx: &mut Transaction<'_, S>) -> Result<(), StoreFault>
 /// Makes sure that the tables are such as an open wants. It leaves them as they are.
 fn expect_config<S: Alter>(alloc: Global, tx: &mut Transaction<'_, S>) -> Result<(), StoreFault>
     ensures same_reference { tx.new.conn.ghost_name ≡ tx.old.conn.ghost_name }
-    ensures opens { let old = state S.Store tx.old.conn.now in let new = state S.Store tx.new.conn.now in
-        HasCleanDisk new → HasTables old.now → (tables_of old).register ≡ numbered our_schema_number ∷ [] → OnOk result (IsOpenable new.now) }
-    ensures same { let old = state S.Store tx.old.conn.now in let new = state S.Store tx.new.conn.now in
-        HasCleanDisk new → HasTables old.now → MatchResult result (λ _. IsUnchanged old new) (λ _. Stays old new) }
+    ensures opens { let old = state S.Store tx.old.conn.now in
+        let new = state S.Store tx.new.conn.now in HasCleanDisk new → HasTables old.now
+        → (tables_of old).register ≡ numbered our_schema_number ∷ []
+        → OnOk result (IsOpenable new.now) }
+    ensures same { let old = state S.Store tx.old.conn.now in
+        let new = state S.Store tx.new.conn.now in HasCleanDisk new → HasTables old.now
+        → MatchResult result (λ _. IsUnchanged old new) (λ _. Stays old new) }
     ensures refused { IfErr result (λ e. e ≡ fault.Unavailable) }
-    ensures survives { Survives (state S.Store tx.old.conn.now) (state S.Store tx.new.conn.now) (λ _. ⊥) }
+    ensures survives { Survives (state S.Store tx.old.conn.now) (state S.Store tx.new.conn.now)
+        (λ _. ⊥) }
 {
     let cluster = tables::cluster2::row_inside(tx)?;
     let suppliers = tables::suppliers::by_name_inside(tx)?;
@@ -75,11 +83,15 @@ const NUMBER: u32 = 2;
 /// fails where no open would take the tables then.
 fn change_schema<S: Alter>(alloc: Global, tx: &mut Transaction<'_, S>) -> Result<(), StoreFault>
     ensures same_reference { tx.new.conn.ghost_name ≡ tx.old.conn.ghost_name }
-    ensures migrated { Migrates (state S.Store tx.old.conn.now) (state S.Store tx.new.conn.now) result }
-    ensures opens { MakesOpenable (state S.Store tx.old.conn.now) (state S.Store tx.new.conn.now) result }
-    ensures stays { KeepsBefore (state S.Store tx.old.conn.now) (state S.Store tx.new.conn.now) result }
+    ensures migrated { Migrates (state S.Store tx.old.conn.now) (state S.Store tx.new.conn.now)
+        result }
+    ensures opens { MakesOpenable (state S.Store tx.old.conn.now) (state S.Store tx.new.conn.now)
+        result }
+    ensures stays { KeepsBefore (state S.Store tx.old.conn.now) (state S.Store tx.new.conn.now)
+        result }
     ensures refused { IfErr result (λ e. e ≡ fault.Unavailable) }
-    ensures survives { Survives (state S.Store tx.old.conn.now) (state S.Store tx.new.conn.now) (λ _. ⊥) }
+    ensures survives { Survives (state S.Store tx.old.conn.now) (state S.Store tx.new.conn.now)
+        (λ _. ⊥) }
 {
     making::cluster2(tx)?;
     move_cluster(tx)?;
@@ -91,14 +103,21 @@ fn change_schema<S: Alter>(alloc: Global, tx: &mut Transaction<'_, S>) -> Result
 /// Changes the schema in one transaction: all of it, or nothing.
 fn in_one_transaction<S: Alter>(alloc: Global, conn: &mut Connection<S>) -> Result<(), StoreFault>
     requires { conn.old.in_transaction ≡ false }
-    ensures migrated { HasCleanDisk (state S.Store conn.new) → (c : _) (b : _) → StandsBefore (state S.Store conn.old) c b → OnOk result (Stands (state S.Store conn.new) c b) }
+    ensures migrated { HasCleanDisk (state S.Store conn.new) → (c : _) (b : _)
+        → StandsBefore (state S.Store conn.old) c b
+        → OnOk result (Stands (state S.Store conn.new) c b) }
     ensures opens { let old = state S.Store conn.old in let new = state S.Store conn.new in
-        HasCleanDisk new → HasOldTables old.now → HasNumber old.now old_schema_number → OnOk result (IsOpenable new.now) }
-    ensures committed { HasCleanDisk (state S.Store conn.new) → OnOk result ((state S.Store conn.new).committed ≡ (state S.Store conn.new).now) }
-    ensures undone { HasCleanDisk (state S.Store conn.new) → HasOldTables (state S.Store conn.old).now → OnErr result (AreAsBefore (state S.Store conn.old) (state S.Store conn.new)) }
+        HasCleanDisk new → HasOldTables old.now → HasNumber old.now old_schema_number
+        → OnOk result (IsOpenable new.now) }
+    ensures committed { HasCleanDisk (state S.Store conn.new)
+        → OnOk result ((state S.Store conn.new).committed ≡ (state S.Store conn.new).now) }
+    ensures undone { HasCleanDisk (state S.Store conn.new)
+        → HasOldTables (state S.Store conn.old).now
+        → OnErr result (AreAsBefore (state S.Store conn.old) (state S.Store conn.new)) }
     ensures refused { IfErr result (λ e. e ≡ fault.Unavailable) }
     ensures autocommit { conn.new.in_transaction ≡ false }
-    ensures survives { Survives (state S.Store conn.old) (state S.Store conn.new) (LeavesMigrated (state S.Store conn.old)) }
+    ensures survives { Survives (state S.Store conn.old) (state S.Store conn.new)
+        (LeavesMigrated (state S.Store conn.old)) }
 {
     let _settled = conn.is_autocommit();
     let mut tx = conn.transaction();
@@ -110,8 +129,10 @@ fn in_one_transaction<S: Alter>(alloc: Global, conn: &mut Connection<S>) -> Resu
 /// Makes sure that the connection is open. It leaves the tables as they are.
 pub(crate) fn require_open<S: Alter>(conn: &mut Connection<S>) -> Result<(), StoreFault>
     requires { conn.old.in_transaction ≡ false }
-    ensures open { HasCleanDisk (state S.Store conn.new) → OnOk result (IsUnchanged (state S.Store conn.old) (state S.Store conn.new)) }
-    ensures same { HasCleanDisk (state S.Store conn.new) → AreAsBefore (state S.Store conn.old) (state S.Store conn.new) }
+    ensures open { HasCleanDisk (state S.Store conn.new)
+        → OnOk result (IsUnchanged (state S.Store conn.old) (state S.Store conn.new)) }
+    ensures same { HasCleanDisk (state S.Store conn.new)
+        → AreAsBefore (state S.Store conn.old) (state S.Store conn.new) }
     ensures refused { IfErr result (λ e. e ≡ fault.Unavailable) }
     ensures autocommit { conn.new.in_transaction ≡ false }
     ensures survives { Survives (state S.Store conn.old) (state S.Store conn.new) (λ _. ⊥) }
@@ -130,17 +151,29 @@ const NUMBER_BEFORE: i64 = 1;
 /// say no number, WrongSchema only where they say another one, this schema's too, and else Unavailable, also where no
 /// register has such rows; then the tables are as they were, while the connection is open.
 pub fn migrate_on<S: Alter>(alloc: Global, conn: &mut Connection<S>) -> Result<(), StoreFault>
-    ensures migrated { HasCleanDisk (state S.Store conn.new) → (c : _) (b : _) → StandsBefore (state S.Store conn.old) c b → OnOk result (Stands (state S.Store conn.new) c b) }
-    ensures committed { HasCleanDisk (state S.Store conn.new) → OnOk result ((state S.Store conn.new).committed ≡ (state S.Store conn.new).now) }
-    ensures opens { HasCleanDisk (state S.Store conn.new) → HasOldTables (state S.Store conn.old).now → OnOk result (IsOpenable (state S.Store conn.new).now) }
+    ensures migrated { HasCleanDisk (state S.Store conn.new) → (c : _) (b : _)
+        → StandsBefore (state S.Store conn.old) c b
+        → OnOk result (Stands (state S.Store conn.new) c b) }
+    ensures committed { HasCleanDisk (state S.Store conn.new)
+        → OnOk result ((state S.Store conn.new).committed ≡ (state S.Store conn.new).now) }
+    ensures opens { HasCleanDisk (state S.Store conn.new)
+        → HasOldTables (state S.Store conn.old).now
+        → OnOk result (IsOpenable (state S.Store conn.new).now) }
     ensures before { OnOk result (IsOld (state S.Store conn.old).now.schema) }
-    ensures numbered { HasCleanDisk (state S.Store conn.new) → OnOk result (HasSomeTables (state S.Store conn.old).now → HasNumber (state S.Store conn.old).now old_schema_number) }
-    ensures told { HasCleanDisk (state S.Store conn.new) → IfErr result (Refuses old_schema_number (state S.Store conn.old).now) }
-    ensures known { HasCleanDisk (state S.Store conn.new) → (c : _) (b : _) → StandsBefore (state S.Store conn.old) c b → IfErr result (λ e. e ≡ fault.Unavailable) }
+    ensures numbered { HasCleanDisk (state S.Store conn.new)
+        → OnOk result (HasSomeTables (state S.Store conn.old).now
+        → HasNumber (state S.Store conn.old).now old_schema_number) }
+    ensures told { HasCleanDisk (state S.Store conn.new)
+        → IfErr result (Refuses old_schema_number (state S.Store conn.old).now) }
+    ensures known { HasCleanDisk (state S.Store conn.new) → (c : _) (b : _)
+        → StandsBefore (state S.Store conn.old) c b → IfErr result (λ e. e ≡ fault.Unavailable) }
     ensures not_made { IfErr result (λ e. e ≢ fault.NotEmpty) }
-    ensures unharmed { HasCleanDisk (state S.Store conn.new) → HasOldIfBefore (state S.Store conn.old).now → OnErr result (AreAsBefore (state S.Store conn.old) (state S.Store conn.new)) }
+    ensures unharmed { HasCleanDisk (state S.Store conn.new)
+        → HasOldIfBefore (state S.Store conn.old).now
+        → OnErr result (AreAsBefore (state S.Store conn.old) (state S.Store conn.new)) }
     ensures outside { conn.old.in_transaction ≡ false → conn.new.in_transaction ≡ false }
-    ensures survives { Survives (state S.Store conn.old) (state S.Store conn.new) (LeavesMigrated (state S.Store conn.old)) }
+    ensures survives { Survives (state S.Store conn.old) (state S.Store conn.new)
+        (LeavesMigrated (state S.Store conn.old)) }
 {
     if !conn.is_autocommit() {
         return Err(StoreFault::Unavailable);

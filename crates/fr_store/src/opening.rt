@@ -32,8 +32,11 @@ use std::alloc::Global;
 /// another of them. Want of memory counts as no.
 fn has_opened_variants<S: Alter>(alloc: Global, conn: &mut Connection<S>) -> bool
     requires { conn.old.in_transaction ≡ false }
-    ensures opened { HasCleanDisk (state S.Store conn.new) → IsTrue (state S.Store conn.new).is_open → HasTables (state S.Store conn.new).now → IsTrue result → TellsOpened (tables_of (state S.Store conn.new)) }
-    ensures same { HasCleanDisk (state S.Store conn.new) → AreAsBefore (state S.Store conn.old) (state S.Store conn.new) }
+    ensures opened { HasCleanDisk (state S.Store conn.new) → IsTrue (state S.Store conn.new).is_open
+        → HasTables (state S.Store conn.new).now → IsTrue result
+        → TellsOpened (tables_of (state S.Store conn.new)) }
+    ensures same { HasCleanDisk (state S.Store conn.new)
+        → AreAsBefore (state S.Store conn.old) (state S.Store conn.new) }
     ensures autocommit { conn.new.in_transaction ≡ false }
     ensures survives { Survives (state S.Store conn.old) (state S.Store conn.new) (λ _. ⊥) }
 {
@@ -50,11 +53,20 @@ fn has_opened_variants<S: Alter>(alloc: Global, conn: &mut Connection<S>) -> boo
 /// variants, or for want of memory.
 fn config<S: Alter>(alloc: Global, conn: &mut Connection<S>) -> Option<Config>
     requires { conn.old.in_transaction ≡ false }
-    ensures cluster { HasCleanDisk (state S.Store conn.new) → IsTrue (state S.Store conn.new).is_open → HasTables (state S.Store conn.old).now → IfSome result (λ c. (tables_of (state S.Store conn.old)).cluster2 ≡ cluster2_row c.cluster.params c.cluster.integrator ∷ []) }
-    ensures suppliers { HasCleanDisk (state S.Store conn.new) → IsTrue (state S.Store conn.new).is_open → HasTables (state S.Store conn.old).now → IfSome result (λ c. IsPermutation (map supplier_row c.suppliers) (tables_of (state S.Store conn.old)).suppliers) }
-    ensures variants { HasCleanDisk (state S.Store conn.new) → IsTrue (state S.Store conn.new).is_open → HasTables (state S.Store conn.new).now → IfSome result (λ _. TellsOpened (tables_of (state S.Store conn.new))) }
+    ensures cluster { HasCleanDisk (state S.Store conn.new)
+        → IsTrue (state S.Store conn.new).is_open → HasTables (state S.Store conn.old).now
+        → IfSome result (λ c. (tables_of (state S.Store conn.old)).cluster2
+        ≡ cluster2_row c.cluster.params c.cluster.integrator ∷ []) }
+    ensures suppliers { HasCleanDisk (state S.Store conn.new)
+        → IsTrue (state S.Store conn.new).is_open → HasTables (state S.Store conn.old).now
+        → IfSome result (λ c. IsPermutation (map supplier_row c.suppliers)
+        (tables_of (state S.Store conn.old)).suppliers) }
+    ensures variants { HasCleanDisk (state S.Store conn.new)
+        → IsTrue (state S.Store conn.new).is_open → HasTables (state S.Store conn.new).now
+        → IfSome result (λ _. TellsOpened (tables_of (state S.Store conn.new))) }
     ensures formed { IfSome result IsWellFormed }
-    ensures same { HasCleanDisk (state S.Store conn.new) → AreAsBefore (state S.Store conn.old) (state S.Store conn.new) }
+    ensures same { HasCleanDisk (state S.Store conn.new)
+        → AreAsBefore (state S.Store conn.old) (state S.Store conn.new) }
     ensures autocommit { conn.new.in_transaction ≡ false }
     ensures survives { Survives (state S.Store conn.old) (state S.Store conn.new) (λ _. ⊥) }
 {
@@ -81,7 +93,9 @@ pub(crate) fn config_of(
     suppliers: &[Row],
     variants: &[Row],
 ) -> Option<Config>
-    ensures cluster { IfSome result (λ c. cluster.now ≡ shows_cluster2 (cluster2_row c.cluster.params c.cluster.integrator) ∷ []) }
+    ensures cluster { IfSome result
+        (λ c. cluster.now ≡ shows_cluster2 (cluster2_row c.cluster.params c.cluster.integrator)
+        ∷ []) }
     ensures suppliers { IfSome result (λ c. suppliers.now ≡ map shown_supplier c.suppliers) }
     ensures variants { IfSome result (λ _. AreOpened (map variant_shown variants.now)) }
     ensures formed { IfSome result IsWellFormed }
@@ -97,12 +111,19 @@ fn read_config<S: Alter>(alloc: Global, conn: &mut Connection<S>) -> Result<Conf
     requires { conn.old.in_transaction ≡ false }
     ensures formed { IfOk result IsWellFormed }
     ensures ours { OnOk result (IsOurs (state S.Store conn.new).now.schema) }
-    ensures stands { HasCleanDisk (state S.Store conn.new) → AreOrdered (state S.Store conn.old).now.trees → IfOk result (λ c. IsRegisterOf c (state S.Store conn.new).now) }
-    ensures variants { HasCleanDisk (state S.Store conn.new) → HasTables (state S.Store conn.new).now → OnOk result (TellsOpened (tables_of (state S.Store conn.new))) }
-    ensures open { HasCleanDisk (state S.Store conn.new) → OnOk result (IsTrue (state S.Store conn.new).is_open) }
-    ensures told { HasCleanDisk (state S.Store conn.new) → IfErr result (Explains (state S.Store conn.old).now) }
+    ensures stands { HasCleanDisk (state S.Store conn.new)
+        → AreOrdered (state S.Store conn.old).now.trees
+        → IfOk result (λ c. IsRegisterOf c (state S.Store conn.new).now) }
+    ensures variants { HasCleanDisk (state S.Store conn.new)
+        → HasTables (state S.Store conn.new).now
+        → OnOk result (TellsOpened (tables_of (state S.Store conn.new))) }
+    ensures open { HasCleanDisk (state S.Store conn.new)
+        → OnOk result (IsTrue (state S.Store conn.new).is_open) }
+    ensures told { HasCleanDisk (state S.Store conn.new)
+        → IfErr result (Explains (state S.Store conn.old).now) }
     ensures not_made { IfErr result (λ e. e ≢ fault.NotEmpty) }
-    ensures same { HasCleanDisk (state S.Store conn.new) → AreAsBefore (state S.Store conn.old) (state S.Store conn.new) }
+    ensures same { HasCleanDisk (state S.Store conn.new)
+        → AreAsBefore (state S.Store conn.old) (state S.Store conn.new) }
     ensures autocommit { conn.new.in_transaction ≡ false }
     ensures survives { Survives (state S.Store conn.old) (state S.Store conn.new) (λ _. ⊥) }
 {
@@ -125,21 +146,40 @@ impl<S: Alter + Drop> Store<S> {
         alloc: Global,
         mut conn: Connection<S>,
     ) -> Result<Store<S>, (StoreFault, Connection<S>)>
-        ensures open { IfOk result (λ s. HasCleanDisk (state S.Store s.conn) → IsTrue (state S.Store conn).is_open × IsTrue (state S.Store s.conn).is_open) }
-        ensures opened { IfOk result (λ s. HasCleanDisk (state S.Store s.conn) → ((state S.Store s.conn).now ≡ (state S.Store conn).now) × ((state S.Store s.conn).committed ≡ (state S.Store conn).committed)) }
-        ensures serves { IfOk result (λ s. HasCleanDisk (state S.Store s.conn) → Serves (state S.Store s.conn)) }
+        ensures open { IfOk result (λ s. HasCleanDisk (state S.Store s.conn)
+            → IsTrue (state S.Store conn).is_open × IsTrue (state S.Store s.conn).is_open) }
+        ensures opened { IfOk result
+            (λ s. HasCleanDisk (state S.Store s.conn)
+            → ((state S.Store s.conn).now ≡ (state S.Store conn).now)
+            × ((state S.Store s.conn).committed ≡ (state S.Store conn).committed)) }
+        ensures serves { IfOk result
+            (λ s. HasCleanDisk (state S.Store s.conn) → Serves (state S.Store s.conn)) }
         ensures ours { IfOk result (λ s. IsOurs (state S.Store s.conn).now.schema) }
-        ensures stands { IfOk result (λ s. HasCleanDisk (state S.Store s.conn) → AreOrdered (state S.Store conn).now.trees → IsRegisterOf s.config (state S.Store s.conn).now) }
-        ensures variants { IfOk result (λ s. HasCleanDisk (state S.Store s.conn) → HasTables (state S.Store s.conn).now → TellsOpened (tables_of (state S.Store s.conn))) }
-        ensures again { IfOk result (λ s. HasCleanDisk (state S.Store s.conn) → FindsAgain (state S.Store conn) (state S.Store s.conn) s.config) }
+        ensures stands { IfOk result
+            (λ s. HasCleanDisk (state S.Store s.conn) → AreOrdered (state S.Store conn).now.trees
+            → IsRegisterOf s.config (state S.Store s.conn).now) }
+        ensures variants { IfOk result
+            (λ s. HasCleanDisk (state S.Store s.conn) → HasTables (state S.Store s.conn).now
+            → TellsOpened (tables_of (state S.Store s.conn))) }
+        ensures again { IfOk result
+            (λ s. HasCleanDisk (state S.Store s.conn)
+            → FindsAgain (state S.Store conn) (state S.Store s.conn) s.config) }
         ensures outside { IfOk result (λ s. s.conn.in_transaction ≡ false) }
-        ensures survives { IfOk result (λ s. Survives (state S.Store conn) (state S.Store s.conn) (λ _. ⊥)) }
-        ensures told { IfErr result (λ e. HasCleanDisk (state S.Store e.1) → Explains (state S.Store conn).now e.0) }
+        ensures survives { IfOk result
+            (λ s. Survives (state S.Store conn) (state S.Store s.conn) (λ _. ⊥)) }
+        ensures told { IfErr result
+            (λ e. HasCleanDisk (state S.Store e.1) → Explains (state S.Store conn).now e.0) }
         ensures not_made { IfErr result (λ e. e.0 ≢ fault.NotEmpty) }
-        ensures known { IfErr result (λ e. HasCleanDisk (state S.Store e.1) → (c : _) → IsRegisterOf c (state S.Store conn).now → e.0 ≡ fault.Unavailable) }
-        ensures unharmed { IfErr result (λ e. HasCleanDisk (state S.Store e.1) → AreAsBefore (state S.Store conn) (state S.Store e.1)) }
-        ensures outside_still { IfErr result (λ e. conn.in_transaction ≡ false → e.1.in_transaction ≡ false) }
-        ensures survives_still { IfErr result (λ e. Survives (state S.Store conn) (state S.Store e.1) (λ _. ⊥)) }
+        ensures known { IfErr result
+            (λ e. HasCleanDisk (state S.Store e.1) → (c : _)
+            → IsRegisterOf c (state S.Store conn).now → e.0 ≡ fault.Unavailable) }
+        ensures unharmed { IfErr result
+            (λ e. HasCleanDisk (state S.Store e.1)
+            → AreAsBefore (state S.Store conn) (state S.Store e.1)) }
+        ensures outside_still { IfErr result
+            (λ e. conn.in_transaction ≡ false → e.1.in_transaction ≡ false) }
+        ensures survives_still { IfErr result
+            (λ e. Survives (state S.Store conn) (state S.Store e.1) (λ _. ⊥)) }
     {
         if !conn.is_autocommit() {
             return Err((StoreFault::Unavailable, conn));

@@ -31,7 +31,9 @@ pub(crate) fn rows<S: Alter>(
     supplier: &Name,
     variant: &Name,
 ) -> Result<Option<PageRows>, StoreFault>
-    ensures told { Reads (λ t found. TellsRows params.now supplier.now variant.now t (option_map rows_data found)) (state S.Store conn.old) (state S.Store conn.new) result }
+    ensures told { Reads (λ t found.
+        TellsRows params.now supplier.now variant.now t (option_map rows_data found))
+        (state S.Store conn.old) (state S.Store conn.new) result }
     ensures params { IfOk result (λ found. IfSome found (λ rows. rows.params ≡ params.now)) }
     ensures refused { IfErr result (λ fault. fault ≡ Unavailable) }
     ensures spares { Spares (state S.Store conn.old) (state S.Store conn.new) }
@@ -59,7 +61,8 @@ fn own_nodes<S: Alter>(
     conn: &mut Connection<S>,
     supplier: &Name,
 ) -> Result<BTreeSet<Name>, StoreFault>
-    ensures told { Reads (λ t nodes. TellsNodes supplier.now t nodes.keys) (state S.Store conn.old) (state S.Store conn.new) result }
+    ensures told { Reads (λ t nodes. TellsNodes supplier.now t nodes.keys) (state S.Store conn.old)
+        (state S.Store conn.new) result }
     ensures refused { IfErr result (λ fault. fault ≡ Unavailable) }
     ensures spares { Spares (state S.Store conn.old) (state S.Store conn.new) }
 {
@@ -69,7 +72,9 @@ fn own_nodes<S: Alter>(
 
 // The names in the rows' first columns. None where one is not a name, or memory is refused.
 fn nodes_of(alloc: Global, rows: &[Row]) -> Option<BTreeSet<Name>>
-    ensures { IfSome result (λ nodes. (s : _) → set_of owned (λ n. (s, n)) nodes.keys ≡ set_of owned (λ n. (s, n)) (map name_shown (reverse rows.now))) }
+    ensures { IfSome result (λ nodes. (s : _)
+        → set_of owned (λ n. (s, n)) nodes.keys
+        ≡ set_of owned (λ n. (s, n)) (map name_shown (reverse rows.now))) }
 {
     let mut nodes = BTreeSet::new(alloc);
     for row in rows {
@@ -87,7 +92,8 @@ fn own_grants<S: Alter>(
     variant: &Name,
     supplier: &Name,
 ) -> Result<BTreeMap<ChannelSlot, Name>, StoreFault>
-    ensures told { Reads (λ t grants. TellsGrants variant.now supplier.now t grants.entries) (state S.Store conn.old) (state S.Store conn.new) result }
+    ensures told { Reads (λ t grants. TellsGrants variant.now supplier.now t grants.entries)
+        (state S.Store conn.old) (state S.Store conn.new) result }
     ensures refused { IfErr result (λ fault. fault ≡ Unavailable) }
     ensures spares { Spares (state S.Store conn.old) (state S.Store conn.new) }
 {
@@ -97,7 +103,10 @@ fn own_grants<S: Alter>(
 
 // The grants in the rows. None where a row has not the form, or memory is refused.
 fn grants_of(alloc: Global, rows: &[Row]) -> Option<BTreeMap<ChannelSlot, Name>>
-    ensures { IfSome result (λ grants. (s : _) → table_of channel_slots (λ k. (k.slot, k.channel)) (holder_of s) grants.entries ≡ table_of channel_slots (λ k. (k.slot, k.channel)) (holder_of s) (map grant_shown (reverse rows.now))) }
+    ensures { IfSome result (λ grants. (s : _)
+        → table_of channel_slots (λ k. (k.slot, k.channel)) (holder_of s) grants.entries
+        ≡ table_of channel_slots (λ k. (k.slot, k.channel)) (holder_of s)
+        (map grant_shown (reverse rows.now))) }
 {
     let mut grants = BTreeMap::new(alloc);
     for row in rows {

@@ -27,7 +27,8 @@ use std::alloc::Global;
 impl<S: Alter> Store<S> {
     /// Whether the variant is there. The only refusal is `Unavailable`.
     pub fn has_variant(&mut self, variant: &Name) -> Result<bool, StoreFault>
-        ensures has { Tells (state S.Store self.old.conn) (state S.Store self.new.conn) result (λ c b has. has ≡ contains b.variants variant.now) }
+        ensures has { Tells (state S.Store self.old.conn) (state S.Store self.new.conn) result
+            (λ c b has. has ≡ contains b.variants variant.now) }
         ensures config { self.new.config ≡ self.old.config }
         ensures refused { IfErr result (λ fault. fault ≡ Unavailable) }
         ensures stays { Leaves (state S.Store self.old.conn) (state S.Store self.new.conn) }
@@ -46,8 +47,11 @@ impl<S: Alter> Store<S> {
         supplier: &Name,
         variant: &Name,
     ) -> Result<Option<Page>, StoreFault>
-        ensures page { Tells (state S.Store self.old.conn) (state S.Store self.new.conn) result (λ c b found. c.params.cycles ≡ self.old.config.cluster.params.cycles → found ≡ page_of self.old.config.cluster.params b supplier.now variant.now) }
-        ensures params { IfOk result (λ found. IfSome found (λ page. page.params ≡ self.old.config.cluster.params)) }
+        ensures page { Tells (state S.Store self.old.conn) (state S.Store self.new.conn) result
+            (λ c b found. c.params.cycles ≡ self.old.config.cluster.params.cycles
+            → found ≡ page_of self.old.config.cluster.params b supplier.now variant.now) }
+        ensures params { IfOk result
+            (λ found. IfSome found (λ page. page.params ≡ self.old.config.cluster.params)) }
         ensures config { self.new.config ≡ self.old.config }
         ensures refused { IfErr result (λ fault. fault ≡ Unavailable) }
         ensures stays { Leaves (state S.Store self.old.conn) (state S.Store self.new.conn) }
@@ -70,7 +74,8 @@ impl<S: Alter> Store<S> {
         slot: Slot,
         channel: Channel,
     ) -> Result<Option<Holder>, StoreFault>
-        ensures holder { Tells (state S.Store self.old.conn) (state S.Store self.new.conn) result (λ c b found. option_map as_holder found ≡ holder_in b variant.now (slot, channel)) }
+        ensures holder { Tells (state S.Store self.old.conn) (state S.Store self.new.conn) result
+            (λ c b found. option_map as_holder found ≡ holder_in b variant.now (slot, channel)) }
         ensures config { self.new.config ≡ self.old.config }
         ensures refused { IfErr result (λ fault. fault ≡ Unavailable) }
         ensures stays { Leaves (state S.Store self.old.conn) (state S.Store self.new.conn) }
@@ -83,7 +88,8 @@ impl<S: Alter> Store<S> {
     /// The variants, by name. Each was opened empty or from one of them. The only refusal is
     /// `Unavailable`.
     pub fn variants(&mut self, alloc: Global) -> Result<Vec<VariantRow>, StoreFault>
-        ensures variants { Tells (state S.Store self.old.conn) (state S.Store self.new.conn) result (λ c b rows. rows.items ≡ variants_in b) }
+        ensures variants { Tells (state S.Store self.old.conn) (state S.Store self.new.conn) result
+            (λ c b rows. rows.items ≡ variants_in b) }
         ensures opened { IfOk result (λ rows. AreOpened rows.items) }
         ensures config { self.new.config ≡ self.old.config }
         ensures refused { IfErr result (λ fault. fault ≡ Unavailable) }
@@ -96,7 +102,8 @@ impl<S: Alter> Store<S> {
 
     /// The supplier's nodes, in byte order. The only refusal is `Unavailable`.
     pub fn nodes(&mut self, alloc: Global, supplier: &Name) -> Result<Vec<Name>, StoreFault>
-        ensures nodes { Tells (state S.Store self.old.conn) (state S.Store self.new.conn) result (λ c b names. names.items ≡ nodes_in b supplier.now) }
+        ensures nodes { Tells (state S.Store self.old.conn) (state S.Store self.new.conn) result
+            (λ c b names. names.items ≡ nodes_in b supplier.now) }
         ensures config { self.new.config ≡ self.old.config }
         ensures refused { IfErr result (λ fault. fault ≡ Unavailable) }
         ensures stays { Leaves (state S.Store self.old.conn) (state S.Store self.new.conn) }
@@ -114,7 +121,8 @@ impl<S: Alter> Store<S> {
         supplier: &Name,
         label: &Name,
     ) -> Result<Option<KeptImport>, StoreFault>
-        ensures import { Tells (state S.Store self.old.conn) (state S.Store self.new.conn) result (λ c b found. option_map kept_of found ≡ get b.imports (supplier.now, label.now)) }
+        ensures import { Tells (state S.Store self.old.conn) (state S.Store self.new.conn) result
+            (λ c b found. option_map kept_of found ≡ get b.imports (supplier.now, label.now)) }
         ensures config { self.new.config ≡ self.old.config }
         ensures refused { IfErr result (λ fault. fault ≡ Unavailable) }
         ensures stays { Leaves (state S.Store self.old.conn) (state S.Store self.new.conn) }
@@ -126,7 +134,8 @@ impl<S: Alter> Store<S> {
 
     /// How many imports of the supplier are kept. The only refusal is `Unavailable`.
     pub fn imports(&mut self, supplier: &Name) -> Result<usize, StoreFault>
-        ensures imports { Tells (state S.Store self.old.conn) (state S.Store self.new.conn) result (λ c b count. count ≡ len (own supplier.now b.imports)) }
+        ensures imports { Tells (state S.Store self.old.conn) (state S.Store self.new.conn) result
+            (λ c b count. count ≡ len (own supplier.now b.imports)) }
         ensures config { self.new.config ≡ self.old.config }
         ensures refused { IfErr result (λ fault. fault ≡ Unavailable) }
         ensures stays { Leaves (state S.Store self.old.conn) (state S.Store self.new.conn) }

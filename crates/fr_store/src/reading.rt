@@ -117,7 +117,8 @@ fn holder_of(row: &Row) -> Option<Holder>
 /// The import in the first row, if there is one. `Unavailable` where the row has not the form, or
 /// memory is refused.
 pub(crate) fn first_import(alloc: Global, rows: &[Row]) -> Result<Option<KeptImport>, StoreFault>
-    ensures import { IfOk result (λ found. option_map kept_of found ≡ option_map import_shown (slice_get rows.now 0)) }
+    ensures import { IfOk result
+        (λ found. option_map kept_of found ≡ option_map import_shown (slice_get rows.now 0)) }
     ensures refused { IfErr result (λ fault. fault ≡ Unavailable) }
 {
     let Some(row) = rows.first() else {

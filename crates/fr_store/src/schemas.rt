@@ -22,8 +22,10 @@ use std::alloc::Global;
 /// Makes the tables, in a database with none.
 fn make<S: Alter>(conn: &mut Connection<S>) -> Result<(), Error>
     requires { conn.old.in_transaction ≡ false }
-    ensures made { HasCleanDisk (state S.Store conn.new) → IsFresh 0 0 (state S.Store conn.old).now → OnOk result ((state S.Store conn.new).now.schema ≡ register_schema layout_made) }
-    ensures clean { doubt (state S.Store conn.old).is_clean ≤ doubt (state S.Store conn.new).is_clean }
+    ensures made { HasCleanDisk (state S.Store conn.new) → IsFresh 0 0 (state S.Store conn.old).now
+        → OnOk result ((state S.Store conn.new).now.schema ≡ register_schema layout_made) }
+    ensures clean { doubt (state S.Store conn.old).is_clean
+        ≤ doubt (state S.Store conn.new).is_clean }
 {
     let mut tx = conn.transaction();
     making::every_table(&mut tx)?;
@@ -33,8 +35,10 @@ fn make<S: Alter>(conn: &mut Connection<S>) -> Result<(), Error>
 /// Makes the tables of the schema before, in a database with none.
 fn make_before<S: Alter>(conn: &mut Connection<S>) -> Result<(), Error>
     requires { conn.old.in_transaction ≡ false }
-    ensures made { HasCleanDisk (state S.Store conn.new) → IsFresh 0 0 (state S.Store conn.old).now → OnOk result ((state S.Store conn.new).now.schema ≡ old_schema layout_made.index None) }
-    ensures clean { doubt (state S.Store conn.old).is_clean ≤ doubt (state S.Store conn.new).is_clean }
+    ensures made { HasCleanDisk (state S.Store conn.new) → IsFresh 0 0 (state S.Store conn.old).now
+        → OnOk result ((state S.Store conn.new).now.schema ≡ old_schema layout_made.index None) }
+    ensures clean { doubt (state S.Store conn.old).is_clean
+        ≤ doubt (state S.Store conn.new).is_clean }
 {
     let mut tx = conn.transaction();
     making::before(&mut tx)?;
@@ -59,7 +63,9 @@ fn our_schema(
     before: Option<u32>,
     behind: Option<u32>,
 ) -> Result<Schema, Error>
-    ensures { IfOk result (λ schema. schema ≡ register_schema (record { cluster2 = cluster2; index = index; before = before; behind = behind })) }
+    ensures { IfOk result (λ schema.
+        schema ≡ register_schema
+        (record { cluster2 = cluster2; index = index; before = before; behind = behind })) }
 {
     let mut conn = Connection::open_in_memory(alloc)?;
     make(&mut conn)?;
@@ -185,10 +191,14 @@ pub(crate) fn expect_number<S: Alter>(
     wanted: i64,
 ) -> Result<(), StoreFault>
     requires { conn.old.in_transaction ≡ false }
-    ensures found { HasCleanDisk (state S.Store conn.new) → OnOk result (HasSomeTables (state S.Store conn.old).now → HasNumber (state S.Store conn.old).now wanted) }
-    ensures told { HasCleanDisk (state S.Store conn.new) → IfErr result (Refuses wanted (state S.Store conn.old).now) }
+    ensures found { HasCleanDisk (state S.Store conn.new)
+        → OnOk result (HasSomeTables (state S.Store conn.old).now
+        → HasNumber (state S.Store conn.old).now wanted) }
+    ensures told { HasCleanDisk (state S.Store conn.new)
+        → IfErr result (Refuses wanted (state S.Store conn.old).now) }
     ensures not_made { IfErr result (λ e. e ≢ fault.NotEmpty) }
-    ensures same { HasCleanDisk (state S.Store conn.new) → AreAsBefore (state S.Store conn.old) (state S.Store conn.new) }
+    ensures same { HasCleanDisk (state S.Store conn.new)
+        → AreAsBefore (state S.Store conn.old) (state S.Store conn.new) }
     ensures autocommit { conn.new.in_transaction ≡ false }
     ensures survives { Survives (state S.Store conn.old) (state S.Store conn.new) (λ _. ⊥) }
 {

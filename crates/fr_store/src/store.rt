@@ -41,11 +41,15 @@ impl<S: Alter> Store<S> {
     /// Whether the register can be asked. Where it says so the connection is open. Else a fault of the disk may have shut
     /// it, or memory was wanting: no clause says which.
     pub fn is_ready(&mut self) -> bool
-        ensures open { HasCleanDisk (state S.Store self.new.conn) → IsTrue result → IsUnchanged (state S.Store self.old.conn) (state S.Store self.new.conn) }
-        ensures stays { HasCleanDisk (state S.Store self.new.conn) → Stays (state S.Store self.old.conn) (state S.Store self.new.conn) }
+        ensures open { HasCleanDisk (state S.Store self.new.conn) → IsTrue result
+            → IsUnchanged (state S.Store self.old.conn) (state S.Store self.new.conn) }
+        ensures stays { HasCleanDisk (state S.Store self.new.conn)
+            → Stays (state S.Store self.old.conn) (state S.Store self.new.conn) }
         ensures config { self.new.config ≡ self.old.config }
-        ensures outside { self.old.conn.in_transaction ≡ false → self.new.conn.in_transaction ≡ false }
-        ensures survives { Survives (state S.Store self.old.conn) (state S.Store self.new.conn) (λ _. ⊥) }
+        ensures outside { self.old.conn.in_transaction ≡ false
+            → self.new.conn.in_transaction ≡ false }
+        ensures survives { Survives (state S.Store self.old.conn) (state S.Store self.new.conn)
+            (λ _. ⊥) }
     {
         self.conn.prepare("SELECT schema FROM register").is_ok()
     }

@@ -87,10 +87,14 @@ impl<S: Alter> Records for Store<S> {
 // Makes sure that the register can answer. Once a fault has shut it, nothing is read and nothing is
 // changed.
 fn require_open<S: Alter>(store: &mut Store<S>) -> Result<(), Refusal>
-    ensures reads { Reads (λ s. HasCleanDisk (state S.Store s.conn)) (λ s. s.config.cluster.params) (λ s. StoredLeaves (state S.Store s.conn)) store.old store.new }
+    ensures reads { Reads (λ s. HasCleanDisk (state S.Store s.conn)) (λ s. s.config.cluster.params)
+        (λ s. StoredLeaves (state S.Store s.conn)) store.old store.new }
     ensures config { store.new.config ≡ store.old.config }
-    ensures open { HasCleanDisk (state S.Store store.new.conn) → OnOk result (IsTrue (state S.Store store.new.conn).is_open) }
-    ensures stands { HasCleanDisk (state S.Store store.new.conn) → (c : _) (b : _) → StandsStored store.old.config (state S.Store store.old.conn) c b → StandsStored store.new.config (state S.Store store.new.conn) c b }
+    ensures open { HasCleanDisk (state S.Store store.new.conn)
+        → OnOk result (IsTrue (state S.Store store.new.conn).is_open) }
+    ensures stands { HasCleanDisk (state S.Store store.new.conn) → (c : _) (b : _)
+        → StandsStored store.old.config (state S.Store store.old.conn) c b
+        → StandsStored store.new.config (state S.Store store.new.conn) c b }
     ensures refused { IfErr result (λ e. e ≡ Unavailable) }
 {
     if store.is_ready() {

@@ -15,14 +15,32 @@ use sqlite_value::value::ValueRef;
 /// Asks in a transaction that it undoes. So the tables stay, whatever the text means there.
 pub fn ask_and_undo<S: Alter>(conn: &mut Connection<S>, sql: &str) -> Result<Vec<Row>, Error>
     requires { conn.old.in_transaction ≡ false }
-    ensures number { HasCleanDisk (state S.Store conn.new) → sql.now ≡ number_text → HasSomeTables (state S.Store conn.old).now → IfOk result (λ rows. IsPermutation (map shows_register (tables_of (state S.Store conn.old)).register) rows.items) }
-    ensures told { HasCleanDisk (state S.Store conn.new) → sql.now ≡ number_text → HasSomeTables (state S.Store conn.old).now → IfErr result (λ e. (x : _) → e ≢ SqlInputError x) }
-    ensures answer { HasCleanDisk (state S.Store conn.new) → IfOk result (λ rows. Answers sql.now (state S.Store conn.old).now rows.items) }
-    ensures unread { HasCleanDisk (state S.Store conn.new) → IfErr result (λ e. (x : _) → e ≡ SqlInputError x → ¬ IsQuery (state S.Store conn.old).now.schema sql.now) }
-    ensures cluster { HasCleanDisk (state S.Store conn.new) → sql.now ≡ cluster_text → HasTables (state S.Store conn.old).now → IfOk result (λ rows. AreListed shows_cluster2 every any_order (tables_of (state S.Store conn.old)).cluster2 rows.items) }
-    ensures suppliers { HasCleanDisk (state S.Store conn.new) → sql.now ≡ suppliers_text → HasTables (state S.Store conn.old).now → IfOk result (λ rows. AreListed shows_supplier every suppliers_cmp (tables_of (state S.Store conn.old)).suppliers rows.items) }
-    ensures variants { HasCleanDisk (state S.Store conn.new) → sql.now ≡ variants_text → HasTables (state S.Store conn.old).now → IfOk result (λ rows. AreListed shows_variant every variants_cmp (tables_of (state S.Store conn.old)).variants rows.items) }
-    ensures same { HasCleanDisk (state S.Store conn.new) → AreAsBefore (state S.Store conn.old) (state S.Store conn.new) }
+    ensures number { HasCleanDisk (state S.Store conn.new) → sql.now ≡ number_text
+        → HasSomeTables (state S.Store conn.old).now
+        → IfOk result (λ rows. IsPermutation
+        (map shows_register (tables_of (state S.Store conn.old)).register) rows.items) }
+    ensures told { HasCleanDisk (state S.Store conn.new) → sql.now ≡ number_text
+        → HasSomeTables (state S.Store conn.old).now
+        → IfErr result (λ e. (x : _) → e ≢ SqlInputError x) }
+    ensures answer { HasCleanDisk (state S.Store conn.new)
+        → IfOk result (λ rows. Answers sql.now (state S.Store conn.old).now rows.items) }
+    ensures unread { HasCleanDisk (state S.Store conn.new)
+        → IfErr result (λ e. (x : _) → e ≡ SqlInputError x
+        → ¬ IsQuery (state S.Store conn.old).now.schema sql.now) }
+    ensures cluster { HasCleanDisk (state S.Store conn.new) → sql.now ≡ cluster_text
+        → HasTables (state S.Store conn.old).now
+        → IfOk result (λ rows. AreListed shows_cluster2 every any_order
+        (tables_of (state S.Store conn.old)).cluster2 rows.items) }
+    ensures suppliers { HasCleanDisk (state S.Store conn.new) → sql.now ≡ suppliers_text
+        → HasTables (state S.Store conn.old).now
+        → IfOk result (λ rows. AreListed shows_supplier every suppliers_cmp
+        (tables_of (state S.Store conn.old)).suppliers rows.items) }
+    ensures variants { HasCleanDisk (state S.Store conn.new) → sql.now ≡ variants_text
+        → HasTables (state S.Store conn.old).now
+        → IfOk result (λ rows. AreListed shows_variant every variants_cmp
+        (tables_of (state S.Store conn.old)).variants rows.items) }
+    ensures same { HasCleanDisk (state S.Store conn.new)
+        → AreAsBefore (state S.Store conn.old) (state S.Store conn.new) }
     ensures autocommit { conn.new.in_transaction ≡ false }
     ensures survives { Survives (state S.Store conn.old) (state S.Store conn.new) (λ _. ⊥) }
 {
@@ -47,11 +65,19 @@ fn number_of(rows: &[Row]) -> Option<i64>
 /// The number of the schema, if the tables say one number and no other.
 pub fn number<S: Alter>(conn: &mut Connection<S>) -> Result<Option<i64>, Error>
     requires { conn.old.in_transaction ≡ false }
-    ensures some { HasCleanDisk (state S.Store conn.new) → IfOk result (λ found. IfSome found (λ n. HasSomeTables (state S.Store conn.old).now → HasNumber (state S.Store conn.old).now n)) }
-    ensures found { HasCleanDisk (state S.Store conn.new) → IfOk result (λ found. (n : ℤ) → HasNumber (state S.Store conn.old).now n → found ≡ Some n) }
-    ensures says { HasCleanDisk (state S.Store conn.new) → IfOk result (λ found. IfSome found (SaysNumber (state S.Store conn.old).now)) }
-    ensures silent { HasCleanDisk (state S.Store conn.new) → IfOk result (λ found. found ≡ None → SaysNoNumber (state S.Store conn.old).now) }
-    ensures same { HasCleanDisk (state S.Store conn.new) → AreAsBefore (state S.Store conn.old) (state S.Store conn.new) }
+    ensures some { HasCleanDisk (state S.Store conn.new)
+        → IfOk result (λ found. IfSome found
+        (λ n. HasSomeTables (state S.Store conn.old).now
+        → HasNumber (state S.Store conn.old).now n)) }
+    ensures found { HasCleanDisk (state S.Store conn.new)
+        → IfOk result (λ found. (n : ℤ) → HasNumber (state S.Store conn.old).now n
+        → found ≡ Some n) }
+    ensures says { HasCleanDisk (state S.Store conn.new)
+        → IfOk result (λ found. IfSome found (SaysNumber (state S.Store conn.old).now)) }
+    ensures silent { HasCleanDisk (state S.Store conn.new)
+        → IfOk result (λ found. found ≡ None → SaysNoNumber (state S.Store conn.old).now) }
+    ensures same { HasCleanDisk (state S.Store conn.new)
+        → AreAsBefore (state S.Store conn.old) (state S.Store conn.new) }
     ensures autocommit { conn.new.in_transaction ≡ false }
     ensures survives { Survives (state S.Store conn.old) (state S.Store conn.new) (λ _. ⊥) }
 {

@@ -121,7 +121,8 @@ fn params_before(row: &Row) -> Option<(Params, Key)>
 /// The parameters and the integrator's key that these rows of the schema before tell, with 64
 /// cycles. None, if they tell none.
 pub fn read_before(cluster: &[Row]) -> Option<(Params, Key)>
-    ensures cluster { IfSome result (λ read. cluster.now ≡ shows_cluster (cluster_row read.0 read.1) ∷ []) }
+    ensures cluster { IfSome result
+        (λ read. cluster.now ≡ shows_cluster (cluster_row read.0 read.1) ∷ []) }
     ensures cycles { IfSome result (λ read. read.0.cycles ≡ 64) }
 {
     let [row] = cluster else {
@@ -183,7 +184,9 @@ fn is_cluster(integrator: Key, suppliers: &[Supplier]) -> bool
 
 /// The config that these rows tell. None, if they tell none, or for want of memory.
 pub fn read(alloc: Global, cluster: &[Row], suppliers: &[Row]) -> Option<Config>
-    ensures cluster { IfSome result (λ c. cluster.now ≡ shows_cluster2 (cluster2_row c.cluster.params c.cluster.integrator) ∷ []) }
+    ensures cluster { IfSome result
+        (λ c. cluster.now ≡ shows_cluster2 (cluster2_row c.cluster.params c.cluster.integrator)
+        ∷ []) }
     ensures suppliers { IfSome result (λ c. suppliers.now ≡ map shown_supplier c.suppliers) }
     ensures formed { IfSome result IsWellFormed }
 {

@@ -12,8 +12,10 @@ use sqlite::{Alter, Error, Transaction};
 /// Adds the suppliers.
 fn suppliers<S: Alter>(tx: &mut Transaction<'_, S>, list: &[Supplier]) -> Result<(), Error>
     ensures same_reference { tx.new.conn.ghost_name ≡ tx.old.conn.ghost_name }
-    ensures added { MakesAllOf (with_suppliers list.now) (state S.Store tx.old.conn.now) (state S.Store tx.new.conn.now) result }
-    ensures survives { Survives (state S.Store tx.old.conn.now) (state S.Store tx.new.conn.now) (λ _. ⊥) }
+    ensures added { MakesAllOf (with_suppliers list.now) (state S.Store tx.old.conn.now)
+        (state S.Store tx.new.conn.now) result }
+    ensures survives { Survives (state S.Store tx.old.conn.now) (state S.Store tx.new.conn.now)
+        (λ _. ⊥) }
 {
     for supplier in list {
         tables::suppliers::insert(tx, &supplier.name, &supplier.key)?;
@@ -24,8 +26,10 @@ fn suppliers<S: Alter>(tx: &mut Transaction<'_, S>, list: &[Supplier]) -> Result
 /// Adds the rows of a new register.
 pub fn config<S: Alter>(tx: &mut Transaction<'_, S>, config: &Config) -> Result<(), Error>
     ensures same_reference { tx.new.conn.ghost_name ≡ tx.old.conn.ghost_name }
-    ensures added { MakesAllOf (with_config config.now) (state S.Store tx.old.conn.now) (state S.Store tx.new.conn.now) result }
-    ensures survives { Survives (state S.Store tx.old.conn.now) (state S.Store tx.new.conn.now) (λ _. ⊥) }
+    ensures added { MakesAllOf (with_config config.now) (state S.Store tx.old.conn.now)
+        (state S.Store tx.new.conn.now) result }
+    ensures survives { Survives (state S.Store tx.old.conn.now) (state S.Store tx.new.conn.now)
+        (λ _. ⊥) }
 {
     tables::register::insert(tx, 2)?;
     tables::cluster2::insert(tx, &config.params(), &config.integrator())?;

@@ -10,8 +10,10 @@ use sqlite::{Alter, Error, Transaction};
 
 fn register<S: Alter>(tx: &mut Transaction<'_, S>) -> Result<usize, Error>
     ensures same_reference { tx.new.conn.ghost_name ≡ tx.old.conn.ghost_name }
-    ensures made { MakesTable 0 0 1 0 (state S.Store tx.old.conn.now) (state S.Store tx.new.conn.now) result }
-    ensures survives { Survives (state S.Store tx.old.conn.now) (state S.Store tx.new.conn.now) (λ _. ⊥) }
+    ensures made { MakesTable 0 0 1 0 (state S.Store tx.old.conn.now)
+        (state S.Store tx.new.conn.now) result }
+    ensures survives { Survives (state S.Store tx.old.conn.now) (state S.Store tx.new.conn.now)
+        (λ _. ⊥) }
 {
     tx.execute(
         "CREATE TABLE register (id INTEGER NOT NULL PRIMARY KEY CHECK (id = 1), schema INTEGER NOT NULL) STRICT",
@@ -21,8 +23,10 @@ fn register<S: Alter>(tx: &mut Transaction<'_, S>) -> Result<usize, Error>
 
 fn cluster<S: Alter>(tx: &mut Transaction<'_, S>) -> Result<usize, Error>
     ensures same_reference { tx.new.conn.ghost_name ≡ tx.old.conn.ghost_name }
-    ensures made { MakesTable 1 0 2 0 (state S.Store tx.old.conn.now) (state S.Store tx.new.conn.now) result }
-    ensures survives { Survives (state S.Store tx.old.conn.now) (state S.Store tx.new.conn.now) (λ _. ⊥) }
+    ensures made { MakesTable 1 0 2 0 (state S.Store tx.old.conn.now)
+        (state S.Store tx.new.conn.now) result }
+    ensures survives { Survives (state S.Store tx.old.conn.now) (state S.Store tx.new.conn.now)
+        (λ _. ⊥) }
 {
     tx.execute(
         "CREATE TABLE cluster (id INTEGER NOT NULL PRIMARY KEY CHECK (id = 1), static_slots INTEGER NOT NULL, slot_macroticks INTEGER NOT NULL, dynamic_macroticks INTEGER NOT NULL, symbol_macroticks INTEGER NOT NULL, idle_macroticks INTEGER NOT NULL, macroticks_per_cycle INTEGER NOT NULL, payload_words INTEGER NOT NULL, channels TEXT NOT NULL, integrator TEXT NOT NULL) STRICT",
@@ -32,8 +36,10 @@ fn cluster<S: Alter>(tx: &mut Transaction<'_, S>) -> Result<usize, Error>
 
 fn suppliers<S: Alter>(tx: &mut Transaction<'_, S>) -> Result<usize, Error>
     ensures same_reference { tx.new.conn.ghost_name ≡ tx.old.conn.ghost_name }
-    ensures made { MakesTable 2 0 3 2 (state S.Store tx.old.conn.now) (state S.Store tx.new.conn.now) result }
-    ensures survives { Survives (state S.Store tx.old.conn.now) (state S.Store tx.new.conn.now) (λ _. ⊥) }
+    ensures made { MakesTable 2 0 3 2 (state S.Store tx.old.conn.now)
+        (state S.Store tx.new.conn.now) result }
+    ensures survives { Survives (state S.Store tx.old.conn.now) (state S.Store tx.new.conn.now)
+        (λ _. ⊥) }
 {
     tx.execute(
         "CREATE TABLE suppliers (name TEXT NOT NULL PRIMARY KEY, key TEXT NOT NULL UNIQUE) STRICT",
@@ -43,8 +49,10 @@ fn suppliers<S: Alter>(tx: &mut Transaction<'_, S>) -> Result<usize, Error>
 
 fn nodes<S: Alter>(tx: &mut Transaction<'_, S>) -> Result<usize, Error>
     ensures same_reference { tx.new.conn.ghost_name ≡ tx.old.conn.ghost_name }
-    ensures made { MakesTable 3 2 4 3 (state S.Store tx.old.conn.now) (state S.Store tx.new.conn.now) result }
-    ensures survives { Survives (state S.Store tx.old.conn.now) (state S.Store tx.new.conn.now) (λ _. ⊥) }
+    ensures made { MakesTable 3 2 4 3 (state S.Store tx.old.conn.now)
+        (state S.Store tx.new.conn.now) result }
+    ensures survives { Survives (state S.Store tx.old.conn.now) (state S.Store tx.new.conn.now)
+        (λ _. ⊥) }
 {
     tx.execute(
         "CREATE TABLE nodes (supplier TEXT NOT NULL REFERENCES suppliers (name), name TEXT NOT NULL, PRIMARY KEY (supplier, name)) STRICT",
@@ -54,8 +62,10 @@ fn nodes<S: Alter>(tx: &mut Transaction<'_, S>) -> Result<usize, Error>
 
 fn variants<S: Alter>(tx: &mut Transaction<'_, S>) -> Result<usize, Error>
     ensures same_reference { tx.new.conn.ghost_name ≡ tx.old.conn.ghost_name }
-    ensures made { MakesTable 4 3 5 4 (state S.Store tx.old.conn.now) (state S.Store tx.new.conn.now) result }
-    ensures survives { Survives (state S.Store tx.old.conn.now) (state S.Store tx.new.conn.now) (λ _. ⊥) }
+    ensures made { MakesTable 4 3 5 4 (state S.Store tx.old.conn.now)
+        (state S.Store tx.new.conn.now) result }
+    ensures survives { Survives (state S.Store tx.old.conn.now) (state S.Store tx.new.conn.now)
+        (λ _. ⊥) }
 {
     tx.execute(
         "CREATE TABLE variants (name TEXT NOT NULL PRIMARY KEY, parent TEXT, depth INTEGER NOT NULL CHECK (depth >= 1 AND depth <= 16), released INTEGER NOT NULL CHECK (released = 0 OR released = 1), overlay INTEGER NOT NULL CHECK (overlay = 0 OR overlay = 1)) STRICT",
@@ -65,8 +75,10 @@ fn variants<S: Alter>(tx: &mut Transaction<'_, S>) -> Result<usize, Error>
 
 fn grants<S: Alter>(tx: &mut Transaction<'_, S>) -> Result<usize, Error>
     ensures same_reference { tx.new.conn.ghost_name ≡ tx.old.conn.ghost_name }
-    ensures made { MakesTable 5 4 6 5 (state S.Store tx.old.conn.now) (state S.Store tx.new.conn.now) result }
-    ensures survives { Survives (state S.Store tx.old.conn.now) (state S.Store tx.new.conn.now) (λ _. ⊥) }
+    ensures made { MakesTable 5 4 6 5 (state S.Store tx.old.conn.now)
+        (state S.Store tx.new.conn.now) result }
+    ensures survives { Survives (state S.Store tx.old.conn.now) (state S.Store tx.new.conn.now)
+        (λ _. ⊥) }
 {
     tx.execute(
         "CREATE TABLE grants (variant TEXT NOT NULL, slot INTEGER NOT NULL, channel TEXT NOT NULL, supplier TEXT NOT NULL, node TEXT NOT NULL, PRIMARY KEY (variant, slot, channel), FOREIGN KEY (supplier, node) REFERENCES nodes (supplier, name)) STRICT",
@@ -76,8 +88,10 @@ fn grants<S: Alter>(tx: &mut Transaction<'_, S>) -> Result<usize, Error>
 
 fn frames<S: Alter>(tx: &mut Transaction<'_, S>) -> Result<usize, Error>
     ensures same_reference { tx.new.conn.ghost_name ≡ tx.old.conn.ghost_name }
-    ensures made { MakesTable 6 5 7 6 (state S.Store tx.old.conn.now) (state S.Store tx.new.conn.now) result }
-    ensures survives { Survives (state S.Store tx.old.conn.now) (state S.Store tx.new.conn.now) (λ _. ⊥) }
+    ensures made { MakesTable 6 5 7 6 (state S.Store tx.old.conn.now)
+        (state S.Store tx.new.conn.now) result }
+    ensures survives { Survives (state S.Store tx.old.conn.now) (state S.Store tx.new.conn.now)
+        (λ _. ⊥) }
 {
     tx.execute(
         "CREATE TABLE frames (variant TEXT NOT NULL, supplier TEXT NOT NULL, name TEXT NOT NULL, node TEXT NOT NULL, PRIMARY KEY (variant, supplier, name), FOREIGN KEY (supplier, node) REFERENCES nodes (supplier, name)) STRICT",
@@ -87,8 +101,10 @@ fn frames<S: Alter>(tx: &mut Transaction<'_, S>) -> Result<usize, Error>
 
 fn placements<S: Alter>(tx: &mut Transaction<'_, S>) -> Result<usize, Error>
     ensures same_reference { tx.new.conn.ghost_name ≡ tx.old.conn.ghost_name }
-    ensures made { MakesTable 7 6 8 7 (state S.Store tx.old.conn.now) (state S.Store tx.new.conn.now) result }
-    ensures survives { Survives (state S.Store tx.old.conn.now) (state S.Store tx.new.conn.now) (λ _. ⊥) }
+    ensures made { MakesTable 7 6 8 7 (state S.Store tx.old.conn.now)
+        (state S.Store tx.new.conn.now) result }
+    ensures survives { Survives (state S.Store tx.old.conn.now) (state S.Store tx.new.conn.now)
+        (λ _. ⊥) }
 {
     tx.execute(
         "CREATE TABLE placements (variant TEXT NOT NULL, supplier TEXT NOT NULL, frame TEXT NOT NULL, slot INTEGER NOT NULL, channels TEXT NOT NULL, base INTEGER NOT NULL, repetition INTEGER NOT NULL, PRIMARY KEY (variant, supplier, frame, slot, channels, base, repetition), FOREIGN KEY (variant, supplier, frame) REFERENCES frames (variant, supplier, name) ON DELETE CASCADE) STRICT",
@@ -98,8 +114,10 @@ fn placements<S: Alter>(tx: &mut Transaction<'_, S>) -> Result<usize, Error>
 
 fn signals<S: Alter>(tx: &mut Transaction<'_, S>) -> Result<usize, Error>
     ensures same_reference { tx.new.conn.ghost_name ≡ tx.old.conn.ghost_name }
-    ensures made { MakesTable 8 7 9 8 (state S.Store tx.old.conn.now) (state S.Store tx.new.conn.now) result }
-    ensures survives { Survives (state S.Store tx.old.conn.now) (state S.Store tx.new.conn.now) (λ _. ⊥) }
+    ensures made { MakesTable 8 7 9 8 (state S.Store tx.old.conn.now)
+        (state S.Store tx.new.conn.now) result }
+    ensures survives { Survives (state S.Store tx.old.conn.now) (state S.Store tx.new.conn.now)
+        (λ _. ⊥) }
 {
     tx.execute(
         "CREATE TABLE signals (variant TEXT NOT NULL, supplier TEXT NOT NULL, frame TEXT NOT NULL, name TEXT NOT NULL, start INTEGER NOT NULL, length INTEGER NOT NULL, big INTEGER NOT NULL CHECK (big = 0 OR big = 1), PRIMARY KEY (variant, supplier, frame, name), FOREIGN KEY (variant, supplier, frame) REFERENCES frames (variant, supplier, name) ON DELETE CASCADE) STRICT",
@@ -109,8 +127,10 @@ fn signals<S: Alter>(tx: &mut Transaction<'_, S>) -> Result<usize, Error>
 
 fn imports<S: Alter>(tx: &mut Transaction<'_, S>) -> Result<usize, Error>
     ensures same_reference { tx.new.conn.ghost_name ≡ tx.old.conn.ghost_name }
-    ensures made { MakesTable 9 8 10 9 (state S.Store tx.old.conn.now) (state S.Store tx.new.conn.now) result }
-    ensures survives { Survives (state S.Store tx.old.conn.now) (state S.Store tx.new.conn.now) (λ _. ⊥) }
+    ensures made { MakesTable 9 8 10 9 (state S.Store tx.old.conn.now)
+        (state S.Store tx.new.conn.now) result }
+    ensures survives { Survives (state S.Store tx.old.conn.now) (state S.Store tx.new.conn.now)
+        (λ _. ⊥) }
 {
     tx.execute(
         "CREATE TABLE imports (supplier TEXT NOT NULL, label TEXT NOT NULL, variant TEXT NOT NULL, body BLOB NOT NULL, rows INTEGER NOT NULL, PRIMARY KEY (supplier, label)) STRICT",
@@ -120,8 +140,10 @@ fn imports<S: Alter>(tx: &mut Transaction<'_, S>) -> Result<usize, Error>
 
 fn dropped<S: Alter>(tx: &mut Transaction<'_, S>) -> Result<usize, Error>
     ensures same_reference { tx.new.conn.ghost_name ≡ tx.old.conn.ghost_name }
-    ensures made { MakesTable 10 9 11 10 (state S.Store tx.old.conn.now) (state S.Store tx.new.conn.now) result }
-    ensures survives { Survives (state S.Store tx.old.conn.now) (state S.Store tx.new.conn.now) (λ _. ⊥) }
+    ensures made { MakesTable 10 9 11 10 (state S.Store tx.old.conn.now)
+        (state S.Store tx.new.conn.now) result }
+    ensures survives { Survives (state S.Store tx.old.conn.now) (state S.Store tx.new.conn.now)
+        (λ _. ⊥) }
 {
     tx.execute(
         "CREATE TABLE dropped (variant TEXT NOT NULL, supplier TEXT NOT NULL, frame TEXT NOT NULL, PRIMARY KEY (variant, supplier, frame)) STRICT",
@@ -133,7 +155,8 @@ fn dropped<S: Alter>(tx: &mut Transaction<'_, S>) -> Result<usize, Error>
 fn grants_index<S: Alter>(tx: &mut Transaction<'_, S>) -> Result<usize, Error>
     ensures same_reference { tx.new.conn.ghost_name ≡ tx.old.conn.ghost_name }
     ensures made { MakesOld (state S.Store tx.old.conn.now) (state S.Store tx.new.conn.now) result }
-    ensures survives { Survives (state S.Store tx.old.conn.now) (state S.Store tx.new.conn.now) (λ _. ⊥) }
+    ensures survives { Survives (state S.Store tx.old.conn.now) (state S.Store tx.new.conn.now)
+        (λ _. ⊥) }
 {
     tx.execute(
         "CREATE INDEX grants_by_supplier ON grants (variant, supplier)",
@@ -145,7 +168,8 @@ fn grants_index<S: Alter>(tx: &mut Transaction<'_, S>) -> Result<usize, Error>
 pub fn cluster2<S: Alter>(tx: &mut Transaction<'_, S>) -> Result<usize, Error>
     ensures same_reference { tx.new.conn.ghost_name ≡ tx.old.conn.ghost_name }
     ensures made { Renews (state S.Store tx.old.conn.now) (state S.Store tx.new.conn.now) result }
-    ensures survives { Survives (state S.Store tx.old.conn.now) (state S.Store tx.new.conn.now) (λ _. ⊥) }
+    ensures survives { Survives (state S.Store tx.old.conn.now) (state S.Store tx.new.conn.now)
+        (λ _. ⊥) }
 {
     tx.execute(
         "CREATE TABLE cluster2 (id INTEGER NOT NULL PRIMARY KEY CHECK (id = 1), static_slots INTEGER NOT NULL, slot_macroticks INTEGER NOT NULL, dynamic_macroticks INTEGER NOT NULL, symbol_macroticks INTEGER NOT NULL, idle_macroticks INTEGER NOT NULL, macroticks_per_cycle INTEGER NOT NULL, payload_words INTEGER NOT NULL, channels TEXT NOT NULL, integrator TEXT NOT NULL, cycles INTEGER NOT NULL CHECK (cycles >= 8 AND cycles <= 64)) STRICT",
@@ -156,8 +180,10 @@ pub fn cluster2<S: Alter>(tx: &mut Transaction<'_, S>) -> Result<usize, Error>
 /// Makes the tables up to the nodes.
 fn up_to_nodes<S: Alter>(tx: &mut Transaction<'_, S>) -> Result<(), Error>
     ensures same_reference { tx.new.conn.ghost_name ≡ tx.old.conn.ghost_name }
-    ensures made { Grows 0 0 4 3 (state S.Store tx.old.conn.now) (state S.Store tx.new.conn.now) result }
-    ensures survives { Survives (state S.Store tx.old.conn.now) (state S.Store tx.new.conn.now) (λ _. ⊥) }
+    ensures made { Grows 0 0 4 3 (state S.Store tx.old.conn.now) (state S.Store tx.new.conn.now)
+        result }
+    ensures survives { Survives (state S.Store tx.old.conn.now) (state S.Store tx.new.conn.now)
+        (λ _. ⊥) }
 {
     register(tx)?;
     cluster(tx)?;
@@ -169,8 +195,10 @@ fn up_to_nodes<S: Alter>(tx: &mut Transaction<'_, S>) -> Result<(), Error>
 /// Makes the tables behind the nodes, up to the placements.
 fn up_to_placements<S: Alter>(tx: &mut Transaction<'_, S>) -> Result<(), Error>
     ensures same_reference { tx.new.conn.ghost_name ≡ tx.old.conn.ghost_name }
-    ensures made { Grows 4 3 8 7 (state S.Store tx.old.conn.now) (state S.Store tx.new.conn.now) result }
-    ensures survives { Survives (state S.Store tx.old.conn.now) (state S.Store tx.new.conn.now) (λ _. ⊥) }
+    ensures made { Grows 4 3 8 7 (state S.Store tx.old.conn.now) (state S.Store tx.new.conn.now)
+        result }
+    ensures survives { Survives (state S.Store tx.old.conn.now) (state S.Store tx.new.conn.now)
+        (λ _. ⊥) }
 {
     variants(tx)?;
     grants(tx)?;
@@ -182,8 +210,10 @@ fn up_to_placements<S: Alter>(tx: &mut Transaction<'_, S>) -> Result<(), Error>
 /// Makes the tables behind the placements, up to the dropped frames.
 fn up_to_dropped<S: Alter>(tx: &mut Transaction<'_, S>) -> Result<(), Error>
     ensures same_reference { tx.new.conn.ghost_name ≡ tx.old.conn.ghost_name }
-    ensures made { Grows 8 7 11 10 (state S.Store tx.old.conn.now) (state S.Store tx.new.conn.now) result }
-    ensures survives { Survives (state S.Store tx.old.conn.now) (state S.Store tx.new.conn.now) (λ _. ⊥) }
+    ensures made { Grows 8 7 11 10 (state S.Store tx.old.conn.now) (state S.Store tx.new.conn.now)
+        result }
+    ensures survives { Survives (state S.Store tx.old.conn.now) (state S.Store tx.new.conn.now)
+        (λ _. ⊥) }
 {
     signals(tx)?;
     imports(tx)?;
@@ -194,8 +224,10 @@ fn up_to_dropped<S: Alter>(tx: &mut Transaction<'_, S>) -> Result<(), Error>
 /// Makes the tables and the index of the schema before, in a database that has none.
 pub fn before<S: Alter>(tx: &mut Transaction<'_, S>) -> Result<(), Error>
     ensures same_reference { tx.new.conn.ghost_name ≡ tx.old.conn.ghost_name }
-    ensures made { MakesOldWhole (state S.Store tx.old.conn.now) (state S.Store tx.new.conn.now) result }
-    ensures survives { Survives (state S.Store tx.old.conn.now) (state S.Store tx.new.conn.now) (λ _. ⊥) }
+    ensures made { MakesOldWhole (state S.Store tx.old.conn.now) (state S.Store tx.new.conn.now)
+        result }
+    ensures survives { Survives (state S.Store tx.old.conn.now) (state S.Store tx.new.conn.now)
+        (λ _. ⊥) }
 {
     up_to_nodes(tx)?;
     up_to_placements(tx)?;
@@ -207,8 +239,10 @@ pub fn before<S: Alter>(tx: &mut Transaction<'_, S>) -> Result<(), Error>
 /// Makes every table of this schema, and the index, in a database that has none.
 pub fn every_table<S: Alter>(tx: &mut Transaction<'_, S>) -> Result<(), Error>
     ensures same_reference { tx.new.conn.ghost_name ≡ tx.old.conn.ghost_name }
-    ensures made { MakesWhole (state S.Store tx.old.conn.now) (state S.Store tx.new.conn.now) result }
-    ensures survives { Survives (state S.Store tx.old.conn.now) (state S.Store tx.new.conn.now) (λ _. ⊥) }
+    ensures made { MakesWhole (state S.Store tx.old.conn.now) (state S.Store tx.new.conn.now)
+        result }
+    ensures survives { Survives (state S.Store tx.old.conn.now) (state S.Store tx.new.conn.now)
+        (λ _. ⊥) }
 {
     before(tx)?;
     cluster2(tx)?;

@@ -16,11 +16,18 @@ pub fn reopen<S: Alter + Drop>(
     alloc: Global,
     conn: Connection<S>,
 ) -> Result<Connection<S>, (Error, S)>
-    ensures ordered { IfOk result (λ c. HasCleanDisk (state S.Store c) → IsOurs (state S.Store c).now.schema → AreOrdered (state S.Store c).now.trees) }
-    ensures ordered_before { IfOk result (λ c. HasCleanDisk (state S.Store c) → IsOld (state S.Store c).now.schema → AreOrderedBefore (state S.Store c).now.trees) }
-    ensures opens { IfOk result (λ c. HasCleanDisk (state S.Store c) → Opens (state S.Store c) × IsLive (state S.Store c)) }
-    ensures trees { IfOk result (λ c. HasCleanDisk (state S.Store c) → (state S.Store c).now.trees ≡ (state S.Store conn).committed.trees) }
-    ensures clean { IfOk result (λ c. doubt (state S.Store conn).is_clean ≤ doubt (state S.Store c).is_clean) }
+    ensures ordered { IfOk result
+        (λ c. HasCleanDisk (state S.Store c) → IsOurs (state S.Store c).now.schema
+        → AreOrdered (state S.Store c).now.trees) }
+    ensures ordered_before { IfOk result
+        (λ c. HasCleanDisk (state S.Store c) → IsOld (state S.Store c).now.schema
+        → AreOrderedBefore (state S.Store c).now.trees) }
+    ensures opens { IfOk result (λ c. HasCleanDisk (state S.Store c)
+        → Opens (state S.Store c) × IsLive (state S.Store c)) }
+    ensures trees { IfOk result (λ c. HasCleanDisk (state S.Store c)
+        → (state S.Store c).now.trees ≡ (state S.Store conn).committed.trees) }
+    ensures clean { IfOk result (λ c.
+        doubt (state S.Store conn).is_clean ≤ doubt (state S.Store c).is_clean) }
 {
     let store = conn.into_store();
     if store.is_broken() {

@@ -67,14 +67,16 @@ pub fn slot_at(row: &Row, at: usize) -> Option<Slot>
 
 /// The channel.
 pub fn channel_at(row: &Row, at: usize) -> Option<Channel>
-    ensures { IfSome result (λ channel. channel_of_text (words (column row.now at)) ≡ Some channel) }
+    ensures { IfSome result (λ channel.
+        channel_of_text (words (column row.now at)) ≡ Some channel) }
 {
     Channel::read(text_at(row, at)?)
 }
 
 /// The channels.
 pub fn channels_at(row: &Row, at: usize) -> Option<Channels>
-    ensures { IfSome result (λ channels. channels_of_text (words (column row.now at)) ≡ Some channels) }
+    ensures { IfSome result (λ channels.
+        channels_of_text (words (column row.now at)) ≡ Some channels) }
 {
     Channels::read(text_at(row, at)?)
 }

@@ -98,7 +98,8 @@ fn opened<D: Disk + Drop>(alloc: Global, files: Files<D>) -> Result<Store<FileSt
 fn filled<D: Disk + Drop>(alloc: Global, files: Files<D>) -> Result<Files<D>, Fail>
     requires log { IsTrue (D.Disk.is_usable files.log) }
     requires db { IsTrue (D.Disk.is_usable files.db) }
-    ensures { IfOk result (λ files. IsTrue (D.Disk.is_usable files.log) × IsTrue (D.Disk.is_usable files.db)) }
+    ensures { IfOk result (λ files. IsTrue (D.Disk.is_usable files.log)
+        × IsTrue (D.Disk.is_usable files.db)) }
 {
     let mut office = Office::new(alloc, created(alloc, files)??);
     if !are_answered(alloc, &mut office)? {
@@ -111,7 +112,8 @@ fn filled<D: Disk + Drop>(alloc: Global, files: Files<D>) -> Result<Files<D>, Fa
 fn looked_at<D: Disk + Drop>(alloc: Global, files: Files<D>) -> Result<Files<D>, Fail>
     requires log { IsTrue (D.Disk.is_usable files.log) }
     requires db { IsTrue (D.Disk.is_usable files.db) }
-    ensures { IfOk result (λ files. IsTrue (D.Disk.is_usable files.log) × IsTrue (D.Disk.is_usable files.db)) }
+    ensures { IfOk result (λ files. IsTrue (D.Disk.is_usable files.log)
+        × IsTrue (D.Disk.is_usable files.db)) }
 {
     let mut store = opened(alloc, files)?;
     if !has_first_rows(alloc, &mut store)? {

@@ -1,4 +1,5 @@
 mod StreamLemmas
+mod WritingLemmas
 pub mod ClusterFileLemmas
 pub mod WellFormedLaws
 pub mod FieldsLemmas

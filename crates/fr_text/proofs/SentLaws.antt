@@ -7,9 +7,7 @@ use Rattle.fr_base.specs.Cluster.{Cluster}
 use Rattle.fr_base.specs.Exports.{exported}
 use Rattle.fr_base.specs.ExportedLaws.{ArePartsFrom, File, MayBeKept, ReadsAs, exported_rows}
 use Rattle.fr_base.specs.Sound.{IsSound}
-use Rattle.fr_base.specs.Step.{Outcome, step}
 use Rattle.fr_base.specs.Tables.{get}
-use Rattle.fr_base.specs.declared.actor.Actor.TheVariants.{Supplier}
 use Rattle.fr_base.specs.declared.answer.Answer.TheVariants.{Replaced}
 use Rattle.fr_base.specs.declared.answer.ReportRows.{ReportRows}
 use Rattle.fr_base.specs.declared.import.Header.{Header}
@@ -18,7 +16,6 @@ use Rattle.fr_base.specs.declared.import.Row.{Row}
 use Rattle.fr_base.specs.declared.limits.TheConstants.{MAX_IMPORT_BYTES}
 use Rattle.fr_base.specs.declared.name.Name.{Name}
 use Rattle.fr_base.specs.declared.params.Params.{Params}
-use Rattle.fr_base.specs.declared.request.Request.TheVariants.{Replace}
 use Rattle.fr_base.proofs.ExportedLaws.{changes_nothing}
 use Rattle.fr_base.proofs.ImportedExports.{is_imported}
 use Rattle.fr_text.specs.ExportLaws.{AreSentFrom, IsExport, MayBeLabelled, SentBackChangesNothing, SentIsImported, read_from, sent}

@@ -9,5 +9,6 @@ pub mod FateLines
 pub mod Report
 pub mod Styles
 pub mod AnswerText
+pub mod Writing
 pub mod Laws
 pub mod ExportLaws

@@ -40,7 +40,8 @@ fn push_answer(answer: &Answer, out: &mut Vec<u8>) -> Result<(), NoMemory>
 // Appends a report: the texts of its lines, then its name.
 #[tactic(auto, using(crate::proofs::WordsLemmas::extending))]
 fn push_report(rows: &ReportRows, all: bool, out: &mut Vec<u8>) -> Result<(), NoMemory>
-    ensures ok { OnOk result (out.new.items ≡ out.old.items ++ text_of_report (lines_of_rows all rows.now) (name_of_rows rows.now)) }
+    ensures ok { OnOk result (out.new.items ≡ out.old.items
+        ++ text_of_report (lines_of_rows all rows.now) (name_of_rows rows.now)) }
     ensures err { OnErr result (Extends out.old.items out.new.items) }
 {
     push("{\"lines\":[", out)?;
@@ -107,7 +108,8 @@ fn push_cell_taken(
     frame: Name,
     out: &mut Vec<u8>,
 ) -> Result<(), NoMemory>
-    ensures ok { OnOk result (out.new.items ≡ out.old.items ++ text_of_refusal (refused.CellTaken cycle channel frame)) }
+    ensures ok { OnOk result (out.new.items ≡ out.old.items
+        ++ text_of_refusal (refused.CellTaken cycle channel frame)) }
     ensures err { OnErr result (Extends out.old.items out.new.items) }
 {
     push("{\"channel\":", out)?;
@@ -121,7 +123,8 @@ fn push_cell_taken(
 
 #[tactic(auto, using(crate::proofs::WordsLemmas::extending))]
 fn push_bit_taken(bit: u32, signal: Name, out: &mut Vec<u8>) -> Result<(), NoMemory>
-    ensures ok { OnOk result (out.new.items ≡ out.old.items ++ text_of_refusal (refused.BitTaken bit signal)) }
+    ensures ok { OnOk result (out.new.items ≡ out.old.items
+        ++ text_of_refusal (refused.BitTaken bit signal)) }
     ensures err { OnErr result (Extends out.old.items out.new.items) }
 {
     push("{\"bit\":", out)?;

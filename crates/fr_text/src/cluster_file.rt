@@ -184,7 +184,8 @@ fn has_only_file_keys(file: &Table) -> bool
 fn value_at<'a>(file: &'a Table, key: &str) -> Result<&'a Value, ConfigFault>
     ensures { MatchResult result
         (λ value. get_member key.now (table_view file.now) ≡ Some (view value.now))
-        (λ fault. (fault ≡ ConfigFault.BadField) × (get_member key.now (table_view file.now) ≡ None)) }
+        (λ fault. (fault ≡ ConfigFault.BadField)
+        × (get_member key.now (table_view file.now) ≡ None)) }
 {
     file.get(key).ok_or(ConfigFault::BadField)
 }

@@ -33,7 +33,8 @@ pub(crate) fn read_json(alloc: Global, bytes: &[u8]) -> Result<Value, Refusal>
 // The refusal of a text of which no value was read: `Unavailable` for want of memory, else
 // `BadText`.
 fn refusal_of(error: &Error) -> Refusal
-    ensures { ((result ≡ Refusal.Unavailable) × IsMemory error.now) ⊎ ((result ≡ Refusal.BadText) × ¬ (IsMemory error.now)) }
+    ensures { ((result ≡ Refusal.Unavailable) × IsMemory error.now)
+        ⊎ ((result ≡ Refusal.BadText) × ¬ (IsMemory error.now)) }
 {
     if error.is_memory() {
         Refusal::Unavailable
@@ -101,7 +102,8 @@ pub(crate) fn number_in(fields: &Fields, name: &str) -> Result<u32, Refusal>
 
 /// Refuses fields that have a name beside these.
 pub(crate) fn allow_only(fields: &Fields, names: &[&str]) -> Result<(), Refusal>
-    ensures there { Reads (λ _. tt) (provided (only (map (λ name. name.now) names.now) (fields_in fields.now))) result }
+    ensures there { Reads (λ _. tt)
+        (provided (only (map (λ name. name.now) names.now) (fields_in fields.now))) result }
     ensures plain { IfErr result (λ refusal. refusal ≡ Refusal.BadText) }
 {
     if has_only(fields, names) {
@@ -121,7 +123,8 @@ fn field<'v>(fields: &'v Fields, name: &str) -> Option<&'v Value>
 // The field of this name, a text; `None` where it is absent or null.
 #[tactic(auto, unfolding(crate::specs::Fields::text_or_null))]
 fn text_or_null_in<'v>(fields: &'v Fields, name: &str) -> Result<Option<&'v str>, Refusal>
-    ensures there { Reads (option_map (λ s. s.now)) (text_or_null name.now (fields_in fields.now)) result }
+    ensures there { Reads (option_map (λ s. s.now)) (text_or_null name.now (fields_in fields.now))
+        result }
     ensures plain { IfErr result (λ refusal. refusal ≡ Refusal.BadText) }
 {
     match field(fields, name) {

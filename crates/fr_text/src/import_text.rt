@@ -19,7 +19,8 @@ use std::marker::Model;
 /// Reads the rows of an import's file, up to the first that its own text refuses. Each row's texts
 /// and numbers are checked. Want of memory is `Unavailable`.
 pub fn read_import(alloc: Global, params: &Params, body: &[u8]) -> Result<Rows<RowRead>, Refusal>
-    ensures { MatchResult result (λ rows. rows ≡ rows_of_body params.now body.now) (λ refusal. refusal ≡ Refusal.Unavailable) }
+    ensures { MatchResult result (λ rows. rows ≡ rows_of_body params.now body.now)
+        (λ refusal. refusal ≡ Refusal.Unavailable) }
 {
     let mut records = Records::new(alloc, body);
     let mut fields = ByteRecord::new(alloc);
@@ -37,7 +38,8 @@ pub fn read_import(alloc: Global, params: &Params, body: &[u8]) -> Result<Rows<R
 /// Reads all the rows of a file. Each is checked as a row of an import, or is its own refusal. A
 /// row behind 512 others is refused, and is the last. Want of memory is `Unavailable`.
 pub fn read_rows(alloc: Global, params: &Params, body: &[u8]) -> Result<Rows<RowRead>, Refusal>
-    ensures { MatchResult result (λ rows. rows ≡ all_rows_of_body params.now body.now) (λ refusal. refusal ≡ Refusal.Unavailable) }
+    ensures { MatchResult result (λ rows. rows ≡ all_rows_of_body params.now body.now)
+        (λ refusal. refusal ≡ Refusal.Unavailable) }
 {
     let mut records = Records::new(alloc, body);
     let mut fields = ByteRecord::new(alloc);
@@ -110,7 +112,8 @@ fn push_all(
     fields: &mut ByteRecord,
 ) -> Result<(), Refusal>
     ensures { MatchResult result
-        (λ _. rows.new ≡ rows.old ++ take (MAX_ROWS + 1) (rows_from params.now header 2 records.old))
+        (λ _. rows.new ≡ rows.old
+        ++ take (MAX_ROWS + 1) (rows_from params.now header 2 records.old))
         (λ refusal. refusal ≡ Refusal.Unavailable) }
 {
     // The header is line 1.
@@ -202,7 +205,8 @@ pub fn header_of(fields: &ByteRecord) -> Option<Header>
 
 /// Whether the fields are these names, in this order.
 fn has_fields(fields: &ByteRecord, names: &[&str]) -> bool
-    ensures { result ≡ pointwise same_text (fields_of fields.now) (map (λ name. name.now) names.now) }
+    ensures { result ≡ pointwise same_text (fields_of fields.now)
+        (map (λ name. name.now) names.now) }
 {
     if fields.len() != names.len() {
         return false;
@@ -228,8 +232,10 @@ fn push_row(
     header: Header,
     fields: &ByteRecord,
 ) -> Result<bool, NoMemory>
-    ensures rows { OnOk result (rows.new ≡ rows.old ++ record { line = line; row = row_of params.now header (fields_of fields.now) } ∷ []) }
-    ensures read { IfOk result (λ read. read ≡ is_ok (row_of params.now header (fields_of fields.now))) }
+    ensures rows { OnOk result (rows.new ≡ rows.old
+        ++ record { line = line; row = row_of params.now header (fields_of fields.now) } ∷ []) }
+    ensures read { IfOk result (λ read.
+        read ≡ is_ok (row_of params.now header (fields_of fields.now))) }
 {
     match header {
         Header::Frames => {}
@@ -255,7 +261,8 @@ fn push_row(
 /// something does.
 #[inline(always)]
 fn plain_placement(params: &Params, fields: &ByteRecord) -> Option<Row>
-    ensures { IfSome result (λ row. row_of params.now Header.Placements (fields_of fields.now) ≡ Ok row) }
+    ensures { IfSome result (λ row.
+        row_of params.now Header.Placements (fields_of fields.now) ≡ Ok row) }
 {
     if fields.len() != names(Header::Placements).len() {
         return None;
@@ -273,7 +280,8 @@ fn plain_placement(params: &Params, fields: &ByteRecord) -> Option<Row>
 /// something does.
 #[inline(always)]
 fn plain_signal(fields: &ByteRecord) -> Option<Row>
-    ensures { (params : RawParams) → IfSome result (λ row. row_of params Header.Signals (fields_of fields.now) ≡ Ok row) }
+    ensures { (params : RawParams)
+        → IfSome result (λ row. row_of params Header.Signals (fields_of fields.now) ≡ Ok row) }
 {
     if fields.len() != names(Header::Signals).len() {
         return None;
@@ -362,9 +370,9 @@ pub fn text_at(fields: &ByteRecord, place: usize) -> Result<&str, Refusal>
 /// The number of the field at a place.
 #[tactic(auto, using(crate::proofs::ImportTextLemmas::number_at_bytes, crate::proofs::ImportTextLemmas::number_at_none))]
 pub fn number_at(fields: &ByteRecord, place: usize) -> Result<u32, Refusal>
-    ensures { MatchResult result
-        (λ value. number_at (fields_of fields.now) place ≡ Ok value)
-        (λ refusal. (refusal ≡ Refusal.BadText) × (number_at (fields_of fields.now) place ≡ Err Refusal.BadText)) }
+    ensures { MatchResult result (λ value. number_at (fields_of fields.now) place ≡ Ok value)
+        (λ refusal. (refusal ≡ Refusal.BadText)
+        × (number_at (fields_of fields.now) place ≡ Err Refusal.BadText)) }
 {
     read_number(field_at(fields, place)?).ok_or(Refusal::BadText)
 }
@@ -372,7 +380,8 @@ pub fn number_at(fields: &ByteRecord, place: usize) -> Result<u32, Refusal>
 /// The number that the bytes write in 1 to 10 digits.
 #[inline(always)]
 pub fn read_number(digits: &[u8]) -> Option<u32>
-    ensures { MatchOption result (number digits.now ≡ Err Refusal.BadText) (λ value. number digits.now ≡ Ok value) }
+    ensures { MatchOption result (number digits.now ≡ Err Refusal.BadText)
+        (λ value. number digits.now ≡ Ok value) }
 {
     if !(1..=10).contains(&digits.len()) {
         return None;

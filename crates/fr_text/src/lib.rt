@@ -10,6 +10,8 @@ mod laws;
 mod output;
 mod report;
 mod request_text;
+mod retry;
+mod sink;
 mod style;
 mod words;
 
@@ -25,3 +27,5 @@ pub use laws::{
 pub use output::{Output, WRITE_RETRIES, WriteFailed};
 pub use report::write_lines;
 pub use request_text::read_command;
+pub use retry::try_again;
+pub use sink::Sink;

@@ -36,7 +36,8 @@ pub(crate) trait Row {
 
     /// Appends the row's lines, with a mark between each two. An error leaves the old bytes in front.
     fn push(&self, all: bool, mark: &str, out: &mut Vec<u8>) -> Result<(), NoMemory>
-        ensures ok { OnOk result (out.new.items ≡ out.old.items ++ joined mark.now (first all self.now ∷ others all self.now)) }
+        ensures ok { OnOk result (out.new.items ≡ out.old.items
+            ++ joined mark.now (first all self.now ∷ others all self.now)) }
         ensures err { OnErr result (Extends out.old.items out.new.items) };
 }
 
@@ -48,7 +49,8 @@ pub(crate) fn push_rows<R: Row>(
     style: Style,
     out: &mut Vec<u8>,
 ) -> Result<(), NoMemory>
-    ensures ok { OnOk result (out.new.items ≡ out.old.items ++ set_in style (lines_in R.first R.others all rows.now)) }
+    ensures ok { OnOk result (out.new.items ≡ out.old.items
+        ++ set_in style (lines_in R.first R.others all rows.now)) }
     ensures err { OnErr result (Extends out.old.items out.new.items) }
 {
     let [first, rest @ ..] = rows else {
@@ -63,7 +65,8 @@ pub(crate) fn push_rows<R: Row>(
 // Appends the lines of the rows, with the mark before each line. An error leaves the old bytes in front.
 #[tactic(auto, using(crate::proofs::WordsLemmas::extending), unfolding(crate::specs::Styles::marked))]
 fn push_behind<R: Row>(rows: &[R], all: bool, mark: &str, out: &mut Vec<u8>) -> Result<(), NoMemory>
-    ensures ok { OnOk result (out.new.items ≡ out.old.items ++ marked mark.now (lines_in R.first R.others all rows.now)) }
+    ensures ok { OnOk result (out.new.items ≡ out.old.items
+        ++ marked mark.now (lines_in R.first R.others all rows.now)) }
     ensures err { OnErr result (Extends out.old.items out.new.items) }
 {
     for row in rows {
@@ -81,7 +84,8 @@ pub(crate) fn push_lines(
     style: Style,
     out: &mut Vec<u8>,
 ) -> Result<(), NoMemory>
-    ensures ok { OnOk result (out.new.items ≡ out.old.items ++ set_in style (lines_of_rows all rows.now)) }
+    ensures ok { OnOk result (out.new.items ≡ out.old.items
+        ++ set_in style (lines_of_rows all rows.now)) }
     ensures err { OnErr result (Extends out.old.items out.new.items) }
 {
     match rows {

@@ -59,7 +59,8 @@ pub(crate) fn push_number(number: u32, out: &mut Vec<u8>) -> Result<(), NoMemory
 /// Appends a comma and the supplier's name, where all is shown. An error leaves the old bytes in front.
 #[tactic(auto, using(crate::proofs::WordsLemmas::extending))]
 pub(crate) fn push_owner(all: bool, supplier: &[u8], out: &mut Vec<u8>) -> Result<(), NoMemory>
-    ensures ok { OnOk result (out.new.items ≡ out.old.items ++ comma_behind (shown_to all supplier.now)) }
+    ensures ok { OnOk result (out.new.items ≡ out.old.items
+        ++ comma_behind (shown_to all supplier.now)) }
     ensures err { OnErr result (Extends out.old.items out.new.items) }
 {
     if all {

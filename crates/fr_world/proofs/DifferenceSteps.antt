@@ -1,9 +1,11 @@
 -- One step of a merge, behind what was told before.
-use Rattle.std.proofs.Common.{◌≡◌, Bool, List, [], ◌∷◌, ◌++◌, length, map, refl, sym, ap, ◌∙◌, Ordering, Less, Equal, Greater, append_assoc, arith}
+use Rattle.std.proofs.Common.{◌≡◌, Bool, List, [], ◌∷◌, ◌++◌, length, map, refl, sym, ap, ◌∙◌, Ordering, Less, Equal, Greater, append_assoc, arith, subst}
 use Rattle.std.specs.FinMap.Entries.{by_order}
 use Rattle.fr_base.specs.Merging.{come, gone, met, merge, put_in}
 use Rattle.fr_base.specs.declared.answer.DifferenceRow.{DifferenceRow}
 use Rattle.fr_base.specs.declared.answer.SeenRow.{SeenRow}
+use Rattle.fr_world.specs.Appending.{AppendsSome}
+use Rattle.fr_world.proofs.AppendingLaws.{some-first}
 
 -- a list of no length
 pub none_left : {X : Type 0} (list : List X) → length list ≡ 0 → list ≡ []
@@ -33,6 +35,11 @@ module _ {X : Type 0} (compare : X → X → Ordering) (same : X → X → Bool)
         ap (λ rs. rs ++ rest ys) told_now
         ∙ append_assoc rows (met compare same told x y) (rest ys)
         ∙ ap (λ rs. rows ++ rs) (sym (ap put is ∙ put-step y ys Equal tie))
+
+    -- of what is told of these two, some was
+    pub met-refused : (y : X) (ys : List X) → list ≡ y ∷ ys → compare x y ≡ Equal → AppendsSome (met compare same told x y) rows after → AppendsSome (put list) rows after
+    met-refused y ys is tie some =
+        subst (λ rs. AppendsSome rs rows after) (sym (ap put is ∙ put-step y ys Equal tie)) (some-first (met compare same told x y) (rest ys) rows after some)
 
     -- the row comes first
     pub came-first : (y : X) (ys : List X) → list ≡ y ∷ ys → compare x y ≡ Less → after ≡ rows ++ gone compare same told x ∷ [] → after ++ rest list ≡ rows ++ put list

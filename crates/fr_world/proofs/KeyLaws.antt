@@ -95,7 +95,7 @@ slots_rise ks h = subst (rising ks) (λ i x y. slots_alike x y i) h
 pub placements_rise : (ks : List Placement) → IsStrictlySortedBy placement_cmp ks → IsStrictlySortedBy placement_order.compare ks
 placements_rise ks h = subst (rising ks) (λ i x y. placements_alike x y i) h
 
-keys-frames_data : (es : List (Name × PageFrame)) → keys_of (frames_data es) ≡ keys_of es
+pub keys-frames_data : (es : List (Name × PageFrame)) → keys_of (frames_data es) ≡ keys_of es
 keys-frames_data [] = refl
 keys-frames_data (e ∷ es) = ap (λ ks. e.0 ∷ ks) (keys-frames_data es)
 

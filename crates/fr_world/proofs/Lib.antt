@@ -54,5 +54,6 @@ pub mod RoomLaws
 pub mod RecordLaws
 pub mod PartLaws
 pub mod LoadLaws
+pub mod AppendingLaws
 pub mod DifferenceSteps
 pub mod MergedRows

@@ -1,5 +1,5 @@
 -- A `BTreeMap`'s entries beside the table that they stand for.
-use Rattle.std.proofs.Common.{◌≡◌, suc, count_by, Bor, Bool, true, false, ◌||◌, cond, List, [], ◌∷◌, map, filter, length, Option, Some, None, Result, Ok, Err, OnErr, is_some, option_map, refl, sym, ap, subst, ◌∙◌, Ordering, Less, Equal, Greater}
+use Rattle.std.proofs.Common.{◌≡◌, Bor, Bool, true, false, ◌||◌, cond, List, [], ◌∷◌, map, length, Option, Some, None, Result, Ok, Err, OnErr, is_some, option_map, refl, sym, ap, subst, ◌∙◌, Ordering, Less, Equal, Greater}
 use Rattle.std.specs.Prelude.{T, ⊤}
 use Rattle.std.specs.Option.{option_copied}
 use Rattle.std.specs.Ordering.{is_lt, is_eq, eq_by_cmp, match_ordering}
@@ -10,10 +10,9 @@ use Rattle.std.specs.BTreeSet.{insert_key}
 use Rattle.std.specs.List.{AllByRecursion, list_any}
 use Rattle.std.specs.List.Sorted.{IsStrictlySortedBy}
 use Rattle.std.proofs.lemmas.List.{length-map}
-use Rattle.std.proofs.lemmas.List.Sums.{length-filter}
 use Rattle.fr_base.specs.TableRows.{both}
-use Rattle.fr_base.specs.Tables.{Order, get, contains, len, insert, only, from_rows}
-use Rattle.fr_base.proofs.TableLaws.{insert-same, same_rows, same_table, get-insert, rows-from_rows, get-from_rows}
+use Rattle.fr_base.specs.Tables.{Order, get, contains, len, insert, from_rows}
+use Rattle.fr_base.proofs.TableLaws.{same_rows, same_table, get-insert, rows-from_rows, get-from_rows}
 use Rattle.fr_world.specs.Maps.{table_of, set_of}
 
 module _ {J K U V : Type 0} (cmp : J → J → Ordering) (o : Order K) (key : J → K) (value : U → V) (alike : (x y : J) → cmp x y ≡ o.compare (key x) (key y)) where
@@ -102,12 +101,6 @@ module _ {J K U V : Type 0} (cmp : J → J → Ordering) (o : Order K) (key : J 
   pub table_of-lent : (es fs : List (J × U)) (k : J) (u v : U) → IsStrictlySortedBy cmp (keys_of es) → Some v ≡ lookup (is_at (cmp k)) es → fs ≡ set_value (is_at (cmp k)) es u → table_of o key value fs ≡ insert (table_of o key value es) (key k) (value u)
   table_of-lent es fs k u v h found e = ap (table_of o key value) e ∙ table_of-set_value es k u h (ap is_some (sym found))
 
-  -- and where it stands for the same as before
-  pub table_of-lent_same : (es fs : List (J × U)) (k : J) (u v : U) → IsStrictlySortedBy cmp (keys_of es) → Some v ≡ lookup (is_at (cmp k)) es → fs ≡ set_value (is_at (cmp k)) es u → value u ≡ value v → table_of o key value fs ≡ table_of o key value es
-  table_of-lent_same es fs k u v h found e same =
-      table_of-lent es fs k u v h found e
-      ∙ insert-same (table_of o key value es) (key k) (value u) (get-table_of es k ∙ ap (option_map value) (sym found) ∙ ap Some (sym same))
-
   pub len-table_of : (es : List (J × U)) → IsStrictlySortedBy cmp (keys_of es) → len (table_of o key value es) ≡ length es
   unfolding len
   len-table_of es h = ap length (rows-table_of es h) ∙ length-map es (λ e. (key e.0, value e.1))
@@ -176,35 +169,6 @@ is_some-map f (Some x) = refl
 pub copied_map : {X Y : Type 0} (f : X → Y) (r : Option (Bor X)) → option_map (λ b. f b.now) r ≡ option_map f (option_copied r)
 copied_map f None = refl
 copied_map f (Some b) = refl
-
--- the rows whose key passes a test are as many as the keys that do
-filtered_rows : {J K U V : Type 0} (key : J → K) (value : U → V) (p : K → Bool) (es : List (J × U)) → length {A = K × V} (filter (λ e. p e.0) (map (λ e. (key e.0, value e.1)) es)) ≡ length (filter (λ k. p (key k)) (keys_of es))
-filtered_rows key value p [] = refl
-filtered_rows {K = K} {V = V} key value p (e ∷ es) =
-    elim (p (key e.0)) as (λ b. length {A = K × V} (cond b ((key e.0, value e.1) ∷ filter (λ e. p e.0) (map (λ e. (key e.0, value e.1)) es)) (filter (λ e. p e.0) (map (λ e. (key e.0, value e.1)) es)))
-    ≡ length (cond b (e.0 ∷ filter (λ k. p (key k)) (keys_of es)) (filter (λ k. p (key k)) (keys_of es)))) [
-      | true ↦ ap suc (filtered_rows key value p es)
-      | false ↦ filtered_rows key value p es
-    ]
-
-filtered_set_rows : {J K : Type 0} (key : J → K) (p : K → Bool) (ks : List J) → length {A = K × ⊤} (filter (λ e. p e.0) (map (λ k. (key k, tt)) ks)) ≡ length (filter (λ k. p (key k)) ks)
-filtered_set_rows key p [] = refl
-filtered_set_rows {K = K} key p (k ∷ ks) =
-    elim (p (key k)) as (λ b. length {A = K × ⊤} (cond b ((key k, tt) ∷ filter (λ e. p e.0) (map (λ k. (key k, tt)) ks)) (filter (λ e. p e.0) (map (λ k. (key k, tt)) ks)))
-    ≡ length (cond b (k ∷ filter (λ k. p (key k)) ks) (filter (λ k. p (key k)) ks))) [
-      | true ↦ ap suc (filtered_set_rows key p ks)
-      | false ↦ filtered_set_rows key p ks
-    ]
-
-module _ {J K U V : Type 0} (cmp : J → J → Ordering) (o : Order K) (key : J → K) (value : U → V) (alike : (x y : J) → cmp x y ≡ o.compare (key x) (key y)) where
-  pub len-only-table_of : (p : K → Bool) (es : List (J × U)) → IsStrictlySortedBy cmp (keys_of es) → len (only (λ k _. p k) (table_of o key value es)) ≡ count_by (λ k. p (key k)) (keys_of es)
-  unfolding len only
-  len-only-table_of p es h = ap (λ rs. length {A = K × V} (filter (λ e. p e.0) rs)) (rows-table_of cmp o key value alike es h) ∙ filtered_rows key value p es ∙ length-filter (λ k. p (key k)) (keys_of es)
-
-module _ {J K : Type 0} (cmp : J → J → Ordering) (o : Order K) (key : J → K) (alike : (x y : J) → cmp x y ≡ o.compare (key x) (key y)) where
-  pub len-only-set_of : (p : K → Bool) (ks : List J) → IsStrictlySortedBy cmp ks → len (only (λ k _. p k) (set_of o key ks)) ≡ count_by (λ k. p (key k)) ks
-  unfolding len only
-  len-only-set_of p ks h = ap (λ rs. length {A = K × ⊤} (filter (λ e. p e.0) rs)) (rows-set_of cmp o key alike ks h) ∙ filtered_set_rows key p ks ∙ length-filter (λ k. p (key k)) ks
 
 -- what holds, holds where a call failed
 pub on_err_holds : {A E : Type 0} (r : Result A E) (P : Type 0) → P → OnErr r P

@@ -9,7 +9,7 @@ use Rattle.fr_base.specs.Book.{Frame, Variant, Book, is_of}
 use Rattle.fr_base.specs.ImportRows.{rows_of_body}
 use Rattle.fr_base.specs.Sound.{IsSound}
 use Rattle.fr_base.specs.Step as step
-use Rattle.fr_base.specs.Step.{OwnRows, own_rows, with_variant, changed, grants_after, frames_after, frame_at, with_frame as book_frame, frame_of_row, freed, with_freed, at_line}
+use Rattle.fr_base.specs.Step.{OwnRows, own_rows, with_variant, changed, grants_after, frames_after, frame_at, with_frame as book_frame, frame_of_row, freed, with_freed}
 use Rattle.fr_base.specs.declared.import.Row.{Row}
 use Rattle.fr_base.specs.declared.import.Row.TheVariants as row
 use Rattle.fr_base.specs.declared.import.RowRead.{RowRead}

@@ -14,7 +14,7 @@ use Rattle.fr_base.specs.Cells.{cells_of}
 use Rattle.fr_base.specs.Cycles.{Cycles, is_repetition, is_cycle_set}
 use Rattle.fr_base.specs.declared.cycles.BadCycles.{BadCycles}
 use Rattle.fr_base.specs.Book as book
-use Rattle.fr_base.specs.Book.{Sender, granted, held_by_node, schedule_of}
+use Rattle.fr_base.specs.Book.{granted, held_by_node, schedule_of}
 use Rattle.fr_base.specs.Channels.{channels_in}
 use Rattle.fr_base.specs.Keys.{owned}
 use Rattle.fr_base.specs.Schedule.{fill, first_taken}

@@ -2,6 +2,7 @@ pub mod Maps
 pub mod Masks
 pub mod PageCells
 pub mod Pages
+pub mod Appending
 pub mod KeyedRows
 pub mod Parts
 pub mod Decisions

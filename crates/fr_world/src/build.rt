@@ -33,7 +33,9 @@ impl Page {
 
 // The cells that the rows' frames fill, if a page may have the rows.
 fn kept_cells(alloc: Global, rows: &PageRows) -> Result<Option<MaskOccupancy>, NoMemory>
-    ensures some { IfOk result (λ kept. IfSome kept (λ cells. IsKept (rows_data rows.now) × ArePlaced cells (frames_data rows.now.frames.entries))) }
+    ensures some { IfOk result (λ kept.
+        IfSome kept (λ cells. IsKept (rows_data rows.now)
+        × ArePlaced cells (frames_data rows.now.frames.entries))) }
     ensures none { IfOk result (λ kept. IfNone kept (¬ IsKept (rows_data rows.now))) }
 {
     let nodes = rows.nodes.len();

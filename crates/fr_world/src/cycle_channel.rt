@@ -19,14 +19,16 @@ pub(crate) struct CycleChannel {
 /// Whether the placement has the cell.
 #[tactic(auto, using(crate::proofs::ScheduleLaws::has_cell_parts))]
 pub(crate) fn has_cell(placement: &Placement, cycle: u8, slot: Slot, channel: Channel) -> bool
-    ensures { result ≡ has_cell placement.now (record { cycle = cycle; slot = slot; channel = channel }) }
+    ensures { result ≡ has_cell placement.now
+        (record { cycle = cycle; slot = slot; channel = channel }) }
 {
     slot == placement.slot && placement.channels.has(channel) && placement.cycles.contains(cycle)
 }
 
 /// The first cell of the placement that the other placement has too.
 pub(crate) fn first_shared(placement: &Placement, other: &Placement) -> Option<CycleChannel>
-    ensures { result ≡ option_map cycle_channel (find (has_cell other.now) (cells_of placement.now)) }
+    ensures { result ≡ option_map cycle_channel
+        (find (has_cell other.now) (cells_of placement.now)) }
 {
     if placement.slot != other.slot {
         return None;

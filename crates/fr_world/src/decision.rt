@@ -43,8 +43,11 @@ pub use trial::try_rows;
 pub fn decide(alloc: Global, page: &Page, change: &Change) -> Result<Vec<Edit>, Refusal>
     requires checked { IsChecked page.now.params change.now }
     ensures edits { IfOk result (λ edits. decision page.now change.now ≡ Ok edits.items) }
-    ensures leads { IfOk result (λ edits. Leads page.now.variant (own_rows_of page.now) edits.items (rows_after change.now (own_rows_of page.now))) }
-    ensures refusal { IfErr result (λ e. (e ≡ Unavailable) ⊎ (decision page.now change.now ≡ Err e)) }
+    ensures leads { IfOk result (λ edits.
+        Leads page.now.variant (own_rows_of page.now) edits.items
+        (rows_after change.now (own_rows_of page.now))) }
+    ensures refusal { IfErr result
+        (λ e. (e ≡ Unavailable) ⊎ (decision page.now change.now ≡ Err e)) }
 {
     if page.released() {
         return Err(Refusal::Released);

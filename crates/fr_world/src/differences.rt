@@ -1,7 +1,8 @@
 //! The rows in which two lists of rows differ. Each list stands in the order of its rows' keys.
-ghost use Rattle.std.specs.Prelude.{◌≡◌, [], ◌∷◌, ◌++◌, List, IfOk, OnOk};
+ghost use Rattle.std.specs.Prelude.{◌≡◌, [], ◌∷◌, ◌++◌, List, IfOk, OnErr, OnOk};
 ghost use Rattle.fr_base.specs.Merging.{come, gone, merge, met, put_in};
 ghost use Rattle.fr_base.specs.declared.answer.DifferenceRow.{DifferenceRow as Told};
+ghost use Rattle.fr_world.specs.Appending.{AppendsSome};
 
 use fr_base::{DifferenceRow, NoMemory, Rows, SeenRow};
 use std::cmp::Ordering;
@@ -34,13 +35,16 @@ pub trait KeyedRow {
         ensures { result ≡ told self.now };
 }
 
-/// Appends the rows in which the lists differ, by key. Where memory is refused, no clause says which of them were.
+/// Appends the rows in which the lists differ, by key. Where memory is refused, some of them were appended, from the first on.
 pub fn push_differences<T: KeyedRow>(
     old: &[T],
     new: &[T],
     rows: &mut Rows<DifferenceRow>,
 ) -> Result<(), NoMemory>
-    ensures { OnOk result (rows.new ≡ rows.old ++ merge T.compare T.same T.told old.now new.now) }
+    ensures ok { OnOk result (rows.new ≡ rows.old
+        ++ merge T.compare T.same T.told old.now new.now) }
+    ensures err { OnErr result
+        (AppendsSome (merge T.compare T.same T.told old.now new.now) rows.old rows.new) }
 {
     let mut left = new;
     for row in old {
@@ -59,7 +63,11 @@ fn push_up_to<'a, T: KeyedRow>(
     list: &'a [T],
     rows: &mut Rows<DifferenceRow>,
 ) -> Result<&'a [T], NoMemory>
-    ensures { IfOk result (λ left. (rest : List T → List Told) → rows.new ++ rest left.now ≡ rows.old ++ put_in T.compare T.same T.told row.now rest list.now) }
+    ensures ok { IfOk result (λ left. (rest : List T → List Told)
+        → rows.new ++ rest left.now ≡ rows.old
+        ++ put_in T.compare T.same T.told row.now rest list.now) }
+    ensures err { OnErr result ((rest : List T → List Told)
+        → AppendsSome (put_in T.compare T.same T.told row.now rest list.now) rows.old rows.new) }
 {
     let mut left = list;
     while let Some((next, after)) = left.split_first() {
@@ -82,7 +90,10 @@ fn push_up_to<'a, T: KeyedRow>(
 // Appends what is told of two rows of one key: nothing where they are the same.
 #[tactic(auto, unfolding(fr_base::specs::Merging::met))]
 fn push_met<T: KeyedRow>(old: &T, new: &T, rows: &mut Rows<DifferenceRow>) -> Result<(), NoMemory>
-    ensures { OnOk result (rows.new ≡ rows.old ++ met T.compare T.same T.told old.now new.now) }
+    ensures ok { OnOk result (rows.new ≡ rows.old
+        ++ met T.compare T.same T.told old.now new.now) }
+    ensures err { OnErr result
+        (AppendsSome (met T.compare T.same T.told old.now new.now) rows.old rows.new) }
 {
     if !old.is_same(new) {
         rows.push(gone_row(old))?;

@@ -8,9 +8,10 @@ use fr_base::{FrameRecord, Name, NoMemory, PlacementRecord, Rows, SignalRecord};
 
 /// A kind of records, of which each frame has some.
 pub trait FileRecord {
-    ghost use Rattle.std.specs.Prelude.{◌≡◌, ◌++◌, List, OnOk, length};
+    ghost use Rattle.std.specs.Prelude.{◌≡◌, ◌++◌, List, OnErr, OnOk, length};
     ghost use Rattle.fr_base.specs.Book.{Frame};
     ghost use Rattle.fr_base.specs.declared.name.Name.{Name as NameText};
+    ghost use Rattle.fr_world.specs.Appending.{AppendsSome};
     ghost use Rattle.fr_world.specs.Pages.{frame_data, frame_of};
 
     /// The records of a frame, by its supplier and name.
@@ -18,17 +19,22 @@ pub trait FileRecord {
 
     /// How many records the frame has.
     fn count(frame: &PageFrame) -> usize
-        ensures { (k : NameText × NameText) → result ≡ length (records (k, frame_of (frame_data frame.now))) };
+        ensures { (k : NameText × NameText)
+            → result ≡ length (records (k, frame_of (frame_data frame.now))) };
 
-    /// Appends the records of the supplier's frame of this name. Where memory is refused, no clause
-    /// says which of them were.
+    /// Appends the records of the supplier's frame of this name. Where memory is refused, some of
+    /// them were appended, from the first on.
     fn push(
         supplier: Name,
         name: Name,
         frame: &PageFrame,
         rows: &mut Rows<Self>,
     ) -> Result<(), NoMemory>
-        ensures { OnOk result (rows.new ≡ rows.old ++ records ((supplier, name), frame_of (frame_data frame.now))) };
+        ensures ok { OnOk result (rows.new ≡ rows.old
+            ++ records ((supplier, name), frame_of (frame_data frame.now))) }
+        ensures err { OnErr result
+            (AppendsSome (records ((supplier, name), frame_of (frame_data frame.now))) rows.old
+            rows.new) };
 }
 
 // A frame has one record.

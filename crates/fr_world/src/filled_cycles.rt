@@ -31,7 +31,10 @@ impl FilledCycles {
 
     /// Fills the placement's cycles too, on its channels.
     pub(crate) fn mark(&mut self, placement: &Placement)
-        ensures { (x : OneChannel) (k : ℕ) → is_bit_set (word_on x self.new) k ≡ (is_bit_set (word_on x self.old) k || (has_channel placement.now.channels x && has_cycle placement.now.cycles k)) }
+        ensures { (x : OneChannel) (k : ℕ)
+            → is_bit_set (word_on x self.new) k
+            ≡ (is_bit_set (word_on x self.old) k
+            || (has_channel placement.now.channels x && has_cycle placement.now.cycles k)) }
     {
         let mask = placement.cycles.mask();
         if placement.channels.has(Channel::A) {

@@ -21,7 +21,8 @@ pub fn frame_row(
     name: Name,
     frame: &PageFrame,
 ) -> Result<FrameRow, NoMemory>
-    ensures { IfOk result (λ row. row ≡ frame_row ((supplier, name), frame_of (frame_data frame.now))) }
+    ensures { IfOk result (λ row.
+        row ≡ frame_row ((supplier, name), frame_of (frame_data frame.now))) }
 {
     let mut placements = Rows::new(alloc);
     for placement in frame.placements.iter() {
@@ -57,7 +58,9 @@ pub fn push_signal_rows(
     rows: &mut Rows<SignalRow>,
 ) -> Result<(), NoMemory>
     // a signal's row does not name its frame, so any name will do
-    ensures ok { (name : NameText) → OnOk result (rows.new ≡ rows.old ++ signal_rows ((supplier, name), frame_of (frame_data frame.now))) }
+    ensures ok { (name : NameText)
+        → OnOk result (rows.new ≡ rows.old
+        ++ signal_rows ((supplier, name), frame_of (frame_data frame.now))) }
     ensures err { OnErr result (Extends rows.old rows.new) }
 {
     for signal in frame.layout.signals() {

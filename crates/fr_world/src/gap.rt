@@ -47,7 +47,9 @@ impl Moments {
     /// The moments with one more, which does not come before the last one.
     fn next(moments: Option<Moments>, moment: u32) -> Moments
         requires { IfSome moments (λ m. m.last ≤ moment) }
-        ensures { result ≡ option_map_or (λ m. record { first = m.first; last = moment; step = max m.step (moment - m.last) }) moments (record { first = moment; last = moment; step = 0 }) }
+        ensures { result ≡ option_map_or
+            (λ m. record { first = m.first; last = moment; step = max m.step (moment - m.last) })
+            moments (record { first = moment; last = moment; step = 0 }) }
     {
         match moments {
             None => Moments {

@@ -18,7 +18,8 @@ pub(crate) fn is_granted(
     node: Name,
     placement: &Placement,
 ) -> bool
-    ensures { (s : NameText) → result ≡ granted (grants_of s grants.now.entries) s node placement.now }
+    ensures { (s : NameText)
+        → result ≡ granted (grants_of s grants.now.entries) s node placement.now }
 {
     holds_on(grants, node, placement.slot, placement.channels)
 }
@@ -30,18 +31,24 @@ pub(crate) fn holds_on(
     slot: Slot,
     channels: Channels,
 ) -> bool
-    ensures { (s : NameText) → result ≡ list_all (λ c. held_by_node s node (get (grants_of s grants.now.entries) (slot, c))) (channels_in channels) }
+    ensures { (s : NameText)
+        → result ≡ list_all (λ c.
+        held_by_node s node (get (grants_of s grants.now.entries) (slot, c)))
+        (channels_in channels) }
 {
     channels.as_slice().iter().all(
         |channel|
-            ensures { (s : NameText) → result ≡ held_by_node s node (get (grants_of s grants.entry.now.entries) (slot, channel.now)) }
+            ensures { (s : NameText)
+                → result ≡ held_by_node s node
+                (get (grants_of s grants.entry.now.entries) (slot, channel.now)) }
         { holds(grants, node, slot, *channel) },
     )
 }
 
 // Whether the node holds the slot on this channel.
 fn holds(grants: &BTreeMap<ChannelSlot, Name>, node: Name, slot: Slot, channel: Channel) -> bool
-    ensures { (s : NameText) → result ≡ held_by_node s node (get (grants_of s grants.now.entries) (slot, channel)) }
+    ensures { (s : NameText)
+        → result ≡ held_by_node s node (get (grants_of s grants.now.entries) (slot, channel)) }
 {
     match grants.get(&ChannelSlot { slot, channel }) {
         Some(holder) => *holder == node,

@@ -23,7 +23,8 @@ pub(crate) fn lanes(alloc: Global, params: &Params) -> Result<Vec<ChannelSlot>, 
 
 // Appends the lanes of the slot on these channels.
 fn push_lanes(slot: Slot, channels: Channels, lanes: &mut Vec<ChannelSlot>) -> Result<(), NoMemory>
-    ensures { OnOk result (map lane_of lanes.new.items ≡ map lane_of lanes.old.items ++ lanes_in (channels_in channels) slot) }
+    ensures { OnOk result (map lane_of lanes.new.items ≡ map lane_of lanes.old.items
+        ++ lanes_in (channels_in channels) slot) }
 {
     for channel in channels.as_slice() {
         let channel = *channel;

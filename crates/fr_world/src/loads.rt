@@ -19,7 +19,9 @@ use std::collections::BTreeMap;
 
 /// How full each lane is that the page's supplier holds, by slot, then channel.
 pub fn page_load(alloc: Global, page: &Page) -> Result<Rows<LoadRow>, NoMemory>
-    ensures { IfOk result (λ rows. rows ≡ load_of page.now.params (Supplier page.now.supplier) (own_rows_of page.now).grants (own_rows_of page.now).frames) }
+    ensures { IfOk result (λ rows.
+        rows ≡ load_of page.now.params (Supplier page.now.supplier) (own_rows_of page.now).grants
+        (own_rows_of page.now).frames) }
 {
     let lanes = lanes(alloc, &page.params())?;
     let mut rows = Rows::new(alloc);
@@ -31,7 +33,10 @@ pub fn page_load(alloc: Global, page: &Page) -> Result<Rows<LoadRow>, NoMemory>
 
 // Appends the row of the lane, if the page's supplier holds it.
 fn push_held(page: &Page, lane: ChannelSlot, rows: &mut Rows<LoadRow>) -> Result<(), NoMemory>
-    ensures { OnOk result (rows.new ≡ rows.old ++ map (load_row page.now.params (own_rows_of page.now).grants (schedule_of (own_rows_of page.now).frames)) (filter (contains (own_rows_of page.now).grants) (lane_of lane ∷ []))) }
+    ensures { OnOk result (rows.new ≡ rows.old
+        ++ map (load_row page.now.params (own_rows_of page.now).grants
+        (schedule_of (own_rows_of page.now).frames))
+        (filter (contains (own_rows_of page.now).grants) (lane_of lane ∷ []))) }
 {
     if let Some(node) = holder(page, lane.slot, lane.channel) {
         let supplier = page.supplier();
@@ -50,7 +55,8 @@ pub(crate) fn filled_load(
     holders: &BTreeMap<ChannelSlot, LaneHolder>,
     cells: &MaskOccupancy,
 ) -> Result<Rows<LoadRow>, NoMemory>
-    ensures { IfOk result (λ rows. rows ≡ filled_load params.now (grants_in_lanes holders.now.entries) cells.now) }
+    ensures { IfOk result (λ rows.
+        rows ≡ filled_load params.now (grants_in_lanes holders.now.entries) cells.now) }
 {
     let lanes = lanes(alloc, params)?;
     let mut rows = Rows::with_capacity(alloc, lanes.len())?;
@@ -68,7 +74,9 @@ fn lane_row(
     lane: ChannelSlot,
     holder: Option<LaneHolder>,
 ) -> LoadRow
-    ensures { (grants : Table channel_slots Holder) → holder ≡ option_map lane_holder (get grants (lane_of lane)) → result ≡ load_row params.now grants (fill cells.now) (lane_of lane) }
+    ensures { (grants : Table channel_slots Holder)
+        → holder ≡ option_map lane_holder (get grants (lane_of lane))
+        → result ≡ load_row params.now grants (fill cells.now) (lane_of lane) }
 {
     LoadRow {
         slot: lane.slot,

@@ -105,7 +105,9 @@ impl MaskOccupancy {
     // The first of the placement's cycles in which its slot is filled on the channel, with the
     // channel and the frame that is sent there.
     fn first_on(&self, placement: &Placement, channel: Channel) -> Option<Taken>
-        ensures { result ≡ option_map taken_of (first_taken (fill self.now) (cells_in (cycles_of placement.now.cycles) (placement.now.slot ∷ []) (channel ∷ []))) }
+        ensures { result ≡ option_map taken_of
+            (first_taken (fill self.now)
+            (cells_in (cycles_of placement.now.cycles) (placement.now.slot ∷ []) (channel ∷ []))) }
     {
         let cycle = self.first_cycle(placement, channel)?;
         let frame = self.rows.frame_in(cycle, placement.slot, channel)?;

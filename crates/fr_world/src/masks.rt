@@ -44,7 +44,8 @@ impl Masks {
 
     /// Makes room for the slot's words. It changes no filled cycle, also where memory is refused.
     pub(crate) fn make_room(&mut self, slot: Slot) -> Result<(), NoMemory>
-        ensures same { (s : ℕ) → words_at self.new.slots.entries s ≡ words_at self.old.slots.entries s }
+        ensures same { (s : ℕ)
+            → words_at self.new.slots.entries s ≡ words_at self.old.slots.entries s }
         ensures there { OnOk result (IsTrue (has_words self.new.slots.entries slot)) }
     {
         if !self.slots.contains_key(&slot) {
@@ -55,7 +56,10 @@ impl Masks {
 
     /// Fills the slot in these cycles and no others, if there is room for its words.
     pub(crate) fn put(&mut self, slot: Slot, filled: FilledCycles)
-        ensures { (s : ℕ) → words_at self.new.slots.entries s ≡ (if (slot == s) && has_words self.old.slots.entries slot then filled else words_at self.old.slots.entries s) }
+        ensures { (s : ℕ)
+            → words_at self.new.slots.entries s
+            ≡ (if (slot == s) && has_words self.old.slots.entries slot then filled else words_at
+            self.old.slots.entries s) }
     {
         if let Some(there) = self.slots.get_mut(&slot) {
             *there = filled;

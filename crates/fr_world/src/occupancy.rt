@@ -37,7 +37,8 @@ pub trait Occupancy {
     fn fill(&mut self, frame: Name, placement: &Placement) -> Result<(), Refusal>
         requires { IsTrue (is_free (pairs self.old) placement.now) }
         ensures ok { OnOk result (pairs self.new ≡ pairs self.old ++ (frame, placement.now) ∷ []) }
-        ensures err { OnErr result ((pairs self.new ≡ pairs self.old) × (result ≡ Err Unavailable)) };
+        ensures err { OnErr result ((pairs self.new ≡ pairs self.old)
+            × (result ≡ Err Unavailable)) };
 
     /// Clears the placement's cells, if the frame filled them. The others stay in their order. It
     /// takes no memory.

@@ -46,7 +46,9 @@ pub trait Records {
     /// Whether the variant is there.
     fn has_variant(&mut self, variant: Name) -> Result<bool, Refusal>
         ensures reads { Reads clean params leaves self.old self.new }
-        ensures has { clean self.new → Tells (stands self.old) (stands self.new) result (λ c b has. has ≡ contains b.variants variant) };
+        ensures has { clean self.new
+            → Tells (stands self.old) (stands self.new) result
+            (λ c b has. has ≡ contains b.variants variant) };
 
     /// The supplier's page of the variant, if the variant is there. A page has the cluster's parameters.
     fn page(
@@ -56,23 +58,32 @@ pub trait Records {
         variant: Name,
     ) -> Result<Option<Page>, Refusal>
         ensures reads { Reads clean params leaves self.old self.new }
-        ensures params { IfOk result (λ found. IfSome found (λ page. page.params ≡ params self.old)) }
-        ensures page { clean self.new → Tells (stands self.old) (stands self.new) result (λ c b found. found ≡ page_of c.params b supplier variant) };
+        ensures params { IfOk result
+            (λ found. IfSome found (λ page. page.params ≡ params self.old)) }
+        ensures page { clean self.new
+            → Tells (stands self.old) (stands self.new) result
+            (λ c b found. found ≡ page_of c.params b supplier variant) };
 
     /// Whether anybody holds the slot on the channel in the variant.
     fn is_held(&mut self, variant: Name, slot: Slot, channel: Channel) -> Result<bool, Refusal>
         ensures reads { Reads clean params leaves self.old self.new }
-        ensures held { clean self.new → Tells (stands self.old) (stands self.new) result (λ c b is. is ≡ held_in b variant (slot, channel)) };
+        ensures held { clean self.new
+            → Tells (stands self.old) (stands self.new) result
+            (λ c b is. is ≡ held_in b variant (slot, channel)) };
 
     /// The variants, by name.
     fn variants(&mut self, alloc: Global) -> Result<Vec<VariantRow>, Refusal>
         ensures reads { Reads clean params leaves self.old self.new }
-        ensures variants { clean self.new → Tells (stands self.old) (stands self.new) result (λ c b rows. rows.items ≡ variants_in b) };
+        ensures variants { clean self.new
+            → Tells (stands self.old) (stands self.new) result
+            (λ c b rows. rows.items ≡ variants_in b) };
 
     /// The supplier's nodes, in byte order.
     fn nodes(&mut self, alloc: Global, supplier: Name) -> Result<Vec<Name>, Refusal>
         ensures reads { Reads clean params leaves self.old self.new }
-        ensures nodes { clean self.new → Tells (stands self.old) (stands self.new) result (λ c b names. names.items ≡ nodes_in b supplier) };
+        ensures nodes { clean self.new
+            → Tells (stands self.old) (stands self.new) result
+            (λ c b names. names.items ≡ nodes_in b supplier) };
 
     /// The import that the supplier keeps under the label, if one is kept.
     fn import(
@@ -82,12 +93,16 @@ pub trait Records {
         label: Name,
     ) -> Result<Option<KeptImport>, Refusal>
         ensures reads { Reads clean params leaves self.old self.new }
-        ensures import { clean self.new → Tells (stands self.old) (stands self.new) result (λ c b found. option_map kept_of found ≡ get b.imports (supplier, label)) };
+        ensures import { clean self.new
+            → Tells (stands self.old) (stands self.new) result
+            (λ c b found. option_map kept_of found ≡ get b.imports (supplier, label)) };
 
     /// How many imports of the supplier are kept.
     fn imports(&mut self, alloc: Global, supplier: Name) -> Result<usize, Refusal>
         ensures reads { Reads clean params leaves self.old self.new }
-        ensures imports { clean self.new → Tells (stands self.old) (stands self.new) result (λ c b count. count ≡ len (own supplier b.imports)) };
+        ensures imports { clean self.new
+            → Tells (stands self.old) (stands self.new) result
+            (λ c b count. count ≡ len (own supplier b.imports)) };
 
     /// Carries out the edits, all or none. They fit the records, one after another. Until the call
     /// answers, a crash leaves either all or none.
@@ -95,6 +110,8 @@ pub trait Records {
         ensures falls { clean self.new → clean self.old }
         ensures same { params self.new ≡ params self.old }
         ensures open { clean self.new → OnOk result (serves self.new) }
-        ensures leaves { clean self.new → LeavesEdited (stands self.old) (leaves self.old) (leaves self.new) edits.now }
-        ensures applies { clean self.new → Applies (stands self.old) (stands self.new) result edits.now };
+        ensures leaves { clean self.new
+            → LeavesEdited (stands self.old) (leaves self.old) (leaves self.new) edits.now }
+        ensures applies { clean self.new
+            → Applies (stands self.old) (stands self.new) result edits.now };
 }

@@ -24,7 +24,8 @@ pub fn room(
 ) -> Result<Rows<Placement>, Refusal>
     requires { IsTrue (is_repetition page.now.params.cycles repetition) }
     ensures places { IfOk result (λ places. page_room page.now frame repetition ≡ Ok places) }
-    ensures refusal { IfErr result (λ e. (e ≡ Unavailable) ⊎ (page_room page.now frame repetition ≡ Err e)) }
+    ensures refusal { IfErr result
+        (λ e. (e ≡ Unavailable) ⊎ (page_room page.now frame repetition ≡ Err e)) }
 {
     let node = open_node(page, frame)?;
     let places = vacant_places(alloc, page, node, repetition)?;
@@ -60,7 +61,9 @@ fn vacant_places(
     repetition: u32,
 ) -> Result<Rows<Placement>, NoMemory>
     requires { IsTrue (is_repetition page.now.params.cycles repetition) }
-    ensures { IfOk result (λ places. places ≡ filter (is_vacant_alone (own_rows_of page.now) node) (places_with page.now.params repetition)) }
+    ensures { IfOk result (λ places.
+        places ≡ filter (is_vacant_alone (own_rows_of page.now) node)
+        (places_with page.now.params repetition)) }
 {
     let search = Search { node, repetition };
     let mut places = Rows::new(alloc);
@@ -80,7 +83,9 @@ fn push_slot(
     places: &mut Rows<Placement>,
 ) -> Result<(), NoMemory>
     requires { IsTrue (is_repetition page.now.params.cycles search.now.repetition) }
-    ensures { OnOk result (places.new ≡ places.old ++ filter (is_vacant_alone (own_rows_of page.now) search.now.node) (places_in page.now.params search.now.repetition slot)) }
+    ensures { OnOk result (places.new ≡ places.old
+        ++ filter (is_vacant_alone (own_rows_of page.now) search.now.node)
+        (places_in page.now.params search.now.repetition slot)) }
 {
     for channels in channels_within(page.params().channels()) {
         push_channels(page, search, slot, *channels, places)?;
@@ -98,7 +103,9 @@ fn push_channels(
     places: &mut Rows<Placement>,
 ) -> Result<(), NoMemory>
     requires { IsTrue (is_repetition page.now.params.cycles search.now.repetition) }
-    ensures { OnOk result (places.new ≡ places.old ++ filter (is_vacant_alone (own_rows_of page.now) search.now.node) (places_on page.now.params search.now.repetition slot channels)) }
+    ensures { OnOk result (places.new ≡ places.old
+        ++ filter (is_vacant_alone (own_rows_of page.now) search.now.node)
+        (places_on page.now.params search.now.repetition slot channels)) }
 {
     if holds_on(page.grants(), search.node, slot, channels) {
         push_bases(page, slot, channels, search.repetition, places)?;
@@ -115,7 +122,9 @@ fn push_bases(
     places: &mut Rows<Placement>,
 ) -> Result<(), NoMemory>
     requires { IsTrue (is_repetition page.now.params.cycles repetition) }
-    ensures { OnOk result (places.new ≡ places.old ++ filter (is_free_alone (own_rows_of page.now)) (places_on page.now.params repetition slot channels)) }
+    ensures { OnOk result (places.new ≡ places.old
+        ++ filter (is_free_alone (own_rows_of page.now))
+        (places_on page.now.params repetition slot channels)) }
 {
     for base in 0..repetition {
         if let Ok(cycles) = CycleSet::new(page.params().cycles(), base, repetition) {
@@ -136,7 +145,8 @@ fn push_free(
     placement: Placement,
     places: &mut Rows<Placement>,
 ) -> Result<(), NoMemory>
-    ensures { OnOk result (places.new ≡ places.old ++ filter (is_free_alone (own_rows_of page.now)) (placement ∷ [])) }
+    ensures { OnOk result (places.new ≡ places.old
+        ++ filter (is_free_alone (own_rows_of page.now)) (placement ∷ [])) }
 {
     if is_free(page, &placement) {
         places.push(placement)?;

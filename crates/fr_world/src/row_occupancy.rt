@@ -57,8 +57,10 @@ impl RowOccupancy {
     /// Lets the frame fill the placement's cells too, whether they are filled or not. Where memory
     /// is refused, nothing changes.
     pub(crate) fn push(&mut self, frame: Name, placement: &Placement) -> Result<(), NoMemory>
-        ensures ok { OnOk result (⟦<RowOccupancy as Occupancy>⟧.pairs self.new ≡ ⟦<RowOccupancy as Occupancy>⟧.pairs self.old ++ (frame, placement.now) ∷ []) }
-        ensures err { OnErr result (⟦<RowOccupancy as Occupancy>⟧.pairs self.new ≡ ⟦<RowOccupancy as Occupancy>⟧.pairs self.old) }
+        ensures ok { OnOk result (⟦<RowOccupancy as Occupancy>⟧.pairs self.new
+            ≡ ⟦<RowOccupancy as Occupancy>⟧.pairs self.old ++ (frame, placement.now) ∷ []) }
+        ensures err { OnErr result (⟦<RowOccupancy as Occupancy>⟧.pairs self.new
+            ≡ ⟦<RowOccupancy as Occupancy>⟧.pairs self.old) }
     {
         self.rows.push(Row {
             frame,
@@ -69,7 +71,8 @@ impl RowOccupancy {
 
     /// The frame that is sent in the cell, if one is.
     pub(crate) fn frame_in(&self, cycle: u8, slot: Slot, channel: Channel) -> Option<Name>
-        ensures { result ≡ fill (⟦<RowOccupancy as Occupancy>⟧.pairs self.now) (record { cycle = cycle; slot = slot; channel = channel }) }
+        ensures { result ≡ fill (⟦<RowOccupancy as Occupancy>⟧.pairs self.now)
+            (record { cycle = cycle; slot = slot; channel = channel }) }
     {
         for row in &self.rows {
             if has_cell(&row.placement, cycle, slot, channel) {
@@ -81,7 +84,8 @@ impl RowOccupancy {
 
     /// The cycles in which the slot is filled.
     pub(crate) fn filled_in(&self, slot: Slot) -> FilledCycles
-        ensures { (x : OneChannel) → AreFilled (⟦<RowOccupancy as Occupancy>⟧.pairs self.now) slot x (word_on x result) }
+        ensures { (x : OneChannel)
+            → AreFilled (⟦<RowOccupancy as Occupancy>⟧.pairs self.now) slot x (word_on x result) }
     {
         let mut filled = NONE_FILLED;
         for row in &self.rows {
@@ -130,7 +134,8 @@ impl Occupancy for RowOccupancy {
     fn clear(&mut self, frame: Name, placement: &Placement) {
         self.rows.retain(
             |row|
-                ensures { result ≡ not (is_pair frame placement.entry.now (row.now.frame, row.now.placement)) }
+                ensures { result ≡ not (is_pair frame placement.entry.now
+                    (row.now.frame, row.now.placement)) }
             { !is_row(row, frame, placement) },
         );
     }

@@ -21,7 +21,9 @@ pub(crate) fn schedule(
     sendings: &FrameSendings<'_>,
 ) -> Result<Rows<Sending>, NoMemory>
     requires { HaveSenders sendings.now.senders.now sendings.now.triggerings.now }
-    ensures { IfOk result (λ rows. rows ≡ sent_in (filled sendings.now.senders.now sendings.now.triggerings.now) (cluster_cells params.now)) }
+    ensures { IfOk result (λ rows.
+        rows ≡ sent_in (filled sendings.now.senders.now sendings.now.triggerings.now)
+        (cluster_cells params.now)) }
 {
     let slots = used_slots(alloc, params, sendings.triggerings)?;
     let tables = slot_tables(alloc, sendings.triggerings)?;
@@ -49,7 +51,9 @@ pub(crate) fn push_sendings(
     rows: &mut Rows<Sending>,
 ) -> Result<(), NoMemory>
     requires { HaveSenders sendings.now.senders.now sendings.now.triggerings.now }
-    ensures { OnOk result (rows.new ≡ rows.old ++ sent_in (filled sendings.now.senders.now sendings.now.triggerings.now) (cycle_cells params.now cycle)) }
+    ensures { OnOk result (rows.new ≡ rows.old
+        ++ sent_in (filled sendings.now.senders.now sendings.now.triggerings.now)
+        (cycle_cells params.now cycle)) }
 {
     let slots = used_slots(alloc, params, sendings.triggerings)?;
     let tables = slot_tables(alloc, sendings.triggerings)?;
@@ -62,7 +66,8 @@ fn used_slots(
     params: &Params,
     triggerings: &[FrameTriggering],
 ) -> Result<Vec<Slot>, NoMemory>
-    ensures { IfOk result (λ slots. slots.items ≡ filter (is_used triggerings.now) (slots_of params.now)) }
+    ensures { IfOk result (λ slots.
+        slots.items ≡ filter (is_used triggerings.now) (slots_of params.now)) }
 {
     let last = params.static_slots().min(last_slot(triggerings));
     used_slots_to(alloc, triggerings, last)
@@ -88,7 +93,8 @@ fn used_slots_to(
 ) -> Result<Vec<Slot>, NoMemory>
     requires some { 1 ≤ last }
     requires within { last ≤ 1023 }
-    ensures { IfOk result (λ slots. slots.items ≡ filter (is_used triggerings.now) (range_with_len 1 last)) }
+    ensures { IfOk result (λ slots.
+        slots.items ≡ filter (is_used triggerings.now) (range_with_len 1 last)) }
 {
     let marks = slot_marks(triggerings);
     let mut slots = Vec::new(alloc);
@@ -104,7 +110,8 @@ fn used_slots_to(
 
 // For each slot's number whether the slot has a placement.
 fn slot_marks(triggerings: &[FrameTriggering]) -> [bool; 1024]
-    ensures { (slot : ℕ) → slot < 1024 → slice_index_or result slot false ≡ is_used triggerings.now slot }
+    ensures { (slot : ℕ) → slot < 1024
+        → slice_index_or result slot false ≡ is_used triggerings.now slot }
 {
     let mut marks = [false; 1024];
     for one in triggerings {
@@ -132,7 +139,9 @@ fn push_cycle(
 ) -> Result<(), NoMemory>
     requires have { HaveSenders sendings.now.senders.now sendings.now.triggerings.now }
     requires first { AreFirst sendings.now.triggerings.now tables.now }
-    ensures { OnOk result (rows.new ≡ rows.old ++ sent_in (filled sendings.now.senders.now sendings.now.triggerings.now) (cells_in (cycle ∷ []) slots.now (channels_in channels))) }
+    ensures { OnOk result (rows.new ≡ rows.old
+        ++ sent_in (filled sendings.now.senders.now sendings.now.triggerings.now)
+        (cells_in (cycle ∷ []) slots.now (channels_in channels))) }
 {
     for slot in slots {
         let places = places_in(tables, *slot, cycle);
@@ -154,7 +163,8 @@ fn sender_on<'s>(
 ) -> Option<&'s FrameSender>
     requires { HaveSenders sendings.now.senders.now sendings.now.triggerings.now }
     ensures { (c : Cell) → place_on channel places ≡ first_place sendings.now.triggerings.now c
-        → option_map (λ s. sender_of s.now) result ≡ fill (filled sendings.now.senders.now sendings.now.triggerings.now) c }
+        → option_map (λ s. sender_of s.now) result
+        ≡ fill (filled sendings.now.senders.now sendings.now.triggerings.now) c }
 {
     let Some(place) = places.on(channel) else {
         return None;
@@ -175,7 +185,8 @@ fn push_sending(
     rows: &mut Rows<Sending>,
 ) -> Result<(), NoMemory>
     ensures { let cell : Cell = record { cycle = cycle; slot = slot; channel = channel } in
-        OnOk result (rows.new ≡ rows.old ++ cons_option (option_map (λ s. sending (cell, sender_of s.now)) sender.entry) []) }
+        OnOk result (rows.new ≡ rows.old
+        ++ cons_option (option_map (λ s. sending (cell, sender_of s.now)) sender.entry) []) }
 {
     let Some(sender) = sender else {
         return Ok(());

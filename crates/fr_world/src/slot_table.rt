@@ -83,7 +83,9 @@ impl FirstPlaces {
 
     // Notes the place for each of the channels that has none yet.
     fn claim(&mut self, channels: Channels, place: usize)
-        ensures { (x : OneChannel) → place_on x self.new ≡ option_or (place_on x self.old) (if has_channel channels x then Some place else None) }
+        ensures { (x : OneChannel)
+            → place_on x self.new ≡ option_or (place_on x self.old)
+            (if has_channel channels x then Some place else None) }
     {
         if channels.has(Channel::A) && self.a.is_none() {
             self.a = Some(place);
@@ -123,7 +125,8 @@ pub(crate) fn slot_tables(
 // Lengthens the list until it has a table of this number.
 fn make_room(alloc: Global, tables: &mut Vec<SlotTable>, number: usize) -> Result<(), NoMemory>
     ensures room { OnOk result (number < length tables.new.items) }
-    ensures same { (n : ℕ) → slice_index_or tables.new.items n [] ≡ slice_index_or tables.old.items n [] }
+    ensures same { (n : ℕ)
+        → slice_index_or tables.new.items n [] ≡ slice_index_or tables.old.items n [] }
 {
     while tables.len() <= number {
         tables.push(SlotTable::new(alloc))?;

@@ -81,7 +81,8 @@ impl Triggerings {
     /// frame's by slot, channels, base and repetition. Where memory is refused, some of them may have been
     /// appended.
     pub fn push_page(&mut self, page: &Page) -> Result<(), NoMemory>
-        ensures ok { OnOk result (self.new ≡ self.old ++ placements_of (own_rows_of page.now).frames) }
+        ensures ok { OnOk result (self.new ≡ self.old
+            ++ placements_of (own_rows_of page.now).frames) }
         ensures err { OnErr result (Extends self.old self.new) }
     {
         let supplier = page.supplier();
@@ -93,7 +94,8 @@ impl Triggerings {
 
     // Appends the placements of a supplier's frame of this name, all or none.
     fn push_frame(&mut self, supplier: Name, name: Name, frame: &PageFrame) -> Result<(), NoMemory>
-        ensures ok { OnOk result (self.new ≡ self.old ++ filled_by (supplier, name) (frame_of (frame_data frame.now))) }
+        ensures ok { OnOk result (self.new ≡ self.old
+            ++ filled_by (supplier, name) (frame_of (frame_data frame.now))) }
         ensures err { OnErr result (self.new ≡ self.old) }
     {
         self.triggerings.reserve(frame.placements.len())?;
@@ -134,7 +136,8 @@ impl Triggerings {
         params: &Params,
         holders: &BTreeMap<ChannelSlot, LaneHolder>,
     ) -> Result<Rows<LoadRow>, NoMemory>
-        ensures { IfOk result (λ rows. rows ≡ filled_load params.now (grants_in_lanes holders.now.entries) self.now) }
+        ensures { IfOk result (λ rows.
+            rows ≡ filled_load params.now (grants_in_lanes holders.now.entries) self.now) }
     {
         let cells = filled_cells(alloc, &self.senders, &self.triggerings)?;
         filled_load(alloc, params, holders, &cells)
@@ -150,7 +153,8 @@ impl Triggerings {
         cycle: u8,
         rows: &mut Rows<Sending>,
     ) -> Result<(), NoMemory>
-        ensures { OnOk result (rows.new ≡ rows.old ++ sent_in self.now (cycle_cells params.now cycle)) }
+        ensures { OnOk result (rows.new ≡ rows.old
+            ++ sent_in self.now (cycle_cells params.now cycle)) }
     {
         push_sendings(alloc, params, &self.sendings(), cycle, rows)
     }
@@ -159,8 +163,10 @@ impl Triggerings {
 // Appends the placements of the frame. The sender at this place sends them, and there is room for
 // them.
 fn push_placements(frame: &PageFrame, sender: usize, triggerings: &mut Vec<FrameTriggering>)
-    requires { vec_len triggerings.old + length frame.now.placements.keys ≤ vec_capacity triggerings.old }
-    ensures { triggerings.new.items ≡ triggerings.old.items ++ map (sent_by sender) (placements_in (frame_of (frame_data frame.now))) }
+    requires { vec_len triggerings.old + length frame.now.placements.keys
+        ≤ vec_capacity triggerings.old }
+    ensures { triggerings.new.items ≡ triggerings.old.items
+        ++ map (sent_by sender) (placements_in (frame_of (frame_data frame.now))) }
 {
     for placement in frame.placements.iter() {
         triggerings.push_reserved(FrameTriggering {
@@ -177,7 +183,8 @@ fn filled_cells(
     triggerings: &[FrameTriggering],
 ) -> Result<MaskOccupancy, NoMemory>
     requires { HaveSenders senders.now triggerings.now }
-    ensures { IfOk result (λ cells. cells ≡ map (λ e. (e.0.frame, e.1)) (filled senders.now triggerings.now)) }
+    ensures { IfOk result (λ cells.
+        cells ≡ map (λ e. (e.0.frame, e.1)) (filled senders.now triggerings.now)) }
 {
     let mut cells = MaskOccupancy::new(alloc);
     for one in triggerings {

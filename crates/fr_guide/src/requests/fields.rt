@@ -21,7 +21,8 @@ type Fields = Map<String, Value>;
 /// The faults of the fields of a request's object.
 #[tactic(auto, unfolding(crate::specs::RequestFields::are_of_request))]
 pub fn field_faults(alloc: Global, fields: &Fields) -> Result<Vec<String>, NoMemory>
-    ensures { IfOk result (λ faults. are_none faults.items ≡ are_of_request (fields_in fields.now)) }
+    ensures { IfOk result (λ faults.
+        are_none faults.items ≡ are_of_request (fields_in fields.now)) }
 {
     let Some(request) = named(fields) else {
         return one_fault(alloc, no_request(alloc, fields)?);
@@ -42,7 +43,8 @@ fn named(fields: &Fields) -> Option<&str>
 
 // The field of this name.
 fn field<'v>(fields: &'v Fields, name: &str) -> Option<&'v Value>
-    ensures { option_map (λ value. view value.now) result ≡ get_member name.now (fields_in fields.now) }
+    ensures { option_map (λ value. view value.now) result
+        ≡ get_member name.now (fields_in fields.now) }
 {
     fields.get(name)
 }
@@ -69,7 +71,9 @@ fn known_faults(
     names: &[&str],
     fields: &Fields,
 ) -> Result<Vec<String>, NoMemory>
-    ensures { IfOk result (λ faults. are_none faults.items ≡ has_just request.now (map (λ name. name.now) names.now) (fields_in fields.now)) }
+    ensures { IfOk result (λ faults.
+        are_none faults.items ≡ has_just request.now (map (λ name. name.now) names.now)
+        (fields_in fields.now)) }
 {
     let mut faults = Vec::new(alloc);
     add_unknown(alloc, &mut faults, request, names, fields)?;
@@ -122,7 +126,8 @@ fn add_bad(
     fields: &Fields,
 ) -> Result<(), NoMemory>
     ensures { OnOk result (are_none faults.new.items ≡ are_none faults.old.items
-        && list_all (has_field request.now (fields_in fields.now)) (map (λ name. name.now) names.now)) }
+        && list_all (has_field request.now (fields_in fields.now))
+        (map (λ name. name.now) names.now)) }
 {
     for name in names {
         let value = field(fields, name);

@@ -22,7 +22,8 @@ pub const REQUESTS: &str =
 /// The fields of the request of this name, besides `do`.
 #[tactic(auto, unfolding(crate::specs::RequestFields::requests))]
 pub fn fields_of(request: &str) -> Option<&'static [&'static str]>
-    ensures { option_map (λ names. map (λ name. name.now) names.now) result ≡ fields_of request.now }
+    ensures { option_map (λ names. map (λ name. name.now) names.now) result
+        ≡ fields_of request.now }
 {
     match request {
         "cluster" | "variants" | "nodes" => Some(&[]),

@@ -179,7 +179,8 @@ fn key_in<'a>(field: &'static str, text: &'a Text) -> Formed<'a>
 
 // The faults of the texts that have not their form.
 fn faults(alloc: Global, texts: &[Formed<'_>]) -> Result<Vec<String>, NoMemory>
-    ensures { IfOk result (λ faults. are_none faults.items ≡ have_forms (map (λ it. (it.form, it.text.now)) texts.now)) }
+    ensures { IfOk result (λ faults.
+        are_none faults.items ≡ have_forms (map (λ it. (it.form, it.text.now)) texts.now)) }
 {
     let mut faults = Vec::new(alloc);
     for formed in texts {

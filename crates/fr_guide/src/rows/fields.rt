@@ -20,7 +20,8 @@ pub fn field_faults(
     header: Header,
     fields: &ByteRecord,
 ) -> Result<Vec<String>, NoMemory>
-    ensures { IfOk result (λ faults. are_none faults.items ≡ is_fine_row header (fields_of fields.now)) }
+    ensures { IfOk result (λ faults.
+        are_none faults.items ≡ is_fine_row header (fields_of fields.now)) }
 {
     if fields.len() != names(header).len() {
         return count_faults(alloc, header, fields);
@@ -50,7 +51,8 @@ fn frame_faults(alloc: Global, fields: &ByteRecord) -> Result<Vec<String>, NoMem
 // The faults of the fields of a row of placements.
 #[tactic(auto, unfolding(crate::specs::Rows::is_fine_placement))]
 fn placement_faults(alloc: Global, fields: &ByteRecord) -> Result<Vec<String>, NoMemory>
-    ensures { IfOk result (λ faults. are_none faults.items ≡ is_fine_placement (fields_of fields.now)) }
+    ensures { IfOk result (λ faults.
+        are_none faults.items ≡ is_fine_placement (fields_of fields.now)) }
 {
     let mut faults = Vec::new(alloc);
     add_name(alloc, &mut faults, fields, 0, "frame")?;
@@ -65,7 +67,8 @@ fn placement_faults(alloc: Global, fields: &ByteRecord) -> Result<Vec<String>, N
 // The faults of the fields of a row of signals.
 #[tactic(auto, unfolding(crate::specs::Rows::is_fine_signal))]
 fn signal_faults(alloc: Global, fields: &ByteRecord) -> Result<Vec<String>, NoMemory>
-    ensures { IfOk result (λ faults. are_none faults.items ≡ is_fine_signal (fields_of fields.now)) }
+    ensures { IfOk result (λ faults.
+        are_none faults.items ≡ is_fine_signal (fields_of fields.now)) }
 {
     let mut faults = Vec::new(alloc);
     add_name(alloc, &mut faults, fields, 0, "frame")?;
@@ -84,7 +87,8 @@ fn add_name(
     place: usize,
     name: &str,
 ) -> Result<(), NoMemory>
-    ensures { OnOk result (are_none faults.new.items ≡ are_none faults.old.items && is_ok (name_at (fields_of fields.now) place)) }
+    ensures { OnOk result (are_none faults.new.items ≡ are_none faults.old.items
+        && is_ok (name_at (fields_of fields.now) place)) }
 {
     if !is_name(fields, place) {
         faults.push(fault(alloc, fields, place, name, NAME)?)?;
@@ -100,7 +104,8 @@ fn add_number(
     place: usize,
     name: &str,
 ) -> Result<(), NoMemory>
-    ensures { OnOk result (are_none faults.new.items ≡ are_none faults.old.items && is_ok (number_at (fields_of fields.now) place)) }
+    ensures { OnOk result (are_none faults.new.items ≡ are_none faults.old.items
+        && is_ok (number_at (fields_of fields.now) place)) }
 {
     if number_at(fields, place).is_err() {
         faults.push(fault(alloc, fields, place, name, NUMBER)?)?;
@@ -116,7 +121,8 @@ fn add_text(
     place: usize,
     name: &str,
 ) -> Result<(), NoMemory>
-    ensures { OnOk result (are_none faults.new.items ≡ are_none faults.old.items && is_ok (text_at (fields_of fields.now) place)) }
+    ensures { OnOk result (are_none faults.new.items ≡ are_none faults.old.items
+        && is_ok (text_at (fields_of fields.now) place)) }
 {
     if text_at(fields, place).is_err() {
         faults.push(fault(alloc, fields, place, name, "UTF-8")?)?;

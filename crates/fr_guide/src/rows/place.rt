@@ -32,7 +32,8 @@ impl<'b> Place<'b> {
         requires room { self.old.line + line_ends self.old.rest.now < 2 ^ 64 }
         ensures line { result ≡ self.new.line }
         ensures order { self.old.line ≤ self.new.line }
-        ensures all { self.new.line + line_ends self.new.rest.now ≡ self.old.line + line_ends self.old.rest.now }
+        ensures all { self.new.line + line_ends self.new.rest.now
+            ≡ self.old.line + line_ends self.old.rest.now }
     {
         while let [byte, after @ ..] = self.rest {
             let passed = self.length.saturating_sub(self.rest.len());

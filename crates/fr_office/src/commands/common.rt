@@ -15,8 +15,11 @@ pub(crate) fn change_common<R: Records>(
 ) -> Result<(), Refusal>
     ensures falls { R.clean records.new → R.clean records.old }
     ensures open { R.clean records.new → OnOk result (R.serves records.new) }
-    ensures leaves { R.clean records.new → MayLeave (R.stands records.old) (R.leaves records.old) (R.leaves records.new) (λ c b. common b command.now) }
-    ensures does { R.clean records.new → Does (R.stands records.old) (R.stands records.new) result (λ c b. common b command.now) }
+    ensures leaves { R.clean records.new
+        → MayLeave (R.stands records.old) (R.leaves records.old) (R.leaves records.new)
+        (λ c b. common b command.now) }
+    ensures does { R.clean records.new
+        → Does (R.stands records.old) (R.stands records.new) result (λ c b. common b command.now) }
 {
     let variants = records.variants(alloc)?;
     let edit = decide_common(&variants, command)?;

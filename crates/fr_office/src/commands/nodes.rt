@@ -17,8 +17,12 @@ pub(crate) fn add_node<R: Records>(
 ) -> Result<(), Refusal>
     ensures falls { R.clean records.new → R.clean records.old }
     ensures open { R.clean records.new → OnOk result (R.serves records.new) }
-    ensures leaves { R.clean records.new → MayLeave (R.stands records.old) (R.leaves records.old) (R.leaves records.new) (λ c b. add_node b supplier node) }
-    ensures does { R.clean records.new → Does (R.stands records.old) (R.stands records.new) result (λ c b. add_node b supplier node) }
+    ensures leaves { R.clean records.new
+        → MayLeave (R.stands records.old) (R.leaves records.old) (R.leaves records.new)
+        (λ c b. add_node b supplier node) }
+    ensures does { R.clean records.new
+        → Does (R.stands records.old) (R.stands records.new) result
+        (λ c b. add_node b supplier node) }
 {
     if !has_supplier(records.config(), supplier) {
         return Err(Refusal::NoSupplier);

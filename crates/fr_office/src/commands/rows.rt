@@ -37,8 +37,12 @@ pub(crate) fn change_rows<R: Lender>(
     requires known { (c : _) (b : _) → R.stands records.old c b → IsOfKnown b supplier change.now }
     ensures falls { R.clean records.new → R.clean records.old }
     ensures open { R.clean records.new → OnOk result (R.serves records.new) }
-    ensures leaves { R.clean records.new → MayLeave (R.stands records.old) (R.leaves records.old) (R.leaves records.new) (λ c b. change_rows c.params b supplier variant change.now) }
-    ensures does { R.clean records.new → Does (R.stands records.old) (R.stands records.new) result (λ c b. change_rows c.params b supplier variant change.now) }
+    ensures leaves { R.clean records.new
+        → MayLeave (R.stands records.old) (R.leaves records.old) (R.leaves records.new)
+        (λ c b. change_rows c.params b supplier variant change.now) }
+    ensures does { R.clean records.new
+        → Does (R.stands records.old) (R.stands records.new) result
+        (λ c b. change_rows c.params b supplier variant change.now) }
 {
     let beside = look_beside(records, supplier, variant, change)?;
     open_page(alloc, records, supplier, variant)?;
@@ -63,7 +67,9 @@ fn look_beside<R: Records>(
 ) -> Result<BesidePage, Refusal>
     requires known { (c : _) (b : _) → R.stands records.old c b → IsOfKnown b supplier change.now }
     ensures reads { Reads R.clean R.params R.leaves records.old records.new }
-    ensures told { R.clean records.new → Tells (R.stands records.old) (R.stands records.new) result (λ c b. IsBeside b supplier variant change.now) }
+    ensures told { R.clean records.new
+        → Tells (R.stands records.old) (R.stands records.new) result
+        (λ c b. IsBeside b supplier variant change.now) }
 {
     match change {
         Change::Grant { slot, channel, .. } => {

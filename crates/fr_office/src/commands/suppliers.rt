@@ -17,8 +17,12 @@ pub(crate) fn add_supplier<R: Records>(
 ) -> Result<(), Refusal>
     ensures falls { R.clean records.new → R.clean records.old }
     ensures open { R.clean records.new → OnOk result (R.serves records.new) }
-    ensures leaves { R.clean records.new → MayLeave (R.stands records.old) (R.leaves records.old) (R.leaves records.new) (λ c b. add_supplier c b supplier key) }
-    ensures does { R.clean records.new → Does (R.stands records.old) (R.stands records.new) result (λ c b. add_supplier c b supplier key) }
+    ensures leaves { R.clean records.new
+        → MayLeave (R.stands records.old) (R.leaves records.old) (R.leaves records.new)
+        (λ c b. add_supplier c b supplier key) }
+    ensures does { R.clean records.new
+        → Does (R.stands records.old) (R.stands records.new) result
+        (λ c b. add_supplier c b supplier key) }
 {
     let edit = decide_supplier(records.config(), supplier, key)?;
     records.apply(alloc, &[edit])
@@ -34,8 +38,12 @@ pub(crate) fn set_key<R: Records>(
 ) -> Result<(), Refusal>
     ensures falls { R.clean records.new → R.clean records.old }
     ensures open { R.clean records.new → OnOk result (R.serves records.new) }
-    ensures leaves { R.clean records.new → MayLeave (R.stands records.old) (R.leaves records.old) (R.leaves records.new) (λ c b. set_key c b supplier key) }
-    ensures does { R.clean records.new → Does (R.stands records.old) (R.stands records.new) result (λ c b. set_key c b supplier key) }
+    ensures leaves { R.clean records.new
+        → MayLeave (R.stands records.old) (R.leaves records.old) (R.leaves records.new)
+        (λ c b. set_key c b supplier key) }
+    ensures does { R.clean records.new
+        → Does (R.stands records.old) (R.stands records.new) result
+        (λ c b. set_key c b supplier key) }
 {
     let edit = decide_key(records.config(), supplier, key)?;
     records.apply(alloc, &[edit])

@@ -30,7 +30,8 @@ pub(crate) trait ComparedRow: KeyedRow {
 
     /// Appends the rows of the page's frames, in order. Where memory is refused, some of them may have been appended.
     fn push_page(page: &Page, rows: &mut Rows<Self>) -> Result<(), NoMemory>
-        ensures { OnOk result (rows.new ≡ rows.old ++ flat_map (compared page.now.params) (own_rows_of page.now).frames.rows) };
+        ensures { OnOk result (rows.new ≡ rows.old
+            ++ flat_map (compared page.now.params) (own_rows_of page.now).frames.rows) };
 }
 
 impl ComparedRow for FrameRecord {
@@ -76,7 +77,8 @@ impl ComparedRow for GapRow {
 
 // Appends the records of the page's frames, in order. Where memory is refused, some of them may have been appended.
 fn push_records<T: FileRecord + Drop>(page: &Page, rows: &mut Rows<T>) -> Result<(), NoMemory>
-    ensures { OnOk result (rows.new ≡ rows.old ++ flat_map T.records (own_rows_of page.now).frames.rows) }
+    ensures { OnOk result (rows.new ≡ rows.old
+        ++ flat_map T.records (own_rows_of page.now).frames.rows) }
 {
     let supplier = page.supplier();
     for (name, frame) in page.frames().iter() {
@@ -93,7 +95,9 @@ pub(crate) fn gather_rows<T: ComparedRow + Drop, R: Lender>(
     variant: Name,
 ) -> Result<Rows<T>, Refusal>
     ensures reads { Reads R.clean R.params R.leaves records.old records.new }
-    ensures gathers { R.clean records.new → Gathers (R.stands records.old) (R.stands records.new) result variant (λ p x rows. rows ≡ frames_rows (T.compared p) suppliers.now x) }
+    ensures gathers { R.clean records.new
+        → Gathers (R.stands records.old) (R.stands records.new) result variant
+        (λ p x rows. rows ≡ frames_rows (T.compared p) suppliers.now x) }
 {
     let mut rows = Rows::new(alloc);
     for supplier in suppliers {

@@ -29,7 +29,9 @@ pub(crate) fn differences<R: Lender>(
     from: Name,
 ) -> Result<ReportRows, Refusal>
     ensures reads { Reads R.clean R.params R.leaves records.old records.new }
-    ensures replies { R.clean records.new → Replies (R.stands records.old) (R.stands records.new) result (λ c b. found c.params b actor.now (Difference variant from)) }
+    ensures replies { R.clean records.new
+        → Replies (R.stands records.old) (R.stands records.new) result
+        (λ c b. found c.params b actor.now (Difference variant from)) }
 {
     if !records.has_variant(variant)? {
         return Err(Refusal::NoVariant);
@@ -50,7 +52,9 @@ fn gather_seen<R: Lender>(
     from: Name,
 ) -> Result<Rows<DifferenceRow>, Refusal>
     ensures reads { Reads R.clean R.params R.leaves records.old records.new }
-    ensures sees { R.clean records.new → SeesDifferences (R.stands records.old) (R.stands records.new) result actor.now variant from }
+    ensures sees { R.clean records.new
+        → SeesDifferences (R.stands records.old) (R.stands records.new) result actor.now variant
+        from }
 {
     match actor {
         Actor::Supplier(supplier) => gather(alloc, records, &[*supplier], variant, from),
@@ -70,7 +74,9 @@ fn gather<R: Lender>(
     from: Name,
 ) -> Result<Rows<DifferenceRow>, Refusal>
     ensures reads { Reads R.clean R.params R.leaves records.old records.new }
-    ensures gathers { R.clean records.new → Compares (R.stands records.old) (R.stands records.new) result variant from (λ p new old rows. rows ≡ rows_among p suppliers.now old new) }
+    ensures gathers { R.clean records.new
+        → Compares (R.stands records.old) (R.stands records.new) result variant from
+        (λ p new old rows. rows ≡ rows_among p suppliers.now old new) }
 {
     let mut rows = compare_grants(alloc, records, suppliers, variant, from)?;
     push_compared::<FrameRecord, R>(alloc, records, suppliers, variant, from, &mut rows)?;
@@ -89,7 +95,9 @@ fn compare_grants<R: Lender>(
     from: Name,
 ) -> Result<Rows<DifferenceRow>, Refusal>
     ensures reads { Reads R.clean R.params R.leaves records.old records.new }
-    ensures gathers { R.clean records.new → Compares (R.stands records.old) (R.stands records.new) result variant from (λ p new old rows. rows ≡ grants_told suppliers.now old new) }
+    ensures gathers { R.clean records.new
+        → Compares (R.stands records.old) (R.stands records.new) result variant from
+        (λ p new old rows. rows ≡ grants_told suppliers.now old new) }
 {
     let old = gather_grants(alloc, records, suppliers, from)?;
     let new = gather_grants(alloc, records, suppliers, variant)?;
@@ -109,7 +117,10 @@ fn push_compared<T: ComparedRow + Drop, R: Lender>(
     rows: &mut Rows<DifferenceRow>,
 ) -> Result<(), Refusal>
     ensures reads { Reads R.clean R.params R.leaves records.old records.new }
-    ensures gathers { R.clean records.new → Compares (R.stands records.old) (R.stands records.new) result variant from (λ p new old _. rows.new ≡ rows.old ++ frames_told T.compare T.same T.told (T.compared p) suppliers.now old new) }
+    ensures gathers { R.clean records.new
+        → Compares (R.stands records.old) (R.stands records.new) result variant from
+        (λ p new old _. rows.new ≡ rows.old
+        ++ frames_told T.compare T.same T.told (T.compared p) suppliers.now old new) }
 {
     let old = gather_rows::<T, R>(alloc, records, suppliers, from)?;
     let new = gather_rows::<T, R>(alloc, records, suppliers, variant)?;

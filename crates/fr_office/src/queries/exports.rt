@@ -23,7 +23,8 @@ pub(crate) fn page_export(
     header: Header,
     number: u32,
 ) -> Result<ReportRows, NoMemory>
-    ensures { IfOk result (λ rows. rows ≡ exported header number (own_rows_of page.now).frames.rows) }
+    ensures { IfOk result (λ rows.
+        rows ≡ exported header number (own_rows_of page.now).frames.rows) }
 {
     match header {
         Header::Frames => Ok(ReportRows::FrameRecords(page_part(alloc, page, number)?)),
@@ -43,7 +44,10 @@ pub(crate) fn gather_export<R: Lender>(
     number: u32,
 ) -> Result<ReportRows, Refusal>
     ensures reads { Reads R.clean R.params R.leaves records.old records.new }
-    ensures gathers { R.clean records.new → Gathers (R.stands records.old) (R.stands records.new) result variant (λ p x rows. rows ≡ exported header number (flat_map (λ s. (own s x.frames).rows) suppliers.now)) }
+    ensures gathers { R.clean records.new
+        → Gathers (R.stands records.old) (R.stands records.new) result variant
+        (λ p x rows. rows ≡ exported header number
+        (flat_map (λ s. (own s x.frames).rows) suppliers.now)) }
 {
     match header {
         Header::Frames => {
@@ -67,7 +71,8 @@ fn page_part<T: FileRecord + Drop>(
     page: &Page,
     number: u32,
 ) -> Result<Rows<T>, NoMemory>
-    ensures { IfOk result (λ rows. rows ≡ part_of number (map T.records (own_rows_of page.now).frames.rows)) }
+    ensures { IfOk result (λ rows.
+        rows ≡ part_of number (map T.records (own_rows_of page.now).frames.rows)) }
 {
     let mut part = Part::new(number);
     let mut rows = Rows::new(alloc);
@@ -84,7 +89,10 @@ fn gather_part<T: FileRecord + Drop, R: Lender>(
     number: u32,
 ) -> Result<Rows<T>, Refusal>
     ensures reads { Reads R.clean R.params R.leaves records.old records.new }
-    ensures gathers { R.clean records.new → Gathers (R.stands records.old) (R.stands records.new) result variant (λ p x rows. rows ≡ part_of number (map T.records (flat_map (λ s. (own s x.frames).rows) suppliers.now))) }
+    ensures gathers { R.clean records.new
+        → Gathers (R.stands records.old) (R.stands records.new) result variant
+        (λ p x rows. rows ≡ part_of number
+        (map T.records (flat_map (λ s. (own s x.frames).rows) suppliers.now))) }
 {
     let mut part = Part::new(number);
     let mut rows = Rows::new(alloc);
@@ -102,7 +110,9 @@ fn push_part<T: FileRecord + Drop>(
     part: &mut Part,
     rows: &mut Rows<T>,
 ) -> Result<(), NoMemory>
-    ensures { OnOk result ((rest : List (List T)) → rows.new ++ in_part part.new rest ≡ rows.old ++ in_part part.old (map T.records (own_rows_of page.now).frames.rows ++ rest)) }
+    ensures { OnOk result ((rest : List (List T))
+        → rows.new ++ in_part part.new rest ≡ rows.old
+        ++ in_part part.old (map T.records (own_rows_of page.now).frames.rows ++ rest)) }
 {
     let supplier = page.supplier();
     for (name, frame) in page.frames().iter() {

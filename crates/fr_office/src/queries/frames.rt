@@ -39,7 +39,9 @@ pub(crate) fn gather_frames<R: Lender>(
     variant: Name,
 ) -> Result<Rows<FrameRow>, Refusal>
     ensures reads { Reads R.clean R.params R.leaves records.old records.new }
-    ensures gathers { R.clean records.new → Gathers (R.stands records.old) (R.stands records.new) result variant (λ p x rows. rows ≡ flat_map (λ s. frames_of (own s x.frames)) suppliers.now) }
+    ensures gathers { R.clean records.new
+        → Gathers (R.stands records.old) (R.stands records.new) result variant
+        (λ p x rows. rows ≡ flat_map (λ s. frames_of (own s x.frames)) suppliers.now) }
 {
     let mut rows = Rows::new(alloc);
     for supplier in suppliers {

@@ -18,7 +18,8 @@ use std::alloc::Global;
 /// Appends the greatest gaps of the page's frames, by name. Where memory is refused, some of them may
 /// have been appended.
 pub(crate) fn push_gaps(page: &Page, rows: &mut Rows<GapRow>) -> Result<(), NoMemory>
-    ensures { OnOk result (rows.new ≡ rows.old ++ gaps_of page.now.params (own_rows_of page.now).frames) }
+    ensures { OnOk result (rows.new ≡ rows.old
+        ++ gaps_of page.now.params (own_rows_of page.now).frames) }
 {
     let params = page.params();
     let supplier = page.supplier();
@@ -36,7 +37,9 @@ pub(crate) fn gather_gaps<R: Lender>(
     variant: Name,
 ) -> Result<Rows<GapRow>, Refusal>
     ensures reads { Reads R.clean R.params R.leaves records.old records.new }
-    ensures gathers { R.clean records.new → Gathers (R.stands records.old) (R.stands records.new) result variant (λ p x rows. rows ≡ flat_map (λ s. gaps_of p (own s x.frames)) suppliers.now) }
+    ensures gathers { R.clean records.new
+        → Gathers (R.stands records.old) (R.stands records.new) result variant
+        (λ p x rows. rows ≡ flat_map (λ s. gaps_of p (own s x.frames)) suppliers.now) }
 {
     let mut rows = Rows::new(alloc);
     for supplier in suppliers {

@@ -41,7 +41,9 @@ pub(crate) fn gather_grants<R: Lender>(
     variant: Name,
 ) -> Result<Rows<GrantRow>, Refusal>
     ensures reads { Reads R.clean R.params R.leaves records.old records.new }
-    ensures gathers { R.clean records.new → Gathers (R.stands records.old) (R.stands records.new) result variant (λ p x rows. rows ≡ grants_of (grants_among suppliers.now x.grants)) }
+    ensures gathers { R.clean records.new
+        → Gathers (R.stands records.old) (R.stands records.new) result variant
+        (λ p x rows. rows ≡ grants_of (grants_among suppliers.now x.grants)) }
 {
     let held = gather_holders(alloc, records, suppliers, variant)?;
     Ok(grant_rows(alloc, &held)?)
@@ -55,7 +57,9 @@ pub(crate) fn gather_holders<R: Lender>(
     variant: Name,
 ) -> Result<BTreeMap<ChannelSlot, LaneHolder>, Refusal>
     ensures reads { Reads R.clean R.params R.leaves records.old records.new }
-    ensures gathers { R.clean records.new → Gathers (R.stands records.old) (R.stands records.new) result variant (λ p x held. grants_in_lanes held.entries ≡ grants_among suppliers.now x.grants) }
+    ensures gathers { R.clean records.new
+        → Gathers (R.stands records.old) (R.stands records.new) result variant
+        (λ p x held. grants_in_lanes held.entries ≡ grants_among suppliers.now x.grants) }
 {
     let mut held = BTreeMap::new(alloc);
     for supplier in suppliers {
@@ -86,7 +90,8 @@ fn grant_rows(
 
 // Adds the page's grants. Where memory is refused, some of them may have been added.
 fn add_grants(page: &Page, held: &mut BTreeMap<ChannelSlot, LaneHolder>) -> Result<(), NoMemory>
-    ensures { OnOk result (grants_in_lanes held.new.entries ≡ with_rows (grants_in_lanes held.old.entries) (own_rows_of page.now).grants.rows) }
+    ensures { OnOk result (grants_in_lanes held.new.entries
+        ≡ with_rows (grants_in_lanes held.old.entries) (own_rows_of page.now).grants.rows) }
 {
     let supplier = page.supplier();
     for (at, node) in page.grants().iter() {

@@ -21,8 +21,10 @@ pub(crate) fn push_signals(
     name: Name,
     rows: &mut Rows<SignalRow>,
 ) -> Result<bool, NoMemory>
-    ensures rows { OnOk result (rows.new ≡ rows.old ++ signals_of (named name (own_rows_of page.now).frames)) }
-    ensures found { IfOk result (λ found. not found ≡ (len (named name (own_rows_of page.now).frames) == 0)) }
+    ensures rows { OnOk result (rows.new ≡ rows.old
+        ++ signals_of (named name (own_rows_of page.now).frames)) }
+    ensures found { IfOk result (λ found.
+        not found ≡ (len (named name (own_rows_of page.now).frames) == 0)) }
 {
     match page.frames().get(&name) {
         Some(frame) => {
@@ -43,7 +45,9 @@ pub(crate) fn gather_signals<R: Lender>(
     name: Name,
 ) -> Result<Option<Rows<SignalRow>>, Refusal>
     ensures reads { Reads R.clean R.params R.leaves records.old records.new }
-    ensures gathers { R.clean records.new → Gathers (R.stands records.old) (R.stands records.new) result variant (λ p x found. AreSignals name suppliers.now x found) }
+    ensures gathers { R.clean records.new
+        → Gathers (R.stands records.old) (R.stands records.new) result variant
+        (λ p x found. AreSignals name suppliers.now x found) }
 {
     let mut rows = Rows::new(alloc);
     let mut found = false;

@@ -23,7 +23,10 @@ pub(crate) fn gather_load<R: Lender>(
     variant: Name,
 ) -> Result<Rows<LoadRow>, Refusal>
     ensures reads { Reads R.clean R.params R.leaves records.old records.new }
-    ensures gathers { R.clean records.new → Gathers (R.stands records.old) (R.stands records.new) result variant (λ p x rows. rows ≡ filled_load params.now (grants_among suppliers.now x.grants) (placements_among suppliers.now x)) }
+    ensures gathers { R.clean records.new
+        → Gathers (R.stands records.old) (R.stands records.new) result variant
+        (λ p x rows. rows ≡ filled_load params.now (grants_among suppliers.now x.grants)
+        (placements_among suppliers.now x)) }
 {
     let holders = gather_holders(alloc, records, suppliers, variant)?;
     let triggerings = gather_triggerings(alloc, records, suppliers, variant)?;

@@ -21,7 +21,9 @@ pub(crate) fn node_rows<R: Records>(
     actor: &Actor,
 ) -> Result<Rows<NodeRow>, Refusal>
     ensures reads { Reads R.clean R.params R.leaves records.old records.new }
-    ensures nodes { R.clean records.new → Sees (R.stands records.old) (R.stands records.new) result (λ c b rows. rows ≡ nodes_of (seen_nodes actor.now b.nodes)) }
+    ensures nodes { R.clean records.new
+        → Sees (R.stands records.old) (R.stands records.new) result
+        (λ c b rows. rows ≡ nodes_of (seen_nodes actor.now b.nodes)) }
 {
     match actor {
         Actor::Supplier(supplier) => gather_nodes(alloc, records, &[*supplier]),
@@ -39,7 +41,9 @@ fn gather_nodes<R: Records>(
     suppliers: &[Name],
 ) -> Result<Rows<NodeRow>, Refusal>
     ensures reads { Reads R.clean R.params R.leaves records.old records.new }
-    ensures nodes { R.clean records.new → Tells (R.stands records.old) (R.stands records.new) result (λ c b rows. rows ≡ flat_map (λ s. nodes_of (own s b.nodes)) suppliers.now) }
+    ensures nodes { R.clean records.new
+        → Tells (R.stands records.old) (R.stands records.new) result
+        (λ c b rows. rows ≡ flat_map (λ s. nodes_of (own s b.nodes)) suppliers.now) }
 {
     let mut rows = Rows::new(alloc);
     for supplier in suppliers {

@@ -18,7 +18,8 @@ use std::alloc::Global;
 
 /// Which of the page's frames is sent in which cycle, slot and channel: by cycle, slot and channel.
 pub(crate) fn page_schedule(alloc: Global, page: &Page) -> Result<Rows<Sending>, NoMemory>
-    ensures { IfOk result (λ rows. rows ≡ sendings_of page.now.params (own_rows_of page.now).frames) }
+    ensures { IfOk result (λ rows.
+        rows ≡ sendings_of page.now.params (own_rows_of page.now).frames) }
 {
     let mut triggerings = Triggerings::new(alloc);
     triggerings.push_page(page)?;
@@ -35,7 +36,9 @@ pub(crate) fn gather_schedule<R: Lender>(
     variant: Name,
 ) -> Result<Rows<Sending>, Refusal>
     ensures reads { Reads R.clean R.params R.leaves records.old records.new }
-    ensures gathers { R.clean records.new → Gathers (R.stands records.old) (R.stands records.new) result variant (λ p x rows. rows ≡ sent_in (placements_among suppliers.now x) (cluster_cells params.now)) }
+    ensures gathers { R.clean records.new
+        → Gathers (R.stands records.old) (R.stands records.new) result variant
+        (λ p x rows. rows ≡ sent_in (placements_among suppliers.now x) (cluster_cells params.now)) }
 {
     let triggerings = gather_triggerings(alloc, records, suppliers, variant)?;
     Ok(triggerings.schedule(alloc, params)?)
@@ -49,7 +52,9 @@ pub(crate) fn gather_triggerings<R: Lender>(
     variant: Name,
 ) -> Result<Triggerings, Refusal>
     ensures reads { Reads R.clean R.params R.leaves records.old records.new }
-    ensures gathers { R.clean records.new → Gathers (R.stands records.old) (R.stands records.new) result variant (λ p x triggerings. triggerings ≡ placements_among suppliers.now x) }
+    ensures gathers { R.clean records.new
+        → Gathers (R.stands records.old) (R.stands records.new) result variant
+        (λ p x triggerings. triggerings ≡ placements_among suppliers.now x) }
 {
     let mut triggerings = Triggerings::new(alloc);
     for supplier in suppliers {

@@ -75,7 +75,11 @@ impl Bands {
 
     /// The size of the drawing.
     pub(crate) fn scale(&self, params: &Params) -> Scale
-        ensures { result ≡ record { cycles = params.now.cycles; height = params.now.cycles + 5; width = self.now.width } }
+        ensures { result ≡ record {
+          cycles = params.now.cycles;
+          height = params.now.cycles + 5;
+          width = self.now.width;
+        } }
     {
         Scale {
             cycles: params.cycles(),
@@ -146,7 +150,8 @@ fn column(bands: &Bands, end: u32, shows: Shows) -> Place
     ensures within { result.x + result.width ≤ 136 }
     ensures named { IsNamed result }
     ensures behind { IsBehind bands.now.end end result }
-    ensures unopened { end ≡ bands.now.end → result.opens ≡ None → (result.shows ≡ Shows.Nothing) × (result.x + result.width ≡ bands.now.end) }
+    ensures unopened { end ≡ bands.now.end → result.opens ≡ None
+        → (result.shows ≡ Shows.Nothing) × (result.x + result.width ≡ bands.now.end) }
 {
     let width = bands.width_of(shows);
     if width > 0 && end + width > bands.end {
@@ -174,7 +179,8 @@ pub(crate) fn columns(alloc: Global, bands: &Bands, shown: &[Shows]) -> Result<V
     ensures named { IfOk result (λ columns. All IsNamed columns.items) }
     ensures wide { IfOk result (λ columns. All (IsWide bands.now.width) columns.items) }
     ensures from { IfOk result (λ columns. All (λ p. 4 ≤ p.x) columns.items) }
-    ensures beside { IfOk result (λ columns. All (λ p. p.x + p.width ≤ bands.now.end) columns.items) }
+    ensures beside { IfOk result
+        (λ columns. All (λ p. p.x + p.width ≤ bands.now.end) columns.items) }
     ensures within { IfOk result (λ columns. All (λ p. p.x + p.width ≤ 136) columns.items) }
 {
     let mut columns = Vec::new(alloc);

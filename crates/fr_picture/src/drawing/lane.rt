@@ -62,7 +62,8 @@ impl Lane {
 
     /// Draws the grant in this lane.
     pub(crate) fn hold(&mut self, grant: &GrantRow) -> Result<(), NoMemory>
-        ensures grants { OnOk result (self.new.grants.items ≡ self.old.grants.items ++ grant.now ∷ []) }
+        ensures grants { OnOk result
+            (self.new.grants.items ≡ self.old.grants.items ++ grant.now ∷ []) }
         ensures rectangles { self.new.rectangles ≡ self.old.rectangles }
         ensures place { self.new.place ≡ self.old.place }
     {
@@ -73,7 +74,8 @@ impl Lane {
 
 // Adds the cell to the last rectangle, or as a rectangle of its own.
 fn add_cell(rectangles: &mut Vec<Rectangle>, cell: &Sending) -> Result<(), NoMemory>
-    ensures cells { OnOk result (cells_in rectangles.new.items ≡ cells_in rectangles.old.items ++ cell.now ∷ []) }
+    ensures cells { OnOk result (cells_in rectangles.new.items ≡ cells_in rectangles.old.items
+        ++ cell.now ∷ []) }
     ensures apart { OnOk result (AreApart rectangles.old.items → AreApart rectangles.new.items) }
     ensures filled { OnOk result (AreFilled rectangles.old.items → AreFilled rectangles.new.items) }
 {
@@ -143,7 +145,8 @@ fn push_column(
     ensures apart { OnOk result (All IsApart lanes.old.items → All IsApart lanes.new.items) }
     ensures filled { OnOk result (All IsFilled lanes.old.items → All IsFilled lanes.new.items) }
     ensures home { OnOk result (AreHome 0 lanes.old.items → AreHome 0 lanes.new.items) }
-    ensures at { OnOk result ((columns : List Place) → AreAt channels shift columns lanes.old.items → AreAt channels shift (columns ++ column.now ∷ []) lanes.new.items) }
+    ensures at { OnOk result ((columns : List Place) → AreAt channels shift columns lanes.old.items
+        → AreAt channels shift (columns ++ column.now ∷ []) lanes.new.items) }
 {
     let a = Place {
         shows: shown_on(channels, Channel::A, column.shows),

@@ -56,7 +56,8 @@ impl Marks {
     /// What is shown at the places of the slots 1 to 1,023, where the cluster has so many.
     pub(crate) fn shown(&self, alloc: Global, last: u32) -> Result<Vec<Shows>, NoMemory>
         ensures len { IfOk result (λ shown. vec_len shown ≡ 1023) }
-        ensures value { (used : ℕ → Bool) → ((n : ℕ) → slice_index_or self.now.0 n false ≡ used n) → IfOk result (λ shown. shown.items ≡ shown_of used last) }
+        ensures value { (used : ℕ → Bool) → ((n : ℕ) → slice_index_or self.now.0 n false ≡ used n)
+            → IfOk result (λ shown. shown.items ≡ shown_of used last) }
     {
         let mut shown = Vec::new(alloc);
         let mut free: u32 = 1;
@@ -74,8 +75,8 @@ impl Marks {
     #[tactic(auto, unfolding(crate::specs::Shown::shows_at))]
     fn shows(&self, last: u32, free: u32, slot: u32) -> Shows
         requires { slot < 1024 }
-        ensures { (used : ℕ → Bool) → ((n : ℕ) → slice_index_or self.now.0 n false ≡ used n) → (n : ℕ) → slot ≡ n + 1 → free ≡ first_free used n
-            → result ≡ shows_at used last slot }
+        ensures { (used : ℕ → Bool) → ((n : ℕ) → slice_index_or self.now.0 n false ≡ used n)
+            → (n : ℕ) → slot ≡ n + 1 → free ≡ first_free used n → result ≡ shows_at used last slot }
     {
         let here = slot as usize;
         if self.0[here] {
@@ -90,7 +91,9 @@ impl Marks {
 
 // Marks the slots that are held.
 fn mark_grants(marks: &mut [bool; 1025], grants: &[GrantRow])
-    ensures { (n : ℕ) → slice_index_or marks.new n false ≡ (slice_index_or marks.old n false || list_any (λ g. nat_eq g.slot n) grants.now) }
+    ensures { (n : ℕ)
+        → slice_index_or marks.new n false
+        ≡ (slice_index_or marks.old n false || list_any (λ g. nat_eq g.slot n) grants.now) }
 {
     for grant in grants {
         mark(marks, grant.slot);
@@ -99,7 +102,9 @@ fn mark_grants(marks: &mut [bool; 1025], grants: &[GrantRow])
 
 // Marks the slots that are used.
 fn mark_cells(marks: &mut [bool; 1025], cells: &[Sending])
-    ensures { (n : ℕ) → slice_index_or marks.new n false ≡ (slice_index_or marks.old n false || list_any (λ s. nat_eq s.slot n) cells.now) }
+    ensures { (n : ℕ)
+        → slice_index_or marks.new n false
+        ≡ (slice_index_or marks.old n false || list_any (λ s. nat_eq s.slot n) cells.now) }
 {
     for cell in cells {
         mark(marks, cell.slot);
@@ -109,7 +114,8 @@ fn mark_cells(marks: &mut [bool; 1025], cells: &[Sending])
 // Marks the slot.
 #[tactic(auto, using(crate::proofs::MarkLemmas::marking))]
 fn mark(marks: &mut [bool; 1025], slot: Slot)
-    ensures { (n : ℕ) → slice_index_or marks.new n false ≡ (slice_index_or marks.old n false || nat_eq slot n) }
+    ensures { (n : ℕ)
+        → slice_index_or marks.new n false ≡ (slice_index_or marks.old n false || nat_eq slot n) }
 {
     marks[slot.get() as usize] = true;
 }

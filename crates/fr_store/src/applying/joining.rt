@@ -19,7 +19,8 @@ pub fn config_after(
     config: &Config,
     edits: &[Edit],
 ) -> Result<Option<Config>, StoreFault>
-    ensures after { IfOk result (λ after. unwrap_or after config.now ≡ after_edits config.now edits.now) }
+    ensures after { IfOk result (λ after.
+        unwrap_or after config.now ≡ after_edits config.now edits.now) }
     ensures refused { IfErr result (λ fault. fault ≡ Unavailable) }
 {
     let mut after: Option<Config> = None;
@@ -34,7 +35,8 @@ pub fn config_after(
 
 // The config after the edit. None where the config stays as it was.
 fn after_one(alloc: Global, config: &Config, edit: &Edit) -> Result<Option<Config>, StoreFault>
-    ensures after { IfOk result (λ after. unwrap_or after config.now ≡ after_edit config.now edit.now) }
+    ensures after { IfOk result (λ after.
+        unwrap_or after config.now ≡ after_edit config.now edit.now) }
     ensures refused { IfErr result (λ fault. fault ≡ Unavailable) }
 {
     match edit {

@@ -40,9 +40,11 @@ pub fn read_level<S: Alter>(
     variant: &Name,
 ) -> Result<Level, StoreFault>
     ensures same_reference { tx.new.conn.ghost_name ≡ tx.old.conn.ghost_name }
-    ensures told { Reads (TellsLevel variant.now) (state S.Store tx.old.conn.now) (state S.Store tx.new.conn.now) result }
+    ensures told { Reads (TellsLevel variant.now) (state S.Store tx.old.conn.now)
+        (state S.Store tx.new.conn.now) result }
     ensures refused { IfErr result (λ fault. fault ≡ Unavailable) }
-    ensures survives { Survives (state S.Store tx.old.conn.now) (state S.Store tx.new.conn.now) (λ _. ⊥) }
+    ensures survives { Survives (state S.Store tx.old.conn.now) (state S.Store tx.new.conn.now)
+        (λ _. ⊥) }
 {
     let rows = tables::variants::one_inside(tx, variant)?;
     let Some(row) = rows.as_slice().first() else {

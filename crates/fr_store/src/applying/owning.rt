@@ -22,9 +22,11 @@ fn is_own<S: Alter>(
     frame: &Name,
 ) -> Result<bool, StoreFault>
     ensures same_reference { tx.new.conn.ghost_name ≡ tx.old.conn.ghost_name }
-    ensures told { Reads (λ t is. is ≡ is_own variant.now supplier.now frame.now t) (state S.Store tx.old.conn.now) (state S.Store tx.new.conn.now) result }
+    ensures told { Reads (λ t is. is ≡ is_own variant.now supplier.now frame.now t)
+        (state S.Store tx.old.conn.now) (state S.Store tx.new.conn.now) result }
     ensures refused { IfErr result (λ fault. fault ≡ Unavailable) }
-    ensures survives { Survives (state S.Store tx.old.conn.now) (state S.Store tx.new.conn.now) (λ _. ⊥) }
+    ensures survives { Survives (state S.Store tx.old.conn.now) (state S.Store tx.new.conn.now)
+        (λ _. ⊥) }
 {
     let rows = tables::frames::one_inside(tx, variant, supplier, frame)?;
     Ok(!rows.is_empty())
@@ -39,9 +41,11 @@ fn owner<S: Alter>(
     frame: &Name,
 ) -> Result<Name, StoreFault>
     ensures same_reference { tx.new.conn.ghost_name ≡ tx.old.conn.ghost_name }
-    ensures found { FindsOwner variant.now supplier.now frame.now (state S.Store tx.old.conn.now) (state S.Store tx.new.conn.now) result }
+    ensures found { FindsOwner variant.now supplier.now frame.now (state S.Store tx.old.conn.now)
+        (state S.Store tx.new.conn.now) result }
     ensures refused { IfErr result (λ fault. fault ≡ Unavailable) }
-    ensures survives { Survives (state S.Store tx.old.conn.now) (state S.Store tx.new.conn.now) (λ _. ⊥) }
+    ensures survives { Survives (state S.Store tx.old.conn.now) (state S.Store tx.new.conn.now)
+        (λ _. ⊥) }
 {
     let mut above = *variant;
     for _ in 0..MAX_DEPTH {
@@ -64,8 +68,10 @@ fn copy_frame<S: Alter>(
     frame: &Name,
 ) -> Result<usize, Error>
     ensures same_reference { tx.new.conn.ghost_name ≡ tx.old.conn.ghost_name }
-    ensures copied { MakesFrameCopies from.now to.now supplier.now frame.now (state S.Store tx.old.conn.now) (state S.Store tx.new.conn.now) result }
-    ensures survives { Survives (state S.Store tx.old.conn.now) (state S.Store tx.new.conn.now) (λ _. ⊥) }
+    ensures copied { MakesFrameCopies from.now to.now supplier.now frame.now
+        (state S.Store tx.old.conn.now) (state S.Store tx.new.conn.now) result }
+    ensures survives { Survives (state S.Store tx.old.conn.now) (state S.Store tx.new.conn.now)
+        (λ _. ⊥) }
 {
     tables::frames::copy_one(tx, from, to, supplier, frame)?;
     tables::placements::copy_one(tx, from, to, supplier, frame)?;
@@ -81,10 +87,13 @@ pub fn make_own<S: Alter>(
     frame: &Name,
 ) -> Result<(), StoreFault>
     ensures same_reference { tx.new.conn.ghost_name ≡ tx.old.conn.ghost_name }
-    ensures own { MakesOwn variant.now supplier.now frame.now (state S.Store tx.old.conn.now) (state S.Store tx.new.conn.now) result }
-    ensures stays { StaysInside (state S.Store tx.old.conn.now) (state S.Store tx.new.conn.now) result }
+    ensures own { MakesOwn variant.now supplier.now frame.now (state S.Store tx.old.conn.now)
+        (state S.Store tx.new.conn.now) result }
+    ensures stays { StaysInside (state S.Store tx.old.conn.now) (state S.Store tx.new.conn.now)
+        result }
     ensures refused { IfErr result (λ fault. fault ≡ Unavailable) }
-    ensures survives { Survives (state S.Store tx.old.conn.now) (state S.Store tx.new.conn.now) (λ _. ⊥) }
+    ensures survives { Survives (state S.Store tx.old.conn.now) (state S.Store tx.new.conn.now)
+        (λ _. ⊥) }
 {
     let owner = owner(tx, variant, supplier, frame)?;
     if owner == *variant {

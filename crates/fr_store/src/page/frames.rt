@@ -35,7 +35,9 @@ pub(super) fn own_frames<S: Alter>(
     variant: &Name,
     supplier: &Name,
 ) -> Result<BTreeMap<Name, PageFrame>, StoreFault>
-    ensures told { Reads (λ t frames. TellsFrames params.now.cycles variant.now supplier.now t (frames_data frames.entries)) (state S.Store conn.old) (state S.Store conn.new) result }
+    ensures told { Reads (λ t frames.
+        TellsFrames params.now.cycles variant.now supplier.now t (frames_data frames.entries))
+        (state S.Store conn.old) (state S.Store conn.new) result }
     ensures refused { IfErr result (λ fault. fault ≡ Unavailable) }
     ensures spares { Spares (state S.Store conn.old) (state S.Store conn.new) }
 {
@@ -59,7 +61,8 @@ fn frame_rows<S: Alter>(
     variant: &Name,
     supplier: &Name,
 ) -> Result<FrameRows, StoreFault>
-    ensures told { Reads (λ t rows. AreFrameRows variant.now supplier.now t rows) (state S.Store conn.old) (state S.Store conn.new) result }
+    ensures told { Reads (λ t rows. AreFrameRows variant.now supplier.now t rows)
+        (state S.Store conn.old) (state S.Store conn.new) result }
     ensures refused { IfErr result (λ fault. fault ≡ Unavailable) }
     ensures spares { Spares (state S.Store conn.old) (state S.Store conn.new) }
 {
@@ -76,7 +79,8 @@ fn frame_rows<S: Alter>(
 // The frames in the rows. None where a row has not the form, where the signals of a frame make no
 // layout, or where memory is refused.
 fn frames_of(alloc: Global, params: &Params, rows: &FrameRows) -> Option<BTreeMap<Name, PageFrame>>
-    ensures { IfSome result (λ frames. (v s : Name) (t : Tables) → AreFrameRows v s t rows.now → TellsFrames params.now.cycles v s t (frames_data frames.entries)) }
+    ensures { IfSome result (λ frames. (v s : Name) (t : Tables) → AreFrameRows v s t rows.now
+        → TellsFrames params.now.cycles v s t (frames_data frames.entries)) }
 {
     let mut frames = BTreeMap::new(alloc);
     for row in rows.frames.as_slice() {
@@ -101,7 +105,9 @@ fn names_in(row: &Row) -> Option<(Name, Name)>
 // memory is refused.
 fn placements_of(alloc: Global, count: u32, rows: &[Row]) -> Option<BTreeSet<Placement>>
     requires { IsTrue (is_cycle_count count) }
-    ensures { IfSome result (λ placements. set_of placement_order (λ q. q) placements.keys ≡ set_of placement_order (λ q. q) (map (placement_shown count) (reverse rows.now))) }
+    ensures { IfSome result (λ placements.
+        set_of placement_order (λ q. q) placements.keys
+        ≡ set_of placement_order (λ q. q) (map (placement_shown count) (reverse rows.now))) }
 {
     let mut placements = BTreeSet::new(alloc);
     for row in rows {
@@ -128,7 +134,8 @@ fn placement_of(count: u32, row: &Row) -> Option<Placement>
 fn layout_of(alloc: Global, payload_words: u32, rows: &[Row]) -> Option<Layout>
     requires { payload_words ≤ 127 }
     ensures words { IfSome result (λ layout. layout.words ≡ payload_words) }
-    ensures signals { IfSome result (λ layout. IsPermutation (map signal_shown rows.now) layout.signals) }
+    ensures signals { IfSome result
+        (λ layout. IsPermutation (map signal_shown rows.now) layout.signals) }
     ensures sound { IfSome result IsLayout }
 {
     let mut layout = Layout::new(alloc, payload_words);
@@ -167,7 +174,8 @@ fn frame_of(
     frame: &Name,
     node: Name,
 ) -> Option<PageFrame>
-    ensures { IfSome result (λ found. (v s : Name) (t : Tables) → AreFrameRows v s t rows.now → TellsFrame params.now v s frame.now node t (frame_data found)) }
+    ensures { IfSome result (λ found. (v s : Name) (t : Tables) → AreFrameRows v s t rows.now
+        → TellsFrame params.now v s frame.now node t (frame_data found)) }
 {
     let placements = rows_of(rows.placements.as_slice(), frame);
     let signals = rows_of(rows.signals.as_slice(), frame);
@@ -180,7 +188,8 @@ fn frame_of(
 
 // The rows of this frame. The rows stand in the order of their frames' names.
 fn rows_of<'rows>(rows: &'rows [Row], frame: &Name) -> &'rows [Row]
-    ensures { IsSorted (on name_shown text_cmp) rows.now → result.now ≡ filter (λ r. bytes_eq (name_shown r) frame.now) rows.now }
+    ensures { IsSorted (on name_shown text_cmp) rows.now
+        → result.now ≡ filter (λ r. bytes_eq (name_shown r) frame.now) rows.now }
 {
     let from = rows.partition_point(
         |row: &Row| -> bool

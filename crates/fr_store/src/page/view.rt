@@ -42,7 +42,8 @@ pub(super) fn view_of<S: Alter>(
     supplier: &Name,
     levels: u32,
 ) -> Result<Option<View>, StoreFault>
-    ensures told { Reads (TellsView params.now.cycles variant.now supplier.now) (state S.Store conn.old) (state S.Store conn.new) result }
+    ensures told { Reads (TellsView params.now.cycles variant.now supplier.now)
+        (state S.Store conn.old) (state S.Store conn.new) result }
     ensures refused { IfErr result (λ fault. fault ≡ Unavailable) }
     ensures spares { Spares (state S.Store conn.old) (state S.Store conn.new) }
 {
@@ -71,7 +72,8 @@ struct Level {
 
 // What the variant's row says, if the variant is there.
 fn level_of<S: Alter>(conn: &mut Connection<S>, variant: &Name) -> Result<Option<Level>, StoreFault>
-    ensures told { Reads (TellsLevel variant.now) (state S.Store conn.old) (state S.Store conn.new) result }
+    ensures told { Reads (TellsLevel variant.now) (state S.Store conn.old) (state S.Store conn.new)
+        result }
     ensures refused { IfErr result (λ fault. fault ≡ Unavailable) }
     ensures spares { Spares (state S.Store conn.old) (state S.Store conn.new) }
 {
@@ -110,8 +112,10 @@ fn lay_over<S: Alter>(
     supplier: &Name,
     inherited: BTreeMap<Name, PageFrame>,
 ) -> Result<BTreeMap<Name, PageFrame>, StoreFault>
-    ensures told { Reads (λ t frames. (parent : _) → TellsOver params.now.cycles variant.now supplier.now parent (frames_data inherited.entries) t (frames_data frames.entries))
-        (state S.Store conn.old) (state S.Store conn.new) result }
+    ensures told { Reads (λ t frames. (parent : _)
+        → TellsOver params.now.cycles variant.now supplier.now parent
+        (frames_data inherited.entries) t (frames_data frames.entries)) (state S.Store conn.old)
+        (state S.Store conn.new) result }
     ensures refused { IfErr result (λ fault. fault ≡ Unavailable) }
     ensures spares { Spares (state S.Store conn.old) (state S.Store conn.new) }
 {
@@ -125,7 +129,10 @@ fn lay_over<S: Alter>(
 
 // The frames whose names no row has. None where a row has not the form.
 fn without(mut frames: BTreeMap<Name, PageFrame>, rows: &[Row]) -> Option<BTreeMap<Name, PageFrame>>
-    ensures { IfSome result (λ kept. (n : _) → frame_at n kept.entries ≡ if list_any (λ r. bytes_eq (name_shown r) n) rows.now then None else frame_at n frames.entries) }
+    ensures { IfSome result (λ kept. (n : _)
+        → frame_at n kept.entries
+        ≡ if list_any (λ r. bytes_eq (name_shown r) n) rows.now then None else frame_at n
+        frames.entries) }
 {
     for row in rows {
         frames.remove(&name_at(row, 0)?);
@@ -139,7 +146,8 @@ fn join(
     mut own: BTreeMap<Name, PageFrame>,
     mut others: BTreeMap<Name, PageFrame>,
 ) -> Option<BTreeMap<Name, PageFrame>>
-    ensures { IfSome result (λ all. (n : _) → frame_at n all.entries ≡ option_or (frame_at n own.entries) (frame_at n others.entries)) }
+    ensures { IfSome result (λ all. (n : _)
+        → frame_at n all.entries ≡ option_or (frame_at n own.entries) (frame_at n others.entries)) }
 {
     let Ok(()) = others.append(&mut own) else {
         return None;

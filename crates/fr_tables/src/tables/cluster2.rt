@@ -16,8 +16,10 @@ pub fn insert<S: Alter>(
     integrator: &Key,
 ) -> Result<usize, Error>
     ensures same_reference { tx.new.conn.ghost_name ≡ tx.old.conn.ghost_name }
-    ensures added { Makes (with_cluster2 (cluster2_row of.now integrator.now)) (state S.Store tx.old.conn.now) (state S.Store tx.new.conn.now) result }
-    ensures survives { Survives (state S.Store tx.old.conn.now) (state S.Store tx.new.conn.now) (λ _. ⊥) }
+    ensures added { Makes (with_cluster2 (cluster2_row of.now integrator.now))
+        (state S.Store tx.old.conn.now) (state S.Store tx.new.conn.now) result }
+    ensures survives { Survives (state S.Store tx.old.conn.now) (state S.Store tx.new.conn.now)
+        (λ _. ⊥) }
 {
     tx.execute(
         "INSERT INTO cluster2 (static_slots, slot_macroticks, dynamic_macroticks, symbol_macroticks, idle_macroticks, macroticks_per_cycle, payload_words, channels, integrator, cycles) VALUES (?1, ?2, ?3, ?4, ?5, ?6, ?7, ?8, ?9, ?10)",
@@ -39,8 +41,10 @@ pub fn insert<S: Alter>(
 /// The row, read inside a transaction.
 pub fn row_inside<S: Alter>(tx: &mut Transaction<'_, S>) -> Result<Vec<Row>, Error>
     ensures same_reference { tx.new.conn.ghost_name ≡ tx.old.conn.ghost_name }
-    ensures listed { Finds shows_cluster2 every any_order (λ t. t.cluster2) (state S.Store tx.old.conn.now) (state S.Store tx.new.conn.now) result }
-    ensures survives { Survives (state S.Store tx.old.conn.now) (state S.Store tx.new.conn.now) (λ _. ⊥) }
+    ensures listed { Finds shows_cluster2 every any_order (λ t. t.cluster2)
+        (state S.Store tx.old.conn.now) (state S.Store tx.new.conn.now) result }
+    ensures survives { Survives (state S.Store tx.old.conn.now) (state S.Store tx.new.conn.now)
+        (λ _. ⊥) }
 {
     tx.query_all(
         "SELECT static_slots, slot_macroticks, dynamic_macroticks, symbol_macroticks, idle_macroticks, macroticks_per_cycle, payload_words, channels, integrator, cycles FROM cluster2",

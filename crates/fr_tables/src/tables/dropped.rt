@@ -18,8 +18,11 @@ pub fn insert<S: Alter>(
     frame: &Name,
 ) -> Result<usize, Error>
     ensures same_reference { tx.new.conn.ghost_name ≡ tx.old.conn.ghost_name }
-    ensures added { Makes (with_dropped (record { variant = variant.now; supplier = supplier.now; frame = frame.now })) (state S.Store tx.old.conn.now) (state S.Store tx.new.conn.now) result }
-    ensures survives { Survives (state S.Store tx.old.conn.now) (state S.Store tx.new.conn.now) (λ _. ⊥) }
+    ensures added { Makes (with_dropped
+        (record { variant = variant.now; supplier = supplier.now; frame = frame.now }))
+        (state S.Store tx.old.conn.now) (state S.Store tx.new.conn.now) result }
+    ensures survives { Survives (state S.Store tx.old.conn.now) (state S.Store tx.new.conn.now)
+        (λ _. ⊥) }
 {
     tx.execute(
         "INSERT INTO dropped (variant, supplier, frame) VALUES (?1, ?2, ?3) ON CONFLICT (variant, supplier, frame) DO NOTHING",
@@ -33,7 +36,8 @@ pub fn of_supplier<S: Alter>(
     variant: &Name,
     supplier: &Name,
 ) -> Result<Vec<Row>, Error>
-    ensures listed { Finds shows_dropped (is_dropped_by variant.now supplier.now) dropped_cmp (λ t. t.dropped) (state S.Store conn.old) (state S.Store conn.new) result }
+    ensures listed { Finds shows_dropped (is_dropped_by variant.now supplier.now) dropped_cmp
+        (λ t. t.dropped) (state S.Store conn.old) (state S.Store conn.new) result }
     ensures spares { Spares (state S.Store conn.old) (state S.Store conn.new) }
 {
     conn.query_all(

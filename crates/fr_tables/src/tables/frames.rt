@@ -18,8 +18,15 @@ pub fn insert<S: Alter>(
     node: &Name,
 ) -> Result<usize, Error>
     ensures same_reference { tx.new.conn.ghost_name ≡ tx.old.conn.ghost_name }
-    ensures added { Makes (with_frame (record { variant = variant.now; supplier = supplier.now; name = name.now; node = node.now })) (state S.Store tx.old.conn.now) (state S.Store tx.new.conn.now) result }
-    ensures survives { Survives (state S.Store tx.old.conn.now) (state S.Store tx.new.conn.now) (λ _. ⊥) }
+    ensures added { Makes (with_frame
+        (record {
+          variant = variant.now;
+          supplier = supplier.now;
+          name = name.now;
+          node = node.now;
+        })) (state S.Store tx.old.conn.now) (state S.Store tx.new.conn.now) result }
+    ensures survives { Survives (state S.Store tx.old.conn.now) (state S.Store tx.new.conn.now)
+        (λ _. ⊥) }
 {
     tx.execute(
         "INSERT INTO frames (variant, supplier, name, node) VALUES (?1, ?2, ?3, ?4)",
@@ -40,8 +47,10 @@ pub fn delete<S: Alter>(
     name: &Name,
 ) -> Result<usize, Error>
     ensures same_reference { tx.new.conn.ghost_name ≡ tx.old.conn.ghost_name }
-    ensures dropped { Makes (without_frame variant.now supplier.now name.now) (state S.Store tx.old.conn.now) (state S.Store tx.new.conn.now) result }
-    ensures survives { Survives (state S.Store tx.old.conn.now) (state S.Store tx.new.conn.now) (λ _. ⊥) }
+    ensures dropped { Makes (without_frame variant.now supplier.now name.now)
+        (state S.Store tx.old.conn.now) (state S.Store tx.new.conn.now) result }
+    ensures survives { Survives (state S.Store tx.old.conn.now) (state S.Store tx.new.conn.now)
+        (λ _. ⊥) }
 {
     tx.execute(
         "DELETE FROM frames WHERE variant = ?1 AND supplier = ?2 AND name = ?3",
@@ -58,8 +67,10 @@ pub fn copy_one<S: Alter>(
     name: &Name,
 ) -> Result<usize, Error>
     ensures same_reference { tx.new.conn.ghost_name ≡ tx.old.conn.ghost_name }
-    ensures copied { MakesCopies (frame_copies from.now to.now supplier.now name.now) with_frames (state S.Store tx.old.conn.now) (state S.Store tx.new.conn.now) result }
-    ensures survives { Survives (state S.Store tx.old.conn.now) (state S.Store tx.new.conn.now) (λ _. ⊥) }
+    ensures copied { MakesCopies (frame_copies from.now to.now supplier.now name.now) with_frames
+        (state S.Store tx.old.conn.now) (state S.Store tx.new.conn.now) result }
+    ensures survives { Survives (state S.Store tx.old.conn.now) (state S.Store tx.new.conn.now)
+        (λ _. ⊥) }
 {
     tx.execute(
         "INSERT INTO frames (variant, supplier, name, node) SELECT ?2, supplier, name, node FROM frames WHERE variant = ?1 AND supplier = ?3 AND name = ?4",
@@ -73,7 +84,8 @@ pub fn of_supplier<S: Alter>(
     variant: &Name,
     supplier: &Name,
 ) -> Result<Vec<Row>, Error>
-    ensures listed { Finds shows_frame (is_frame_of variant.now supplier.now) frames_cmp (λ t. t.frames) (state S.Store conn.old) (state S.Store conn.new) result }
+    ensures listed { Finds shows_frame (is_frame_of variant.now supplier.now) frames_cmp
+        (λ t. t.frames) (state S.Store conn.old) (state S.Store conn.new) result }
     ensures spares { Spares (state S.Store conn.old) (state S.Store conn.new) }
 {
     conn.query_all(
@@ -90,8 +102,10 @@ pub fn one_inside<S: Alter>(
     frame: &Name,
 ) -> Result<Vec<Row>, Error>
     ensures same_reference { tx.new.conn.ghost_name ≡ tx.old.conn.ghost_name }
-    ensures listed { Finds shows_frame (is_frame variant.now supplier.now frame.now) any_order (λ t. t.frames) (state S.Store tx.old.conn.now) (state S.Store tx.new.conn.now) result }
-    ensures survives { Survives (state S.Store tx.old.conn.now) (state S.Store tx.new.conn.now) (λ _. ⊥) }
+    ensures listed { Finds shows_frame (is_frame variant.now supplier.now frame.now) any_order
+        (λ t. t.frames) (state S.Store tx.old.conn.now) (state S.Store tx.new.conn.now) result }
+    ensures survives { Survives (state S.Store tx.old.conn.now) (state S.Store tx.new.conn.now)
+        (λ _. ⊥) }
 {
     tx.query_all(
         "SELECT name, node FROM frames WHERE variant = ?1 AND supplier = ?2 AND name = ?3",

@@ -20,9 +20,17 @@ pub fn insert<S: Alter>(
     node: &Name,
 ) -> Result<usize, Error>
     ensures same_reference { tx.new.conn.ghost_name ≡ tx.old.conn.ghost_name }
-    ensures added { Makes (with_grant (record { variant = variant.now; slot = pos slot; channel = text_of_channel channel; supplier = supplier.now; node = node.now }))
-        (state S.Store tx.old.conn.now) (state S.Store tx.new.conn.now) result }
-    ensures survives { Survives (state S.Store tx.old.conn.now) (state S.Store tx.new.conn.now) (λ _. ⊥) }
+    ensures added { Makes (with_grant
+        (record {
+          variant = variant.now;
+          slot = pos slot;
+          channel = text_of_channel channel;
+          supplier = supplier.now;
+          node = node.now;
+        })) (state S.Store tx.old.conn.now)
+        (state S.Store tx.new.conn.now) result }
+    ensures survives { Survives (state S.Store tx.old.conn.now) (state S.Store tx.new.conn.now)
+        (λ _. ⊥) }
 {
     tx.execute(
         "INSERT INTO grants (variant, slot, channel, supplier, node) VALUES (?1, ?2, ?3, ?4, ?5)",
@@ -44,8 +52,10 @@ pub fn delete<S: Alter>(
     channel: Channel,
 ) -> Result<usize, Error>
     ensures same_reference { tx.new.conn.ghost_name ≡ tx.old.conn.ghost_name }
-    ensures ended { Makes (without_grant variant.now (pos slot) (text_of_channel channel)) (state S.Store tx.old.conn.now) (state S.Store tx.new.conn.now) result }
-    ensures survives { Survives (state S.Store tx.old.conn.now) (state S.Store tx.new.conn.now) (λ _. ⊥) }
+    ensures ended { Makes (without_grant variant.now (pos slot) (text_of_channel channel))
+        (state S.Store tx.old.conn.now) (state S.Store tx.new.conn.now) result }
+    ensures survives { Survives (state S.Store tx.old.conn.now) (state S.Store tx.new.conn.now)
+        (λ _. ⊥) }
 {
     tx.execute(
         "DELETE FROM grants WHERE variant = ?1 AND slot = ?2 AND channel = ?3",
@@ -60,8 +70,10 @@ pub fn copy<S: Alter>(
     child: &Name,
 ) -> Result<usize, Error>
     ensures same_reference { tx.new.conn.ghost_name ≡ tx.old.conn.ghost_name }
-    ensures copied { MakesCopies (grants_for parent.now child.now) with_grants (state S.Store tx.old.conn.now) (state S.Store tx.new.conn.now) result }
-    ensures survives { Survives (state S.Store tx.old.conn.now) (state S.Store tx.new.conn.now) (λ _. ⊥) }
+    ensures copied { MakesCopies (grants_for parent.now child.now) with_grants
+        (state S.Store tx.old.conn.now) (state S.Store tx.new.conn.now) result }
+    ensures survives { Survives (state S.Store tx.old.conn.now) (state S.Store tx.new.conn.now)
+        (λ _. ⊥) }
 {
     tx.execute(
         "INSERT INTO grants (variant, slot, channel, supplier, node) SELECT ?2, slot, channel, supplier, node FROM grants WHERE variant = ?1",
@@ -75,7 +87,8 @@ pub fn of_supplier<S: Alter>(
     variant: &Name,
     supplier: &Name,
 ) -> Result<Vec<Row>, Error>
-    ensures listed { Finds shows_grant (is_grant_of variant.now supplier.now) any_order (λ t. t.grants) (state S.Store conn.old) (state S.Store conn.new) result }
+    ensures listed { Finds shows_grant (is_grant_of variant.now supplier.now) any_order
+        (λ t. t.grants) (state S.Store conn.old) (state S.Store conn.new) result }
     ensures spares { Spares (state S.Store conn.old) (state S.Store conn.new) }
 {
     conn.query_all(
@@ -91,7 +104,9 @@ pub fn holder<S: Alter>(
     slot: Slot,
     channel: Channel,
 ) -> Result<Vec<Row>, Error>
-    ensures listed { Finds shows_holder (is_grant_at variant.now (pos slot) (text_of_channel channel)) any_order (λ t. t.grants) (state S.Store conn.old) (state S.Store conn.new) result }
+    ensures listed { Finds shows_holder
+        (is_grant_at variant.now (pos slot) (text_of_channel channel)) any_order (λ t. t.grants)
+        (state S.Store conn.old) (state S.Store conn.new) result }
     ensures spares { Spares (state S.Store conn.old) (state S.Store conn.new) }
 {
     conn.query_all(

@@ -19,8 +19,17 @@ pub fn insert<S: Alter>(
     rows: u32,
 ) -> Result<usize, Error>
     ensures same_reference { tx.new.conn.ghost_name ≡ tx.old.conn.ghost_name }
-    ensures added { Makes (with_import (record { supplier = supplier.now; label = label.now; variant = variant.now; body = body.now; rows = pos rows })) (state S.Store tx.old.conn.now) (state S.Store tx.new.conn.now) result }
-    ensures survives { Survives (state S.Store tx.old.conn.now) (state S.Store tx.new.conn.now) (λ _. ⊥) }
+    ensures added { Makes (with_import
+        (record {
+          supplier = supplier.now;
+          label = label.now;
+          variant = variant.now;
+          body = body.now;
+          rows = pos rows;
+        })) (state S.Store tx.old.conn.now)
+        (state S.Store tx.new.conn.now) result }
+    ensures survives { Survives (state S.Store tx.old.conn.now) (state S.Store tx.new.conn.now)
+        (λ _. ⊥) }
 {
     tx.execute(
         "INSERT INTO imports (supplier, label, variant, body, rows) VALUES (?1, ?2, ?3, ?4, ?5)",
@@ -40,7 +49,8 @@ pub fn one<S: Alter>(
     supplier: &Name,
     label: &Name,
 ) -> Result<Vec<Row>, Error>
-    ensures listed { Finds shows_import (is_import supplier.now label.now) any_order (λ t. t.imports) (state S.Store conn.old) (state S.Store conn.new) result }
+    ensures listed { Finds shows_import (is_import supplier.now label.now) any_order
+        (λ t. t.imports) (state S.Store conn.old) (state S.Store conn.new) result }
     ensures spares { Spares (state S.Store conn.old) (state S.Store conn.new) }
 {
     conn.query_all(
@@ -51,7 +61,8 @@ pub fn one<S: Alter>(
 
 /// The supplier's labels, in byte order.
 pub fn labels<S: Alter>(conn: &mut Connection<S>, supplier: &Name) -> Result<Vec<Row>, Error>
-    ensures listed { Finds shows_label (is_import_of supplier.now) labels_cmp (λ t. t.imports) (state S.Store conn.old) (state S.Store conn.new) result }
+    ensures listed { Finds shows_label (is_import_of supplier.now) labels_cmp (λ t. t.imports)
+        (state S.Store conn.old) (state S.Store conn.new) result }
     ensures spares { Spares (state S.Store conn.old) (state S.Store conn.new) }
 {
     conn.query_all(

@@ -16,8 +16,10 @@ pub fn insert<S: Alter>(
     name: &Name,
 ) -> Result<usize, Error>
     ensures same_reference { tx.new.conn.ghost_name ≡ tx.old.conn.ghost_name }
-    ensures added { Makes (with_node (record { supplier = supplier.now; name = name.now })) (state S.Store tx.old.conn.now) (state S.Store tx.new.conn.now) result }
-    ensures survives { Survives (state S.Store tx.old.conn.now) (state S.Store tx.new.conn.now) (λ _. ⊥) }
+    ensures added { Makes (with_node (record { supplier = supplier.now; name = name.now }))
+        (state S.Store tx.old.conn.now) (state S.Store tx.new.conn.now) result }
+    ensures survives { Survives (state S.Store tx.old.conn.now) (state S.Store tx.new.conn.now)
+        (λ _. ⊥) }
 {
     tx.execute(
         "INSERT INTO nodes (supplier, name) VALUES (?1, ?2)",
@@ -27,7 +29,8 @@ pub fn insert<S: Alter>(
 
 /// The supplier's nodes, by name.
 pub fn of_supplier<S: Alter>(conn: &mut Connection<S>, supplier: &Name) -> Result<Vec<Row>, Error>
-    ensures listed { Finds shows_node (is_node_of supplier.now) nodes_cmp (λ t. t.nodes) (state S.Store conn.old) (state S.Store conn.new) result }
+    ensures listed { Finds shows_node (is_node_of supplier.now) nodes_cmp (λ t. t.nodes)
+        (state S.Store conn.old) (state S.Store conn.new) result }
     ensures spares { Spares (state S.Store conn.old) (state S.Store conn.new) }
 {
     conn.query_all(

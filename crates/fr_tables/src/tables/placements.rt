@@ -18,8 +18,11 @@ pub fn insert<S: Alter>(
     placement: &Placement,
 ) -> Result<usize, Error>
     ensures same_reference { tx.new.conn.ghost_name ≡ tx.old.conn.ghost_name }
-    ensures added { Makes (with_placement (placement_row variant.now supplier.now frame.now placement.now)) (state S.Store tx.old.conn.now) (state S.Store tx.new.conn.now) result }
-    ensures survives { Survives (state S.Store tx.old.conn.now) (state S.Store tx.new.conn.now) (λ _. ⊥) }
+    ensures added { Makes (with_placement
+        (placement_row variant.now supplier.now frame.now placement.now))
+        (state S.Store tx.old.conn.now) (state S.Store tx.new.conn.now) result }
+    ensures survives { Survives (state S.Store tx.old.conn.now) (state S.Store tx.new.conn.now)
+        (λ _. ⊥) }
 {
     tx.execute(
         "INSERT INTO placements (variant, supplier, frame, slot, channels, base, repetition) VALUES (?1, ?2, ?3, ?4, ?5, ?6, ?7)",
@@ -44,8 +47,11 @@ pub fn delete<S: Alter>(
     placement: &Placement,
 ) -> Result<usize, Error>
     ensures same_reference { tx.new.conn.ghost_name ≡ tx.old.conn.ghost_name }
-    ensures ended { Makes (without_placement (placement_row variant.now supplier.now frame.now placement.now)) (state S.Store tx.old.conn.now) (state S.Store tx.new.conn.now) result }
-    ensures survives { Survives (state S.Store tx.old.conn.now) (state S.Store tx.new.conn.now) (λ _. ⊥) }
+    ensures ended { Makes (without_placement
+        (placement_row variant.now supplier.now frame.now placement.now))
+        (state S.Store tx.old.conn.now) (state S.Store tx.new.conn.now) result }
+    ensures survives { Survives (state S.Store tx.old.conn.now) (state S.Store tx.new.conn.now)
+        (λ _. ⊥) }
 {
     tx.execute(
         "DELETE FROM placements WHERE variant = ?1 AND supplier = ?2 AND frame = ?3 AND slot = ?4 AND channels = ?5 AND base = ?6 AND repetition = ?7",
@@ -70,8 +76,10 @@ pub fn copy_one<S: Alter>(
     frame: &Name,
 ) -> Result<usize, Error>
     ensures same_reference { tx.new.conn.ghost_name ≡ tx.old.conn.ghost_name }
-    ensures copied { MakesCopies (placement_copies from.now to.now supplier.now frame.now) with_placements (state S.Store tx.old.conn.now) (state S.Store tx.new.conn.now) result }
-    ensures survives { Survives (state S.Store tx.old.conn.now) (state S.Store tx.new.conn.now) (λ _. ⊥) }
+    ensures copied { MakesCopies (placement_copies from.now to.now supplier.now frame.now)
+        with_placements (state S.Store tx.old.conn.now) (state S.Store tx.new.conn.now) result }
+    ensures survives { Survives (state S.Store tx.old.conn.now) (state S.Store tx.new.conn.now)
+        (λ _. ⊥) }
 {
     tx.execute(
         "INSERT INTO placements (variant, supplier, frame, slot, channels, base, repetition) SELECT ?2, supplier, frame, slot, channels, base, repetition FROM placements WHERE variant = ?1 AND supplier = ?3 AND frame = ?4",
@@ -90,7 +98,8 @@ pub fn of_supplier<S: Alter>(
     variant: &Name,
     supplier: &Name,
 ) -> Result<Vec<Row>, Error>
-    ensures listed { Finds shows_placement (is_placed_by variant.now supplier.now) placements_cmp (λ t. t.placements) (state S.Store conn.old) (state S.Store conn.new) result }
+    ensures listed { Finds shows_placement (is_placed_by variant.now supplier.now) placements_cmp
+        (λ t. t.placements) (state S.Store conn.old) (state S.Store conn.new) result }
     ensures spares { Spares (state S.Store conn.old) (state S.Store conn.new) }
 {
     conn.query_all(

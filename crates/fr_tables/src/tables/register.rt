@@ -11,8 +11,10 @@ use sqlite::{Alter, Error, Transaction, params};
 /// Adds the row, to a register that has none. It gets the number 1.
 pub fn insert<S: Alter>(tx: &mut Transaction<'_, S>, schema: u32) -> Result<usize, Error>
     ensures same_reference { tx.new.conn.ghost_name ≡ tx.old.conn.ghost_name }
-    ensures added { Makes (with_register (record { schema = pos schema })) (state S.Store tx.old.conn.now) (state S.Store tx.new.conn.now) result }
-    ensures survives { Survives (state S.Store tx.old.conn.now) (state S.Store tx.new.conn.now) (λ _. ⊥) }
+    ensures added { Makes (with_register (record { schema = pos schema }))
+        (state S.Store tx.old.conn.now) (state S.Store tx.new.conn.now) result }
+    ensures survives { Survives (state S.Store tx.old.conn.now) (state S.Store tx.new.conn.now)
+        (λ _. ⊥) }
 {
     tx.execute("INSERT INTO register (schema) VALUES (?1)", params![schema])
 }
@@ -20,8 +22,10 @@ pub fn insert<S: Alter>(tx: &mut Transaction<'_, S>, schema: u32) -> Result<usiz
 /// Gives the row another number.
 pub fn update<S: Alter>(tx: &mut Transaction<'_, S>, schema: u32) -> Result<usize, Error>
     ensures same_reference { tx.new.conn.ghost_name ≡ tx.old.conn.ghost_name }
-    ensures renewed { Makes (with_number (pos schema)) (state S.Store tx.old.conn.now) (state S.Store tx.new.conn.now) result }
-    ensures survives { Survives (state S.Store tx.old.conn.now) (state S.Store tx.new.conn.now) (λ _. ⊥) }
+    ensures renewed { Makes (with_number (pos schema)) (state S.Store tx.old.conn.now)
+        (state S.Store tx.new.conn.now) result }
+    ensures survives { Survives (state S.Store tx.old.conn.now) (state S.Store tx.new.conn.now)
+        (λ _. ⊥) }
 {
     tx.execute("UPDATE register SET schema = ?1", params![schema])
 }

@@ -28,8 +28,10 @@ pub fn insert<'names, S: Alter>(
     signal: &Signal,
 ) -> Result<usize, Error>
     ensures same_reference { tx.new.conn.ghost_name ≡ tx.old.conn.ghost_name }
-    ensures added { Makes (with_signal (signal_row variant.now supplier.now frame.now signal.now)) (state S.Store tx.old.conn.now) (state S.Store tx.new.conn.now) result }
-    ensures survives { Survives (state S.Store tx.old.conn.now) (state S.Store tx.new.conn.now) (λ _. ⊥) }
+    ensures added { Makes (with_signal (signal_row variant.now supplier.now frame.now signal.now))
+        (state S.Store tx.old.conn.now) (state S.Store tx.new.conn.now) result }
+    ensures survives { Survives (state S.Store tx.old.conn.now) (state S.Store tx.new.conn.now)
+        (λ _. ⊥) }
 {
     tx.execute(
         "INSERT INTO signals (variant, supplier, frame, name, start, length, big) VALUES (?1, ?2, ?3, ?4, ?5, ?6, ?7)",
@@ -54,8 +56,10 @@ pub fn delete<S: Alter>(
     name: &Name,
 ) -> Result<usize, Error>
     ensures same_reference { tx.new.conn.ghost_name ≡ tx.old.conn.ghost_name }
-    ensures dropped { Makes (without_signal variant.now supplier.now frame.now name.now) (state S.Store tx.old.conn.now) (state S.Store tx.new.conn.now) result }
-    ensures survives { Survives (state S.Store tx.old.conn.now) (state S.Store tx.new.conn.now) (λ _. ⊥) }
+    ensures dropped { Makes (without_signal variant.now supplier.now frame.now name.now)
+        (state S.Store tx.old.conn.now) (state S.Store tx.new.conn.now) result }
+    ensures survives { Survives (state S.Store tx.old.conn.now) (state S.Store tx.new.conn.now)
+        (λ _. ⊥) }
 {
     tx.execute(
         "DELETE FROM signals WHERE variant = ?1 AND supplier = ?2 AND frame = ?3 AND name = ?4",
@@ -77,8 +81,10 @@ pub fn copy_one<S: Alter>(
     frame: &Name,
 ) -> Result<usize, Error>
     ensures same_reference { tx.new.conn.ghost_name ≡ tx.old.conn.ghost_name }
-    ensures copied { MakesCopies (signal_copies from.now to.now supplier.now frame.now) with_signals (state S.Store tx.old.conn.now) (state S.Store tx.new.conn.now) result }
-    ensures survives { Survives (state S.Store tx.old.conn.now) (state S.Store tx.new.conn.now) (λ _. ⊥) }
+    ensures copied { MakesCopies (signal_copies from.now to.now supplier.now frame.now) with_signals
+        (state S.Store tx.old.conn.now) (state S.Store tx.new.conn.now) result }
+    ensures survives { Survives (state S.Store tx.old.conn.now) (state S.Store tx.new.conn.now)
+        (λ _. ⊥) }
 {
     tx.execute(
         "INSERT INTO signals (variant, supplier, frame, name, start, length, big) SELECT ?2, supplier, frame, name, start, length, big FROM signals WHERE variant = ?1 AND supplier = ?3 AND frame = ?4",
@@ -97,7 +103,8 @@ pub fn of_supplier<S: Alter>(
     variant: &Name,
     supplier: &Name,
 ) -> Result<Vec<Row>, Error>
-    ensures listed { Finds shows_signal (is_signalled_by variant.now supplier.now) signals_cmp (λ t. t.signals) (state S.Store conn.old) (state S.Store conn.new) result }
+    ensures listed { Finds shows_signal (is_signalled_by variant.now supplier.now) signals_cmp
+        (λ t. t.signals) (state S.Store conn.old) (state S.Store conn.new) result }
     ensures spares { Spares (state S.Store conn.old) (state S.Store conn.new) }
 {
     conn.query_all(

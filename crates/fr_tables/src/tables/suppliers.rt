@@ -12,8 +12,10 @@ use sqlite::{Alter, Error, Row, Transaction, params};
 /// Adds a supplier.
 pub fn insert<S: Alter>(tx: &mut Transaction<'_, S>, name: &Name, key: &Key) -> Result<usize, Error>
     ensures same_reference { tx.new.conn.ghost_name ≡ tx.old.conn.ghost_name }
-    ensures added { Makes (with_supplier (record { name = name.now; key = key.now })) (state S.Store tx.old.conn.now) (state S.Store tx.new.conn.now) result }
-    ensures survives { Survives (state S.Store tx.old.conn.now) (state S.Store tx.new.conn.now) (λ _. ⊥) }
+    ensures added { Makes (with_supplier (record { name = name.now; key = key.now }))
+        (state S.Store tx.old.conn.now) (state S.Store tx.new.conn.now) result }
+    ensures survives { Survives (state S.Store tx.old.conn.now) (state S.Store tx.new.conn.now)
+        (λ _. ⊥) }
 {
     tx.execute(
         "INSERT INTO suppliers (name, key) VALUES (?1, ?2)",
@@ -28,8 +30,10 @@ pub fn set_key<S: Alter>(
     key: &Key,
 ) -> Result<usize, Error>
     ensures same_reference { tx.new.conn.ghost_name ≡ tx.old.conn.ghost_name }
-    ensures keyed { Makes (with_key name.now key.now) (state S.Store tx.old.conn.now) (state S.Store tx.new.conn.now) result }
-    ensures survives { Survives (state S.Store tx.old.conn.now) (state S.Store tx.new.conn.now) (λ _. ⊥) }
+    ensures keyed { Makes (with_key name.now key.now) (state S.Store tx.old.conn.now)
+        (state S.Store tx.new.conn.now) result }
+    ensures survives { Survives (state S.Store tx.old.conn.now) (state S.Store tx.new.conn.now)
+        (λ _. ⊥) }
 {
     tx.execute(
         "UPDATE suppliers SET key = ?2 WHERE name = ?1",
@@ -40,8 +44,10 @@ pub fn set_key<S: Alter>(
 /// All suppliers, by name, asked inside a transaction.
 pub fn by_name_inside<S: Alter>(tx: &mut Transaction<'_, S>) -> Result<Vec<Row>, Error>
     ensures same_reference { tx.new.conn.ghost_name ≡ tx.old.conn.ghost_name }
-    ensures listed { Finds shows_supplier every suppliers_cmp (λ t. t.suppliers) (state S.Store tx.old.conn.now) (state S.Store tx.new.conn.now) result }
-    ensures survives { Survives (state S.Store tx.old.conn.now) (state S.Store tx.new.conn.now) (λ _. ⊥) }
+    ensures listed { Finds shows_supplier every suppliers_cmp (λ t. t.suppliers)
+        (state S.Store tx.old.conn.now) (state S.Store tx.new.conn.now) result }
+    ensures survives { Survives (state S.Store tx.old.conn.now) (state S.Store tx.new.conn.now)
+        (λ _. ⊥) }
 {
     tx.query_all("SELECT name, key FROM suppliers ORDER BY name", &[])
 }

@@ -24,8 +24,17 @@ pub fn insert<S: Alter>(
     overlay: bool,
 ) -> Result<usize, Error>
     ensures same_reference { tx.new.conn.ghost_name ≡ tx.old.conn.ghost_name }
-    ensures added { Makes (with_variant (record { name = name.now; parent = option_copied parent.entry; depth = pos depth; released = pos 0; overlay = if overlay then pos 1 else pos 0 })) (state S.Store tx.old.conn.now) (state S.Store tx.new.conn.now) result }
-    ensures survives { Survives (state S.Store tx.old.conn.now) (state S.Store tx.new.conn.now) (λ _. ⊥) }
+    ensures added { Makes (with_variant
+        (record {
+          name = name.now;
+          parent = option_copied parent.entry;
+          depth = pos depth;
+          released = pos 0;
+          overlay = if overlay then pos 1 else pos 0;
+        }))
+        (state S.Store tx.old.conn.now) (state S.Store tx.new.conn.now) result }
+    ensures survives { Survives (state S.Store tx.old.conn.now) (state S.Store tx.new.conn.now)
+        (λ _. ⊥) }
 {
     tx.execute(
         "INSERT INTO variants (name, parent, depth, released, overlay) VALUES (?1, ?2, ?3, 0, ?4)",
@@ -36,8 +45,10 @@ pub fn insert<S: Alter>(
 /// Releases the variant.
 pub fn release<S: Alter>(tx: &mut Transaction<'_, S>, name: &Name) -> Result<usize, Error>
     ensures same_reference { tx.new.conn.ghost_name ≡ tx.old.conn.ghost_name }
-    ensures released { Makes (with_released name.now) (state S.Store tx.old.conn.now) (state S.Store tx.new.conn.now) result }
-    ensures survives { Survives (state S.Store tx.old.conn.now) (state S.Store tx.new.conn.now) (λ _. ⊥) }
+    ensures released { Makes (with_released name.now) (state S.Store tx.old.conn.now)
+        (state S.Store tx.new.conn.now) result }
+    ensures survives { Survives (state S.Store tx.old.conn.now) (state S.Store tx.new.conn.now)
+        (λ _. ⊥) }
 {
     tx.execute(
         "UPDATE variants SET released = 1 WHERE name = ?1",
@@ -47,7 +58,8 @@ pub fn release<S: Alter>(tx: &mut Transaction<'_, S>, name: &Name) -> Result<usi
 
 /// All variants, by name.
 pub fn by_name<S: Alter>(conn: &mut Connection<S>) -> Result<Vec<Row>, Error>
-    ensures listed { Finds shows_variant every variants_cmp (λ t. t.variants) (state S.Store conn.old) (state S.Store conn.new) result }
+    ensures listed { Finds shows_variant every variants_cmp (λ t. t.variants)
+        (state S.Store conn.old) (state S.Store conn.new) result }
     ensures spares { Spares (state S.Store conn.old) (state S.Store conn.new) }
 {
     conn.query_all(
@@ -59,8 +71,10 @@ pub fn by_name<S: Alter>(conn: &mut Connection<S>) -> Result<Vec<Row>, Error>
 /// All variants, by name, read inside a transaction.
 pub fn by_name_inside<S: Alter>(tx: &mut Transaction<'_, S>) -> Result<Vec<Row>, Error>
     ensures same_reference { tx.new.conn.ghost_name ≡ tx.old.conn.ghost_name }
-    ensures listed { Finds shows_variant every variants_cmp (λ t. t.variants) (state S.Store tx.old.conn.now) (state S.Store tx.new.conn.now) result }
-    ensures survives { Survives (state S.Store tx.old.conn.now) (state S.Store tx.new.conn.now) (λ _. ⊥) }
+    ensures listed { Finds shows_variant every variants_cmp (λ t. t.variants)
+        (state S.Store tx.old.conn.now) (state S.Store tx.new.conn.now) result }
+    ensures survives { Survives (state S.Store tx.old.conn.now) (state S.Store tx.new.conn.now)
+        (λ _. ⊥) }
 {
     tx.query_all(
         "SELECT name, parent, depth, released, overlay FROM variants ORDER BY name",
@@ -70,7 +84,8 @@ pub fn by_name_inside<S: Alter>(tx: &mut Transaction<'_, S>) -> Result<Vec<Row>,
 
 /// The variant of this name.
 pub fn one<S: Alter>(conn: &mut Connection<S>, name: &Name) -> Result<Vec<Row>, Error>
-    ensures listed { Finds shows_variant (is_variant name.now) any_order (λ t. t.variants) (state S.Store conn.old) (state S.Store conn.new) result }
+    ensures listed { Finds shows_variant (is_variant name.now) any_order (λ t. t.variants)
+        (state S.Store conn.old) (state S.Store conn.new) result }
     ensures spares { Spares (state S.Store conn.old) (state S.Store conn.new) }
 {
     conn.query_all(
@@ -82,8 +97,10 @@ pub fn one<S: Alter>(conn: &mut Connection<S>, name: &Name) -> Result<Vec<Row>, 
 /// The variant of this name, read inside a transaction.
 pub fn one_inside<S: Alter>(tx: &mut Transaction<'_, S>, name: &Name) -> Result<Vec<Row>, Error>
     ensures same_reference { tx.new.conn.ghost_name ≡ tx.old.conn.ghost_name }
-    ensures listed { Finds shows_variant (is_variant name.now) any_order (λ t. t.variants) (state S.Store tx.old.conn.now) (state S.Store tx.new.conn.now) result }
-    ensures survives { Survives (state S.Store tx.old.conn.now) (state S.Store tx.new.conn.now) (λ _. ⊥) }
+    ensures listed { Finds shows_variant (is_variant name.now) any_order (λ t. t.variants)
+        (state S.Store tx.old.conn.now) (state S.Store tx.new.conn.now) result }
+    ensures survives { Survives (state S.Store tx.old.conn.now) (state S.Store tx.new.conn.now)
+        (λ _. ⊥) }
 {
     tx.query_all(
         "SELECT name, parent, depth, released, overlay FROM variants WHERE name = ?1",

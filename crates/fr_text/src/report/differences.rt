@@ -48,7 +48,8 @@ fn push_seen(row: &SeenRow, all: bool, out: &mut Vec<u8>) -> Result<(), NoMemory
 
 #[tactic(auto, using(crate::proofs::WordsLemmas::extending), unfolding(crate::specs::Report::seen_line))]
 fn push_grant(grant: &GrantRow, all: bool, out: &mut Vec<u8>) -> Result<(), NoMemory>
-    ensures ok { OnOk result (out.new.items ≡ out.old.items ++ seen_line all (seen.Grant grant.now)) }
+    ensures ok { OnOk result (out.new.items ≡ out.old.items
+        ++ seen_line all (seen.Grant grant.now)) }
     ensures err { OnErr result (Extends out.old.items out.new.items) }
 {
     push("GRANT", out)?;
@@ -60,7 +61,8 @@ fn push_grant(grant: &GrantRow, all: bool, out: &mut Vec<u8>) -> Result<(), NoMe
 
 #[tactic(auto, using(crate::proofs::WordsLemmas::extending), unfolding(crate::specs::Report::seen_line))]
 fn push_frame(frame: &FrameRecord, all: bool, out: &mut Vec<u8>) -> Result<(), NoMemory>
-    ensures ok { OnOk result (out.new.items ≡ out.old.items ++ seen_line all (seen.Frame frame.now)) }
+    ensures ok { OnOk result (out.new.items ≡ out.old.items
+        ++ seen_line all (seen.Frame frame.now)) }
     ensures err { OnErr result (Extends out.old.items out.new.items) }
 {
     push("FRAME", out)?;
@@ -77,7 +79,8 @@ fn push_placement(
     all: bool,
     out: &mut Vec<u8>,
 ) -> Result<(), NoMemory>
-    ensures ok { OnOk result (out.new.items ≡ out.old.items ++ seen_line all (seen.Placement frame.now placement.now supplier.now)) }
+    ensures ok { OnOk result (out.new.items ≡ out.old.items
+        ++ seen_line all (seen.Placement frame.now placement.now supplier.now)) }
     ensures err { OnErr result (Extends out.old.items out.new.items) }
 {
     push_slot(frame, placement, out)?;
@@ -88,7 +91,8 @@ fn push_placement(
 
 #[tactic(auto, using(crate::proofs::WordsLemmas::extending), unfolding(crate::specs::Report::seen_line))]
 fn push_signal(signal: &SignalRecord, all: bool, out: &mut Vec<u8>) -> Result<(), NoMemory>
-    ensures ok { OnOk result (out.new.items ≡ out.old.items ++ seen_line all (seen.Signal signal.now)) }
+    ensures ok { OnOk result (out.new.items ≡ out.old.items
+        ++ seen_line all (seen.Signal signal.now)) }
     ensures err { OnErr result (Extends out.old.items out.new.items) }
 {
     push_bits(signal, out)?;
@@ -100,7 +104,9 @@ fn push_signal(signal: &SignalRecord, all: bool, out: &mut Vec<u8>) -> Result<()
 // Appends the frame, and the slot and channels of its placement.
 #[tactic(auto, using(crate::proofs::WordsLemmas::extending))]
 fn push_slot(frame: &Name, placement: &Placement, out: &mut Vec<u8>) -> Result<(), NoMemory>
-    ensures ok { OnOk result (out.new.items ≡ out.old.items ++ line (codes "AT" ∷ frame.now ∷ four_digits placement.now.slot ∷ text_of_channels placement.now.channels ∷ [])) }
+    ensures ok { OnOk result (out.new.items ≡ out.old.items
+        ++ line (codes "AT" ∷ frame.now ∷ four_digits placement.now.slot ∷ text_of_channels
+        placement.now.channels ∷ [])) }
     ensures err { OnErr result (Extends out.old.items out.new.items) }
 {
     push("AT", out)?;
@@ -112,7 +118,9 @@ fn push_slot(frame: &Name, placement: &Placement, out: &mut Vec<u8>) -> Result<(
 // Appends the frame, and the start and length of its signal.
 #[tactic(auto, using(crate::proofs::WordsLemmas::extending))]
 fn push_bits(signal: &SignalRecord, out: &mut Vec<u8>) -> Result<(), NoMemory>
-    ensures ok { OnOk result (out.new.items ≡ out.old.items ++ line (codes "SIGNAL" ∷ signal.now.frame ∷ four_digits signal.now.signal.start ∷ two_digits signal.now.signal.length ∷ [])) }
+    ensures ok { OnOk result (out.new.items ≡ out.old.items
+        ++ line (codes "SIGNAL" ∷ signal.now.frame ∷ four_digits signal.now.signal.start
+        ∷ two_digits signal.now.signal.length ∷ [])) }
     ensures err { OnErr result (Extends out.old.items out.new.items) }
 {
     push("SIGNAL", out)?;

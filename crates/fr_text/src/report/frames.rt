@@ -26,7 +26,8 @@ impl Row for FrameRow {
 // Appends a line for each placement, with the mark before it.
 #[tactic(auto, using(crate::proofs::WordsLemmas::extending), unfolding(crate::specs::Styles::marked))]
 fn push_placements(placements: &[Placement], mark: &str, out: &mut Vec<u8>) -> Result<(), NoMemory>
-    ensures ok { OnOk result (out.new.items ≡ out.old.items ++ marked mark.now (map placement_line placements.now)) }
+    ensures ok { OnOk result (out.new.items ≡ out.old.items
+        ++ marked mark.now (map placement_line placements.now)) }
     ensures err { OnErr result (Extends out.old.items out.new.items) }
 {
     for placement in placements {

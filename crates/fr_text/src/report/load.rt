@@ -26,7 +26,8 @@ impl Row for LoadRow {
 // nobody holds the lane, a hyphen stands for each.
 #[tactic(auto, using(crate::proofs::WordsLemmas::extending))]
 fn push_holder(all: bool, holder: &Option<LaneHolder>, out: &mut Vec<u8>) -> Result<(), NoMemory>
-    ensures ok { OnOk result (out.new.items ≡ out.old.items ++ behind (holder_words all holder.now)) }
+    ensures ok { OnOk result (out.new.items ≡ out.old.items
+        ++ behind (holder_words all holder.now)) }
     ensures err { OnErr result (Extends out.old.items out.new.items) }
 {
     match holder {

@@ -19,7 +19,8 @@ pub(super) fn push_records<R: Row>(
     style: Style,
     out: &mut Vec<u8>,
 ) -> Result<(), NoMemory>
-    ensures ok { OnOk result (out.new.items ≡ out.old.items ++ set_in style (header_line all header ∷ lines_in R.first R.others all records.now)) }
+    ensures ok { OnOk result (out.new.items ≡ out.old.items
+        ++ set_in style (header_line all header ∷ lines_in R.first R.others all records.now)) }
     ensures err { OnErr result (Extends out.old.items out.new.items) }
 {
     push(style.before(), out)?;
@@ -79,7 +80,8 @@ impl Row for PlacementRecord {
 // Appends slot, channels, base and repetition, a comma before each.
 #[tactic(auto, using(crate::proofs::WordsLemmas::extending))]
 fn push_placement(placement: &Placement, out: &mut Vec<u8>) -> Result<(), NoMemory>
-    ensures ok { OnOk result (out.new.items ≡ out.old.items ++ comma_behind (placement_fields placement.now)) }
+    ensures ok { OnOk result (out.new.items ≡ out.old.items
+        ++ comma_behind (placement_fields placement.now)) }
     ensures err { OnErr result (Extends out.old.items out.new.items) }
 {
     push_number(placement.slot.get(), out)?;
@@ -104,7 +106,8 @@ impl Row for SignalRecord {
 // Appends name, start, length and order, a comma before each.
 #[tactic(auto, using(crate::proofs::WordsLemmas::extending))]
 fn push_signal(signal: &Signal, out: &mut Vec<u8>) -> Result<(), NoMemory>
-    ensures ok { OnOk result (out.new.items ≡ out.old.items ++ comma_behind (signal_fields signal.now)) }
+    ensures ok { OnOk result (out.new.items ≡ out.old.items
+        ++ comma_behind (signal_fields signal.now)) }
     ensures err { OnErr result (Extends out.old.items out.new.items) }
 {
     push_field(signal.name().as_str().as_bytes(), out)?;

@@ -15,7 +15,8 @@ pub(super) fn push_room(
     style: Style,
     out: &mut Vec<u8>,
 ) -> Result<(), NoMemory>
-    ensures ok { OnOk result (out.new.items ≡ out.old.items ++ set_in style (room_lines places.now)) }
+    ensures ok { OnOk result (out.new.items ≡ out.old.items
+        ++ set_in style (room_lines places.now)) }
     ensures err { OnErr result (Extends out.old.items out.new.items) }
 {
     let [first, rest @ ..] = places else {
@@ -34,7 +35,8 @@ fn push_places(
     mark: &str,
     out: &mut Vec<u8>,
 ) -> Result<(), NoMemory>
-    ensures ok { OnOk result (out.new.items ≡ out.old.items ++ joined mark.now (room_lines (first.now ∷ rest.now))) }
+    ensures ok { OnOk result (out.new.items ≡ out.old.items
+        ++ joined mark.now (room_lines (first.now ∷ rest.now))) }
     ensures err { OnErr result (Extends out.old.items out.new.items) }
 {
     push_first(first, out)?;
@@ -56,7 +58,8 @@ fn push_next(
     out: &mut Vec<u8>,
 ) -> Result<(), NoMemory>
     ensures ok { OnOk result (out.new.items ≡ out.old.items
-        ++ (if share_line before.now place.now then codes " " ++ base_word place.now else mark.now ++ group_line (place.now ∷ []))) }
+        ++ (if share_line before.now place.now then codes " " ++ base_word place.now else mark.now
+        ++ group_line (place.now ∷ []))) }
     ensures err { OnErr result (Extends out.old.items out.new.items) }
 {
     if share_line(before, place) {

@@ -25,7 +25,9 @@ impl Row for Sending {
 // Appends cycle, slot and channel.
 #[tactic(auto, using(crate::proofs::WordsLemmas::extending))]
 fn push_cell(sending: &Sending, out: &mut Vec<u8>) -> Result<(), NoMemory>
-    ensures ok { OnOk result (out.new.items ≡ out.old.items ++ line (two_digits sending.now.cycle ∷ four_digits sending.now.slot ∷ text_of_channel sending.now.channel ∷ [])) }
+    ensures ok { OnOk result (out.new.items ≡ out.old.items
+        ++ line (two_digits sending.now.cycle ∷ four_digits sending.now.slot ∷ text_of_channel
+        sending.now.channel ∷ [])) }
     ensures err { OnErr result (Extends out.old.items out.new.items) }
 {
     out.extend_from_slice(&two_digits(u32::from(sending.cycle)))?;

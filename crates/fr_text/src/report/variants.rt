@@ -24,7 +24,8 @@ impl Row for VariantRow {
 
 // Appends a space and the parent's name, or a hyphen where there is none. An error leaves the old bytes in front.
 fn push_parent(parent: &Option<Name>, out: &mut Vec<u8>) -> Result<(), NoMemory>
-    ensures ok { OnOk result (out.new.items ≡ out.old.items ++ (codes " " ++ parent_word parent.now)) }
+    ensures ok { OnOk result (out.new.items ≡ out.old.items
+        ++ (codes " " ++ parent_word parent.now)) }
     ensures err { OnErr result (Extends out.old.items out.new.items) }
 {
     match parent {

@@ -14,8 +14,11 @@ use std::alloc::Global;
 
 /// The cells that the frames fill, if no cell lies in two placements.
 pub(super) fn cells_of(alloc: Global, rows: &PageRows) -> Result<Option<MaskOccupancy>, NoMemory>
-    ensures some { IfOk result (λ built. IfSome built (λ cells. (cells ≡ pairs_in (frames_data rows.now.frames.entries)) × ShareNone cells)) }
-    ensures none { IfOk result (λ built. IfNone built (¬ ShareNone (pairs_in (frames_data rows.now.frames.entries)))) }
+    ensures some { IfOk result (λ built.
+        IfSome built (λ cells. (cells ≡ pairs_in (frames_data rows.now.frames.entries))
+        × ShareNone cells)) }
+    ensures none { IfOk result (λ built.
+        IfNone built (¬ ShareNone (pairs_in (frames_data rows.now.frames.entries)))) }
 {
     let mut cells = MaskOccupancy::new(alloc);
     for (name, frame) in &rows.frames {
@@ -30,8 +33,11 @@ pub(super) fn cells_of(alloc: Global, rows: &PageRows) -> Result<Option<MaskOccu
 // from the first that was not, the rest is left out.
 fn fill(cells: &mut MaskOccupancy, name: Name, frame: &PageFrame) -> Result<bool, NoMemory>
     requires { ShareNone cells.old }
-    ensures free { IfOk result (λ free. free ≡ true → (cells.new ≡ cells.old ++ filled_by name (frame_of (frame_data frame.now))) × ShareNone cells.new) }
-    ensures taken { IfOk result (λ free. free ≡ false → (later : List (NameText × Cells)) → ¬ ShareNone ((cells.old ++ filled_by name (frame_of (frame_data frame.now))) ++ later)) }
+    ensures free { IfOk result (λ free. free ≡ true
+        → (cells.new ≡ cells.old ++ filled_by name (frame_of (frame_data frame.now)))
+        × ShareNone cells.new) }
+    ensures taken { IfOk result (λ free. free ≡ false → (later : List (NameText × Cells))
+        → ¬ ShareNone ((cells.old ++ filled_by name (frame_of (frame_data frame.now))) ++ later)) }
 {
     for placement in &frame.placements {
         if !cells.free(placement) {

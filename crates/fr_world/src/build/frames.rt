@@ -12,7 +12,9 @@ use fr_base::{Channels, MAX_PLACEMENTS, Name, Params, Placement};
 
 /// Whether a page may have each of the frames, but for cells that they share.
 pub(super) fn are_frames(rows: &PageRows) -> bool
-    ensures { Decides result (All (λ e. IsKeptFrame (own_rows_of (rows_data rows.now)) (frame_data e.1)) rows.now.frames.entries) }
+    ensures { Decides result (All
+        (λ e. IsKeptFrame (own_rows_of (rows_data rows.now)) (frame_data e.1))
+        rows.now.frames.entries) }
 {
     for frame in rows.frames.values() {
         if !is_frame(rows, frame) {
@@ -24,7 +26,8 @@ pub(super) fn are_frames(rows: &PageRows) -> bool
 
 // Whether a page of these rows may have the frame, with a layout of the cluster's payload.
 fn is_frame(rows: &PageRows, frame: &PageFrame) -> bool
-    ensures { Decides result (IsKeptFrame (own_rows_of (rows_data rows.now)) (frame_data frame.now)) }
+    ensures { Decides result (IsKeptFrame (own_rows_of (rows_data rows.now))
+        (frame_data frame.now)) }
 {
     let few = frame.placements.len() <= MAX_PLACEMENTS;
     let of_payload = frame.layout.words() == rows.params.payload_words();
@@ -34,7 +37,8 @@ fn is_frame(rows: &PageRows, frame: &PageFrame) -> bool
 
 // Whether each of the frame's placements fits the cluster and lies in grants to the frame's node.
 fn are_placed(rows: &PageRows, frame: &PageFrame) -> bool
-    ensures { result ≡ list_all (is_placed (own_rows_of (rows_data rows.now)) frame.now.node) frame.now.placements.keys }
+    ensures { result ≡ list_all (is_placed (own_rows_of (rows_data rows.now)) frame.now.node)
+        frame.now.placements.keys }
 {
     frame
         .placements

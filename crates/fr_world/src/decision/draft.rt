@@ -40,8 +40,10 @@ impl Draft {
     /// `Unavailable` where memory is refused.
     pub(super) fn make_row(&mut self, alloc: Global, row: &Row) -> Result<(), Refusal>
         requires checked { IsCheckedRow self.old.page.params row.now }
-        ensures ok { OnOk result (make_row (draft_data self.old) row.now ≡ Ok (draft_data self.new)) }
-        ensures err { IfErr result (λ e. (e ≡ Unavailable) ⊎ (make_row (draft_data self.old) row.now ≡ Err e)) }
+        ensures ok { OnOk result (make_row (draft_data self.old) row.now
+            ≡ Ok (draft_data self.new)) }
+        ensures err { IfErr result (λ e. (e ≡ Unavailable)
+            ⊎ (make_row (draft_data self.old) row.now ≡ Err e)) }
     {
         match row {
             Row::AddFrame { frame, node } => self.add_frame(alloc, *frame, *node),
@@ -61,8 +63,10 @@ impl Draft {
     /// is of no use.
     pub(super) fn replace_row(&mut self, alloc: Global, row: &Row) -> Result<(), Refusal>
         requires checked { IsCheckedRow self.old.page.params row.now }
-        ensures ok { OnOk result (replace_row (draft_data self.old) row.now ≡ Ok (draft_data self.new)) }
-        ensures err { IfErr result (λ e. (e ≡ Unavailable) ⊎ (replace_row (draft_data self.old) row.now ≡ Err e)) }
+        ensures ok { OnOk result (replace_row (draft_data self.old) row.now
+            ≡ Ok (draft_data self.new)) }
+        ensures err { IfErr result (λ e. (e ≡ Unavailable)
+            ⊎ (replace_row (draft_data self.old) row.now ≡ Err e)) }
     {
         match row {
             Row::AddFrame { frame, node } => self.make_frame(alloc, *frame, *node),
@@ -78,7 +82,8 @@ impl Draft {
         changes: &[FrameChange],
     ) -> Result<(), Refusal>
         requires admitted { AreAdmitted (own_rows_of self.old.page) frame changes.now }
-        ensures ok { OnOk result (draft_data self.new ≡ with_changes (draft_data self.old) frame changes.now) }
+        ensures ok { OnOk result (draft_data self.new
+            ≡ with_changes (draft_data self.old) frame changes.now) }
         ensures err { IfErr result (λ e. e ≡ Unavailable) }
     {
         for change in changes {
@@ -95,9 +100,12 @@ impl Draft {
         frame: Name,
         node: Name,
     ) -> Result<(), Refusal>
-        ensures ok { OnOk result (make_frame (draft_data self.old) frame node ≡ Ok (draft_data self.new)) }
-        ensures err { IfErr result (λ e. (e ≡ Unavailable) ⊎ (make_frame (draft_data self.old) frame node ≡ Err e)) }
-        ensures left { IfErr result (λ e. (e ≡ Unavailable) ⊎ (draft_data self.new ≡ draft_data self.old)) }
+        ensures ok { OnOk result (make_frame (draft_data self.old) frame node
+            ≡ Ok (draft_data self.new)) }
+        ensures err { IfErr result (λ e. (e ≡ Unavailable)
+            ⊎ (make_frame (draft_data self.old) frame node ≡ Err e)) }
+        ensures left { IfErr result
+            (λ e. (e ≡ Unavailable) ⊎ (draft_data self.new ≡ draft_data self.old)) }
     {
         if !has_node(&self.page, node) {
             return Err(Refusal::NoNode);
@@ -116,9 +124,12 @@ impl Draft {
         frame: Name,
         node: Name,
     ) -> Result<(), Refusal>
-        ensures ok { OnOk result (make (draft_data self.old) (Change.Frame frame (FrameChange.Add node)) ≡ Ok (draft_data self.new)) }
-        ensures err { IfErr result (λ e. (e ≡ Unavailable) ⊎ (make (draft_data self.old) (Change.Frame frame (FrameChange.Add node)) ≡ Err e)) }
-        ensures left { IfErr result (λ e. (e ≡ Unavailable) ⊎ (draft_data self.new ≡ draft_data self.old)) }
+        ensures ok { OnOk result (make (draft_data self.old)
+            (Change.Frame frame (FrameChange.Add node)) ≡ Ok (draft_data self.new)) }
+        ensures err { IfErr result (λ e. (e ≡ Unavailable)
+            ⊎ (make (draft_data self.old) (Change.Frame frame (FrameChange.Add node)) ≡ Err e)) }
+        ensures left { IfErr result
+            (λ e. (e ≡ Unavailable) ⊎ (draft_data self.new ≡ draft_data self.old)) }
     {
         admit_frame(&self.page, frame, node)?;
         self.make(alloc, frame, FrameChange::Add { node })
@@ -133,9 +144,13 @@ impl Draft {
         placement: Placement,
     ) -> Result<(), Refusal>
         requires checked { FitsCluster self.old.page.params placement }
-        ensures ok { OnOk result (make (draft_data self.old) (Change.Frame frame (FrameChange.Place placement)) ≡ Ok (draft_data self.new)) }
-        ensures err { IfErr result (λ e. (e ≡ Unavailable) ⊎ (make (draft_data self.old) (Change.Frame frame (FrameChange.Place placement)) ≡ Err e)) }
-        ensures left { IfErr result (λ e. (e ≡ Unavailable) ⊎ (draft_data self.new ≡ draft_data self.old)) }
+        ensures ok { OnOk result (make (draft_data self.old)
+            (Change.Frame frame (FrameChange.Place placement)) ≡ Ok (draft_data self.new)) }
+        ensures err { IfErr result (λ e. (e ≡ Unavailable)
+            ⊎ (make (draft_data self.old) (Change.Frame frame (FrameChange.Place placement))
+            ≡ Err e)) }
+        ensures left { IfErr result
+            (λ e. (e ≡ Unavailable) ⊎ (draft_data self.new ≡ draft_data self.old)) }
     {
         admit_placement(&self.page, frame, &placement)?;
         self.make(alloc, frame, FrameChange::Place(placement))
@@ -150,9 +165,13 @@ impl Draft {
         signal: Signal,
     ) -> Result<(), Refusal>
         requires checked { IsTrue (is_signal_length signal.length) }
-        ensures ok { OnOk result (make (draft_data self.old) (Change.Frame frame (FrameChange.AddSignal signal)) ≡ Ok (draft_data self.new)) }
-        ensures err { IfErr result (λ e. (e ≡ Unavailable) ⊎ (make (draft_data self.old) (Change.Frame frame (FrameChange.AddSignal signal)) ≡ Err e)) }
-        ensures left { IfErr result (λ e. (e ≡ Unavailable) ⊎ (draft_data self.new ≡ draft_data self.old)) }
+        ensures ok { OnOk result (make (draft_data self.old)
+            (Change.Frame frame (FrameChange.AddSignal signal)) ≡ Ok (draft_data self.new)) }
+        ensures err { IfErr result (λ e. (e ≡ Unavailable)
+            ⊎ (make (draft_data self.old) (Change.Frame frame (FrameChange.AddSignal signal))
+            ≡ Err e)) }
+        ensures left { IfErr result
+            (λ e. (e ≡ Unavailable) ⊎ (draft_data self.new ≡ draft_data self.old)) }
     {
         admit_signal(&self.page, frame, &signal)?;
         self.make(alloc, frame, FrameChange::AddSignal(signal))
@@ -165,9 +184,11 @@ impl Draft {
         frame: Name,
         change: FrameChange,
     ) -> Result<(), Refusal>
-        requires admitted { admits_alone (own_rows_of self.old.page) (Change.Frame frame change) ≡ Ok tt }
+        requires admitted { admits_alone (own_rows_of self.old.page) (Change.Frame frame change)
+            ≡ Ok tt }
         requires checked { IsChecked self.old.page.params (Change.Frame frame change) }
-        ensures ok { OnOk result (draft_data self.new ≡ with_change (draft_data self.old) (Change.Frame frame change)) }
+        ensures ok { OnOk result (draft_data self.new
+            ≡ with_change (draft_data self.old) (Change.Frame frame change)) }
         ensures err { IfErr result (λ e. e ≡ Unavailable) }
     {
         // They give the proof that the parameters make a cluster, and that the page's rows are kept.

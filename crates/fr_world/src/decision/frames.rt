@@ -10,7 +10,8 @@ use fr_base::{Change, FrameChange, MAX_FRAMES, Name, Refusal};
 /// `NoNode`, `Exists` or `Limit`, where one refuses a new frame that the node sends.
 #[tactic(auto, unfolding(crate::proofs::DecideRows::decide_open))]
 pub(super) fn admit_frame(page: &Page, frame: Name, node: Name) -> Result<(), Refusal>
-    ensures { result ≡ admits_alone (own_rows_of page.now) (Change.Frame frame (FrameChange.Add node)) }
+    ensures { result ≡ admits_alone (own_rows_of page.now)
+        (Change.Frame frame (FrameChange.Add node)) }
 {
     if !has_node(page, node) {
         return Err(Refusal::NoNode);

@@ -25,7 +25,9 @@ pub(super) fn named_frame(row: &Row) -> Name
 /// The changes that end the placements of the row's frame, or its signals, by the kind of row. A
 /// frame that is not there has none.
 pub(super) fn freeing(alloc: Global, page: &Page, row: &Row) -> Result<Vec<FrameChange>, NoMemory>
-    ensures { IfOk result (λ ends. ends.items ≡ freeing row.now (get (own_rows_of page.now).frames (page.now.supplier, frame_of_row row.now))) }
+    ensures { IfOk result (λ ends.
+        ends.items ≡ freeing row.now
+        (get (own_rows_of page.now).frames (page.now.supplier, frame_of_row row.now))) }
 {
     match row {
         Row::AddFrame { .. } => Ok(Vec::new(alloc)),
@@ -42,7 +44,8 @@ pub(super) fn freeing(alloc: Global, page: &Page, row: &Row) -> Result<Vec<Frame
 
 // The change that ends each placement of the frame.
 fn ends_of_placements(alloc: Global, frame: &PageFrame) -> Result<Vec<FrameChange>, NoMemory>
-    ensures { IfOk result (λ ends. ends.items ≡ map FrameChange.Unplace (placements_in (frame_of (frame_data frame.now)))) }
+    ensures { IfOk result (λ ends.
+        ends.items ≡ map FrameChange.Unplace (placements_in (frame_of (frame_data frame.now)))) }
 {
     let mut ends = Vec::new(alloc);
     for placement in frame.placements.iter() {
@@ -53,7 +56,8 @@ fn ends_of_placements(alloc: Global, frame: &PageFrame) -> Result<Vec<FrameChang
 
 // The change that ends each signal of the frame.
 fn ends_of_signals(alloc: Global, frame: &PageFrame) -> Result<Vec<FrameChange>, NoMemory>
-    ensures { IfOk result (λ ends. ends.items ≡ map (λ s. FrameChange.DropSignal s.name) frame.now.layout.signals) }
+    ensures { IfOk result (λ ends.
+        ends.items ≡ map (λ s. FrameChange.DropSignal s.name) frame.now.layout.signals) }
 {
     let mut ends = Vec::new(alloc);
     for signal in frame.layout.signals() {

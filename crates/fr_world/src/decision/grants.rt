@@ -51,14 +51,16 @@ fn in_use(page: &Page, slot: Slot, channel: Channel) -> bool
 {
     page.frames().values().any(
         |frame|
-            ensures { result ≡ list_any (fills (slot, channel)) (placements_in (frame_of (frame_data frame.now))) }
+            ensures { result ≡ list_any (fills (slot, channel))
+                (placements_in (frame_of (frame_data frame.now))) }
         { uses(frame, slot, channel) },
     )
 }
 
 // Whether a placement of the frame fills the slot on the channel.
 fn uses(frame: &PageFrame, slot: Slot, channel: Channel) -> bool
-    ensures { result ≡ list_any (fills (slot, channel)) (placements_in (frame_of (frame_data frame.now))) }
+    ensures { result ≡ list_any (fills (slot, channel))
+        (placements_in (frame_of (frame_data frame.now))) }
 {
     frame.placements.iter().any(
         |placement|

@@ -42,7 +42,8 @@ pub fn decide_rows(alloc: Global, page: Page, rows: &[RowRead]) -> Result<Draft,
     requires open { page.released ≡ false }
     requires checked { AreChecked page.params rows.now }
     ensures edits { IfOk result (λ draft. rows_decision page rows.now ≡ Ok draft.edits.items) }
-    ensures leads { IfOk result (λ draft. Leads page.variant (own_rows_of page) draft.edits.items (own_rows_of draft.page)) }
+    ensures leads { IfOk result (λ draft.
+        Leads page.variant (own_rows_of page) draft.edits.items (own_rows_of draft.page)) }
     ensures page { IfOk result (λ draft. IsOfSame page draft.page) }
     ensures still { IfOk result (λ draft. list_any releases draft.edits.items ≡ false) }
     ensures fault { IfErr result (IsFault (rows_decision page rows.now)) }
@@ -59,7 +60,8 @@ pub fn decide_rows(alloc: Global, page: Page, rows: &[RowRead]) -> Result<Draft,
 // Does what the row asks, unless its own text refuses it.
 fn make_read(alloc: Global, draft: &mut Draft, read: &RowRead) -> Result<(), RowFault>
     requires checked { IfOk read.now.row (IsCheckedRow draft.old.page.params) }
-    ensures ok { OnOk result (make_read (draft_data draft.old) read.now ≡ Ok (draft_data draft.new)) }
+    ensures ok { OnOk result (make_read (draft_data draft.old) read.now
+        ≡ Ok (draft_data draft.new)) }
     ensures fault { IfErr result (IsFault (make_read (draft_data draft.old) read.now)) }
 {
     let line = read.line;

@@ -17,7 +17,8 @@ pub(super) fn admit_placement(
     frame: Name,
     placement: &Placement,
 ) -> Result<(), Refusal>
-    ensures { result ≡ admits_alone (own_rows_of page.now) (Change.Frame frame (FrameChange.Place placement.now)) }
+    ensures { result ≡ admits_alone (own_rows_of page.now)
+        (Change.Frame frame (FrameChange.Place placement.now)) }
 {
     has_room(page, frame, placement)?;
     is_free(page.cells(), placement)
@@ -55,7 +56,8 @@ fn is_free<O: Occupancy>(occupancy: &O, placement: &Placement) -> Result<(), Ref
 /// `NoFrame` or `NoPlacement`, where one refuses the end of the frame's placement.
 #[tactic(auto, unfolding(crate::proofs::DecideRows::decide_open))]
 pub(super) fn admit_end(page: &Page, frame: Name, placement: &Placement) -> Result<(), Refusal>
-    ensures { result ≡ admits_alone (own_rows_of page.now) (Change.Frame frame (FrameChange.Unplace placement.now)) }
+    ensures { result ≡ admits_alone (own_rows_of page.now)
+        (Change.Frame frame (FrameChange.Unplace placement.now)) }
 {
     let row = frame_named(page, frame).ok_or(Refusal::NoFrame)?;
     if !row.placements.contains(placement) {

@@ -27,8 +27,10 @@ use std::alloc::Global;
 pub fn decide_replacement(alloc: Global, page: Page, rows: &[RowRead]) -> Result<Draft, RowFault>
     requires open { page.released ≡ false }
     requires checked { AreChecked page.params rows.now }
-    ensures edits { IfOk result (λ draft. replacement_decision page rows.now ≡ Ok draft.edits.items) }
-    ensures leads { IfOk result (λ draft. Leads page.variant (own_rows_of page) draft.edits.items (own_rows_of draft.page)) }
+    ensures edits { IfOk result (λ draft.
+        replacement_decision page rows.now ≡ Ok draft.edits.items) }
+    ensures leads { IfOk result (λ draft.
+        Leads page.variant (own_rows_of page) draft.edits.items (own_rows_of draft.page)) }
     ensures page { IfOk result (λ draft. IsOfSame page draft.page) }
     ensures still { IfOk result (λ draft. list_any releases draft.edits.items ≡ false) }
     ensures fault { IfErr result (IsFault (replacement_decision page rows.now)) }
@@ -70,7 +72,8 @@ pub(super) fn free_row(alloc: Global, draft: &mut Draft, row: &Row) -> Result<()
 // Does what the row asks, unless its own text refuses it.
 fn replace_read(alloc: Global, draft: &mut Draft, read: &RowRead) -> Result<(), RowFault>
     requires checked { IfOk read.now.row (IsCheckedRow draft.old.page.params) }
-    ensures ok { OnOk result (replace_read (draft_data draft.old) read.now ≡ Ok (draft_data draft.new)) }
+    ensures ok { OnOk result (replace_read (draft_data draft.old) read.now
+        ≡ Ok (draft_data draft.new)) }
     ensures fault { IfErr result (IsFault (replace_read (draft_data draft.old) read.now)) }
 {
     let line = read.line;

@@ -12,7 +12,8 @@ use fr_base::{Change, FrameChange, Name, Refusal, Signal};
 /// to the frame.
 #[tactic(auto, unfolding(crate::proofs::DecideRows::decide_open))]
 pub(super) fn admit_signal(page: &Page, frame: Name, signal: &Signal) -> Result<(), Refusal>
-    ensures { result ≡ admits_alone (own_rows_of page.now) (Change.Frame frame (FrameChange.AddSignal signal.now)) }
+    ensures { result ≡ admits_alone (own_rows_of page.now)
+        (Change.Frame frame (FrameChange.AddSignal signal.now)) }
 {
     let row = frame_named(page, frame).ok_or(Refusal::NoFrame)?;
     row.layout.admits(signal)
@@ -21,7 +22,8 @@ pub(super) fn admit_signal(page: &Page, frame: Name, signal: &Signal) -> Result<
 /// `NoFrame` or `NoSignal`, where one refuses the end of the frame's signal of this name.
 #[tactic(auto, unfolding(crate::proofs::DecideRows::decide_open))]
 pub(super) fn admit_end(page: &Page, frame: Name, signal: Name) -> Result<(), Refusal>
-    ensures { result ≡ admits_alone (own_rows_of page.now) (Change.Frame frame (FrameChange.DropSignal signal)) }
+    ensures { result ≡ admits_alone (own_rows_of page.now)
+        (Change.Frame frame (FrameChange.DropSignal signal)) }
 {
     let row = frame_named(page, frame).ok_or(Refusal::NoFrame)?;
     if !has_signal(row.layout.signals(), signal) {

@@ -31,7 +31,8 @@ pub fn try_rows(
     replaces: bool,
 ) -> Result<Rows<FateRow>, Refusal>
     requires checked { AreChecked page.params rows.now }
-    ensures { MatchResult result (λ fates. fates ≡ trial replaces page rows.now) (λ e. e ≡ Unavailable) }
+    ensures { MatchResult result (λ fates. fates ≡ trial replaces page rows.now)
+        (λ e. e ≡ Unavailable) }
 {
     let mut draft = begun(alloc, page, rows, replaces)?;
     let mut fates = Rows::new(alloc);
@@ -44,7 +45,9 @@ pub fn try_rows(
 
 // The page on which the first row is decided.
 fn begun(alloc: Global, page: Page, rows: &[RowRead], replaces: bool) -> Result<Draft, Refusal>
-    ensures { MatchResult result (λ draft. draft_data draft ≡ tried replaces (draft_of page) rows.now) (λ e. e ≡ Unavailable) }
+    ensures { MatchResult result
+        (λ draft. draft_data draft ≡ tried replaces (draft_of page) rows.now)
+        (λ e. e ≡ Unavailable) }
 {
     if replaces {
         freed(alloc, page, rows)
@@ -56,7 +59,9 @@ fn begun(alloc: Global, page: Page, rows: &[RowRead], replaces: bool) -> Result<
 // The page after the frames were freed that the rows name which come before the first row that its
 // own text refuses.
 fn freed(alloc: Global, page: Page, rows: &[RowRead]) -> Result<Draft, Refusal>
-    ensures { MatchResult result (λ draft. draft_data draft ≡ free_rows (draft_of page) (up_to_refused rows.now)) (λ e. e ≡ Unavailable) }
+    ensures { MatchResult result
+        (λ draft. draft_data draft ≡ free_rows (draft_of page) (up_to_refused rows.now))
+        (λ e. e ≡ Unavailable) }
 {
     let mut draft = Draft::new(alloc, page);
     for read in rows {
@@ -96,7 +101,9 @@ fn refusal_of(
     replaces: bool,
 ) -> Result<Option<Refusal>, Refusal>
     requires checked { IsCheckedRow draft.old.page.params row.now }
-    ensures { MatchResult result (IsMade (draft_data draft.old) (draft_data draft.new) (try_row replaces (draft_data draft.old) row.now)) (λ e. e ≡ Unavailable) }
+    ensures { MatchResult result
+        (IsMade (draft_data draft.old) (draft_data draft.new)
+        (try_row replaces (draft_data draft.old) row.now)) (λ e. e ≡ Unavailable) }
 {
     match draft.try_row(alloc, row, replaces) {
         Ok(()) => Ok(None),
@@ -110,9 +117,12 @@ impl Draft {
     // `Unavailable` where memory is refused.
     fn try_row(&mut self, alloc: Global, row: &Row, replaces: bool) -> Result<(), Refusal>
         requires checked { IsCheckedRow self.old.page.params row.now }
-        ensures ok { OnOk result (try_row replaces (draft_data self.old) row.now ≡ Ok (draft_data self.new)) }
-        ensures err { IfErr result (λ e. (e ≡ Unavailable) ⊎ (try_row replaces (draft_data self.old) row.now ≡ Err e)) }
-        ensures left { IfErr result (λ e. (e ≡ Unavailable) ⊎ (draft_data self.new ≡ draft_data self.old)) }
+        ensures ok { OnOk result (try_row replaces (draft_data self.old) row.now
+            ≡ Ok (draft_data self.new)) }
+        ensures err { IfErr result (λ e. (e ≡ Unavailable)
+            ⊎ (try_row replaces (draft_data self.old) row.now ≡ Err e)) }
+        ensures left { IfErr result
+            (λ e. (e ≡ Unavailable) ⊎ (draft_data self.new ≡ draft_data self.old)) }
     {
         match row {
             Row::AddFrame { frame, node } => self.try_frame(alloc, *frame, *node, replaces),
@@ -133,9 +143,12 @@ impl Draft {
         node: Name,
         replaces: bool,
     ) -> Result<(), Refusal>
-        ensures ok { OnOk result (try_row replaces (draft_data self.old) (row.AddFrame frame node) ≡ Ok (draft_data self.new)) }
-        ensures err { IfErr result (λ e. (e ≡ Unavailable) ⊎ (try_row replaces (draft_data self.old) (row.AddFrame frame node) ≡ Err e)) }
-        ensures left { IfErr result (λ e. (e ≡ Unavailable) ⊎ (draft_data self.new ≡ draft_data self.old)) }
+        ensures ok { OnOk result (try_row replaces (draft_data self.old) (row.AddFrame frame node)
+            ≡ Ok (draft_data self.new)) }
+        ensures err { IfErr result (λ e. (e ≡ Unavailable)
+            ⊎ (try_row replaces (draft_data self.old) (row.AddFrame frame node) ≡ Err e)) }
+        ensures left { IfErr result
+            (λ e. (e ≡ Unavailable) ⊎ (draft_data self.new ≡ draft_data self.old)) }
     {
         if replaces {
             self.make_frame(alloc, frame, node)
@@ -153,9 +166,12 @@ impl Draft {
         placement: Placement,
     ) -> Result<(), Refusal>
         requires checked { FitsCluster self.old.page.params placement }
-        ensures ok { OnOk result (make_row (draft_data self.old) (row.Place frame node placement) ≡ Ok (draft_data self.new)) }
-        ensures err { IfErr result (λ e. (e ≡ Unavailable) ⊎ (make_row (draft_data self.old) (row.Place frame node placement) ≡ Err e)) }
-        ensures left { IfErr result (λ e. (e ≡ Unavailable) ⊎ (draft_data self.new ≡ draft_data self.old)) }
+        ensures ok { OnOk result (make_row (draft_data self.old) (row.Place frame node placement)
+            ≡ Ok (draft_data self.new)) }
+        ensures err { IfErr result (λ e. (e ≡ Unavailable)
+            ⊎ (make_row (draft_data self.old) (row.Place frame node placement) ≡ Err e)) }
+        ensures left { IfErr result
+            (λ e. (e ≡ Unavailable) ⊎ (draft_data self.new ≡ draft_data self.old)) }
     {
         if frame_named(&self.page, frame).is_some() {
             self.make_frame(alloc, frame, node)?;
@@ -175,10 +191,14 @@ impl Draft {
         placement: Placement,
     ) -> Result<(), Refusal>
         requires checked { FitsCluster self.old.page.params placement }
-        requires new { get (own_rows_of self.old.page).frames (self.old.page.supplier, frame) ≡ None }
-        ensures ok { OnOk result (make_row (draft_data self.old) (row.Place frame node placement) ≡ Ok (draft_data self.new)) }
-        ensures err { IfErr result (λ e. (e ≡ Unavailable) ⊎ (make_row (draft_data self.old) (row.Place frame node placement) ≡ Err e)) }
-        ensures left { IfErr result (λ e. (e ≡ Unavailable) ⊎ (draft_data self.new ≡ draft_data self.old)) }
+        requires new { get (own_rows_of self.old.page).frames (self.old.page.supplier, frame)
+            ≡ None }
+        ensures ok { OnOk result (make_row (draft_data self.old) (row.Place frame node placement)
+            ≡ Ok (draft_data self.new)) }
+        ensures err { IfErr result (λ e. (e ≡ Unavailable)
+            ⊎ (make_row (draft_data self.old) (row.Place frame node placement) ≡ Err e)) }
+        ensures left { IfErr result
+            (λ e. (e ≡ Unavailable) ⊎ (draft_data self.new ≡ draft_data self.old)) }
     {
         let edits = self.edits.len();
         self.make_frame(alloc, frame, node)?;

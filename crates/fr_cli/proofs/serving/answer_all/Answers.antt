@@ -1,7 +1,7 @@
-use Rattle.std.proofs.Common.{◌≡◌, ◌≤◌, ◌+◌, ◌∷◌, ◌++◌, [], Err, inl, inr, length, refl, sym, ap, subst, ◌∙◌, length-append, arith, rules}
+use Rattle.std.proofs.Common.{◌≡◌, ◌≤◌, ◌+◌, List, ◌∷◌, ◌++◌, [], Err, inl, inr, length, refl, sym, ap, subst, ◌∙◌, length-append, arith, rules}
 use Rattle.std.proofs.KnownBytes.{Keeps-refl}
 use Rattle.fr_cli.specs.Serving.{ServesAll, TellsEach}
-use Rattle.fr_cli.specs.Visits.{AreVisited}
+use Rattle.fr_cli.specs.Visits.{AreVisited, Visit}
 use Rattle.fr_cli.proofs.ServingLaws.{served_until, serves_none, serves_then, tells_then}
 use Rattle.fr_cli.proofs.VisitLaws.{visited_then}
 use Rattle.fr_cli.proofs.serving.answer_all.Goals as goal
@@ -26,7 +26,7 @@ loop-preserved g c =
       falls = λ clean. l.falls (c.answer_next.ensures.falls clean);
       visits = l.visits ++ visit ∷ [];
       each = length-append l.visits (visit ∷ []) ∙ ap (λ n. n + 1) l.each;
-      came_in = visited_then _ _ _ _ _ _ l.visits visit l.came_in came;
+      came_in = visited_then _ _ _ _ _ _ _ l.visits visit l.came_in came;
       served = serves_then _ _ _ _ _ l.visits visit c.answer_next.ensures.falls l.served serves;
       told = tells_then _ _ _ l.visits (visit ∷ []) l.told tells;
     }
@@ -36,10 +36,13 @@ returns-in_err-lasts-clause-served g c =
     let l = c.loop.invariant in
     let fault = c.in_err-lasts.field-0.0 in
     let is : c.from_residual.result ≡ Err fault = search rules in
-    let (cannot, stood, same, kept) = c.in_err-lasts.ensures.fault in
+    let (cannot, ended, stood, same, kept) = c.in_err-lasts.ensures.fault in
+    let came_in = λ (visits : List Visit).
+    AreVisited g.L.Listener g.L.Reader.Read g.L.Writer.Write c.args.service.now.seconds c.args.listener.now visits c.answer_next.new.listener in
     let few : length l.visits ≤ c.args.service.now.count = subst (λ n. n ≤ c.args.service.now.count) (sym l.each) (omega arith) in
-    served_until _ _ _ c.args.service.now.count _ _ _ c.from_residual.result fault l.visits is cannot
-    (subst (λ now. AreVisited g.L.Listener g.L.Reader.Read g.L.Writer.Write c.args.listener.now l.visits now) (sym stood) l.came_in)
+    served_until _ _ _ c.args.service.now.count _ came_in _ _ c.from_residual.result fault l.visits is cannot
+    (subst (λ now. g.L.Listener.ends now) (sym stood) ended)
+    (subst (λ now. AreVisited g.L.Listener g.L.Reader.Read g.L.Writer.Write c.args.service.now.seconds c.args.listener.now l.visits now) (sym stood) l.came_in)
     (subst (λ d. ServesAll (g.D.Desk.clean d) (g.D.Desk.stands c.args.desk.now) (g.D.Desk.stands d) l.visits) (sym same) l.served)
     (subst (λ told. TellsEach (g.E.Write.contents c.args.err.now.writer.now) told l.visits) (sym kept) l.told)
     few
@@ -51,7 +54,7 @@ returns-then-not-lasts-clause-served g c =
     let each : length (l.visits ++ visit ∷ []) ≡ c.loop.counter + 1 = length-append l.visits (visit ∷ []) ∙ ap (λ n. n + 1) l.each in
     record {
       visits = l.visits ++ visit ∷ [];
-      came_in = visited_then _ _ _ _ _ _ l.visits visit l.came_in came;
+      came_in = visited_then _ _ _ _ _ _ _ l.visits visit l.came_in came;
       served = serves_then _ _ _ _ _ l.visits visit c.answer_next.ensures.falls l.served serves;
       told = tells_then _ _ _ l.visits (visit ∷ []) l.told tells;
       all = tt;

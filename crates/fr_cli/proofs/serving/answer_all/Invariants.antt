@@ -10,7 +10,7 @@ invariant-loop g l = record {
   falls : g.D.Desk.clean l.desk → g.D.Desk.clean l.fn.desk;
   visits : List Visit;
   each : length visits ≡ l.counter;
-  came_in : AreVisited g.L.Listener g.L.Reader.Read g.L.Writer.Write l.fn.listener visits l.listener;
+  came_in : AreVisited g.L.Listener g.L.Reader.Read g.L.Writer.Write l.service.seconds l.fn.listener visits l.listener;
   served : ServesAll (g.D.Desk.clean l.desk) (g.D.Desk.stands l.fn.desk) (g.D.Desk.stands l.desk) visits;
   told : TellsEach (g.E.Write.contents l.fn.err.writer.now) (g.E.Write.contents l.err.writer.now) visits;
 }

@@ -1,4 +1,5 @@
-use Rattle.std.proofs.Common.{◌≡◌, Err, inl, inr, refl, rules}
+use Rattle.std.proofs.Common.{◌≡◌, List, Err, inl, inr, refl, rules}
+use Rattle.fr_cli.specs.Visits.{AreVisitedAt, Visit}
 use Rattle.fr_cli.proofs.ServingLaws.{served_early, served_said}
 use Rattle.fr_cli.proofs.serving.listen.Goals as goal
 
@@ -6,16 +7,22 @@ pub returns-in_err-begin-clause-served : goal.returns-in_err-begin-clause-served
 returns-in_err-begin-clause-served g c =
     let fault = c.in_err-begin.field-0.0 in
     let is : c.from_residual.result ≡ Err fault = search rules in
-    let (cannot, stood) = c.in_err-begin.ensures.err in
-    served_early _ _ c.args.service.count _ _ (g.E.Write.contents c.args.err.now.writer.now) c.from_residual.result fault is (inl cannot) (inl (refl, stood))
+    let (cannot, refused, stood) = c.in_err-begin.ensures.err in
+    let came_in = λ (visits : List Visit).
+    AreVisitedAt g.L.Listener g.L.Reader.Read g.L.Writer.Write c.args.service.port c.args.service.seconds c.args.listener.now visits c.begin.new.listener in
+    served_early _ _ c.args.service.count _ _ came_in (g.E.Write.contents c.args.err.now.writer.now) c.from_residual.result fault is
+    (inl (cannot, inl (refused, stood))) (inl (refl, stood))
 
 pub returns-in_err-announce-clause-served : goal.returns-in_err-announce-clause-served
 returns-in_err-announce-clause-served g c =
     let fault = c.in_err-announce.field-0.0 in
     let is : c.from_residual-in_err-announce.result ≡ Err fault = search rules in
-    served_early _ _ c.args.service.count _ _ (g.E.Write.contents c.args.err.now.writer.now)
+    let came_in = λ (visits : List Visit).
+    AreVisitedAt g.L.Listener g.L.Reader.Read g.L.Writer.Write c.args.service.port c.args.service.seconds c.args.listener.now visits c.begin.new.listener in
+    served_early _ _ c.args.service.count _ _ came_in (g.E.Write.contents c.args.err.now.writer.now)
     c.from_residual-in_err-announce.result fault is (inr (inr (refl, c.in_err-announce.ensures.fault))) (inr (c.begin.new.listener, c.in_ok-begin.ensures.ok, refl))
 
 pub returns-clause-served : goal.returns-clause-served
 returns-clause-served g c =
-    served_said _ _ _ _ _ _ _ _ _ _ c.in_ok-announce.ensures.announced.1 (λ visits came. inr (c.begin.new.listener, c.in_ok-begin.ensures.ok, came)) c.answer_all.ensures.served
+    served_said _ _ _ _ _ _ _ _ _ _ _ _ c.in_ok-announce.ensures.announced.1 (λ visits came. inr (c.begin.new.listener, c.in_ok-begin.ensures.ok, came)) (λ ended. inr ended)
+    c.answer_all.ensures.served

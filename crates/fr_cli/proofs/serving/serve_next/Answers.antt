@@ -7,7 +7,7 @@ pub returns-clause-served : goal.returns-clause-served
 returns-clause-served g c =
     let one = c.serve_one-done.ensures.served in
     let visit = visit_on _ _ _ _ _ _ _ c.serve_one-done.result one in
-    let visited : IsVisited g.L.Listener g.L.Reader.Read g.L.Writer.Write c.args.listener.now visit c.close.new.self = record {
+    let visited : IsVisited g.L.Listener g.L.Reader.Read g.L.Writer.Write c.args.seconds c.args.listener.now visit c.close.new.self = record {
       input = c.in_ok-reader.reader;
       output = c.in_ok-reader.writer;
       between = c.accept.new.self;

@@ -1,5 +1,6 @@
 use Rattle.std.proofs.Common.{ap, refl, true, ◌≡◌, ◌∙◌, sym, Some, None, inr, map, subst, string_bytes}
 use Rattle.clap.specs.Words.{App, HasKind, fault_of, is_simple, is_simple_and_free, subcommand_of}
+use Rattle.fr_cli.proofs.TakenJobs.{object_lacks}
 use Rattle.fr_cli.proofs.WordLaws.{handed_on, refused_by}
 use Rattle.fr_cli.proofs.words.read.Goals as goal
 use Rattle.fr_cli.specs.Commands.{slotplan}
@@ -37,4 +38,4 @@ returns-clause-fault c =
     let taken = ap (λ (a : App). fault_of a asked) (sym c.in_ok-program.ensures.0)
     ∙ c.in_ok-matches.ensures.kinds (ap is_simple_and_free c.in_ok-program.ensures.0 ∙ free) in
     let none = subst (IsJobFound None) (read ∙ ap (λ (a : App). subcommand_of a asked) c.in_ok-program.ensures.0) c.in-None.ensures in
-    inr (inr (c.in_ok-error-in-None.ensures.kind, taken, none))
+    inr (inr (c.in_ok-error-in-None.ensures.kind, taken, none, object_lacks asked taken none))

@@ -1,4 +1,4 @@
-use Rattle.std.proofs.Common.{arith, subst, sym}
+use Rattle.std.proofs.Common.{rules, subst, sym}
 use Rattle.sqlite.specs.Files.{file_state}
 use Rattle.sqlite.specs.State.{HasCleanDisk}
 use Rattle.sqlite_trees.proofs.Doubt.{no_doubt}
@@ -14,8 +14,7 @@ returns-in-Ok-clause-clean g c are =
 
 pub returns-in-Err-clause-still : goal.returns-in-Err-clause-still
 returns-in-Err-clause-still g c clean =
-    let before : HasCleanDisk (file_state c.into_connection-conn.result) =
-    omega (arith, c.in-Err.ensures.err.0.quiet.clean, no_doubt _ clean) in
+    let before : HasCleanDisk (file_state c.into_connection-conn.result) = search (rules, no_doubt _ clean) in
     subst (λ s. HasCleanDisk (file_state s.conn)) c.into_records.ensures (subst (λ conn. HasCleanDisk (file_state conn)) c.into_connection-conn.ensures before)
 
 pub returns-in-Err-clause-left : goal.returns-in-Err-clause-left

@@ -2,6 +2,7 @@ use Rattle.std.proofs.Common.{rules, ◌≡◌, ◌<◌, ◌≤◌, ◌+◌, ◌
 use Rattle.std.proofs.lemmas.List.{take-append-le}
 use Rattle.std.proofs.KnownBytes.{Consumes-trans}
 use Rattle.fr_http.proofs.ReadingLaws.{enough, longer}
+use Rattle.fr_http.proofs.ReadsLaws.{spends_more}
 use Rattle.fr_http.proofs.body.read_body.Goals as goal
 
 pub loop-piece-preserved : goal.loop-piece-preserved
@@ -19,6 +20,7 @@ loop-piece-preserved g c =
       consumed = Consumes-trans _ _ _ _ _ l.invariant.consumed c.in_ok-n.ensures.bytes;
       front = items ∙ longer c.args.length c.args.begun.now l.invariant.read more l.body.items l.invariant.front short room;
       few = enough c.args.length c.args.begun.now l.invariant.read more l.body.items l.invariant.front short room;
+      spends = spends_more g.R.Source.reads _ _ _ _ _ _ l.invariant.spends c.in_ok-n.ensures.spends;
     }
 
 pub returns-in_err-extend_from_slice-2-clause-body : goal.returns-in_err-extend_from_slice-2-clause-body

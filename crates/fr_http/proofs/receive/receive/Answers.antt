@@ -2,10 +2,11 @@ use Rattle.std.proofs.Common.{rules, ◌≡◌, ◌≤◌, ◌-◌, ◌++◌, re
 use Rattle.std.proofs.KnownBytes.{Consumes-trans}
 use Rattle.std.proofs.lemmas.List.{take-append-le}
 use Rattle.std.specs.Io.KnownBytes.{Consumes}
-use Rattle.httparse.specs.Grammar.{HasNoRequest, NeverHasRequest}
+use Rattle.httparse.specs.Grammar.{HasNoRequest, MayBecomeRequest, NeverHasRequest}
 use Rattle.httparse.specs.Spans.{IsRequestOf, IsRequestWithin, RequestExceeds, RequestOverflows}
 use Rattle.fr_http.specs.Reading.{Receives}
-use Rattle.fr_http.proofs.ReadingLaws.{crowded_head, never_head, no_request_at_first, receives, within_room}
+use Rattle.fr_http.proofs.ReadingLaws.{crowded_head, may_become_at_first, never_head, no_request_at_first, receives, within_room}
+use Rattle.fr_http.proofs.ReadsLaws.{spends_more, spends_none}
 use Rattle.fr_http.proofs.receive.receive.Goals as goal
 
 pub loop-fields-init : goal.loop-fields-init
@@ -15,7 +16,27 @@ loop-fields-init g c = record {
   size = search rules;
   consumed = search rules;
   none = subst HasNoRequest (sym c.new-bytes.ensures.items) no_request_at_first;
+  unfinished = subst MayBecomeRequest (sym c.new-bytes.ensures.items) may_become_at_first;
+  spends = spends_none g.R.Source.reads _ _;
 }
+
+pub loop-fields-preserved : goal.loop-fields-preserved
+loop-fields-preserved g c =
+    let l = c.loop-fields in
+    let bytes = c.extend_from_slice.new.self.items in
+    let more = take c.in_ok-n.n c.read.new.piece in
+    let items : bytes ≡ l.bytes.items ++ more = c.in_ok-extend_from_slice.ensures.items ∙ ap (λ t. l.bytes.items ++ t) (take-append-le c.in_ok-n.n c.read.new.piece _ c.in_ok-n.ensures.bound) in
+    let before : Consumes (g.R.Read.remaining c.args.input.now.reader.now) (g.R.Read.remaining c.read.new.self.reader.now) (l.bytes.items ++ more) =
+    Consumes-trans _ _ _ _ _ l.invariant.consumed c.in_ok-n.ensures.bytes in
+    record {
+      same = c.in_ok-n.ensures.same ∙ l.invariant.same;
+      room = search rules;
+      size = search rules;
+      consumed = subst (Consumes _ _) (sym items) before;
+      none = search rules;
+      unfinished = search rules;
+      spends = spends_more g.R.Source.reads _ _ _ _ _ _ l.invariant.spends c.in_ok-n.ensures.spends;
+    }
 
 pub returns-in-Ok-Complete-clause-received : goal.returns-in-Ok-Complete-clause-received
 returns-in-Ok-Complete-clause-received g c =
@@ -59,6 +80,8 @@ returns-in-Err g c =
     let size : length bytes ≤ 8192 = search rules in
     record {
       received = (bytes, subst (Consumes _ _) (sym items) before, record { none = never_head bytes never; fails = never }, size);
+      spends = spends_more g.R.Source.reads _ _ _ _ _ _ l.invariant.spends c.in_ok-n.ensures.spends;
+      ended = tt;
       same = c.in_ok-n.ensures.same ∙ l.invariant.same;
     }
 

@@ -1,35 +1,118 @@
-use Rattle.std.proofs.Common.{rules, sym, subst, ◌≡◌, Ok, inl}
+use Rattle.std.proofs.Common.{◌≡◌, ◌∙◌, ap, inl, subst, sym}
 use Rattle.fr_base.specs.declared.actor.Actor.TheVariants.{Supplier}
-use Rattle.fr_base.specs.declared.answer.Answer.TheVariants.{Done}
 use Rattle.fr_base.specs.declared.request.Checked.{Checked}
+use Rattle.fr_base.specs.declared.request.Checked.TheVariants as checked
+use Rattle.fr_base.specs.declared.request.Command.TheVariants as command
+use Rattle.fr_base.specs.Step.{add_node, add_supplier, set_key, change_rows, common, perform}
 use Rattle.fr_office.specs.Answering.{Acts, HasPassed, LeavesAct}
-use Rattle.fr_office.proofs.StepLaws.{command_done, command_refused, import_acts, query_acts, replacement_acts, trial_acts}
-use Rattle.fr_office.proofs.CheckedLaws.{from-known}
-use Rattle.fr_office.proofs.CrashLaws.{act_command, act_import, act_replace}
+use Rattle.fr_office.proofs.StepLaws.{command_acts, import_acts, query_acts, replacement_acts, trial_acts}
+use Rattle.fr_office.proofs.CheckedLaws.{of-known}
+use Rattle.fr_office.proofs.CommandLaws.{performed}
+use Rattle.fr_office.proofs.CrashLaws.{act_command, act_import, act_replace, may_perform}
 use Rattle.fr_office.proofs.answering.act.Goals as goal
 
-pub carry_out-requires : goal.carry_out-requires
-carry_out-requires g c =
-    let stands = g.R.Records.stands c.args.records.now in
-    let fits = subst (λ (valid : Checked). HasPassed (g.R.Records.params c.args.records.now) c.args.actor.now valid) c.in-Command.is c.requires.passed in
-    record { checked = fits.0; known = from-known stands c.args.actor.now c.in-Command.command fits.1 c.requires.known }
+pub change_rows-requires : goal.change_rows-requires
+change_rows-requires g c =
+    let fits = subst (λ (valid : Checked). HasPassed (g.R.Records.params c.args.records.now) c.args.actor.now valid) (c.in-Command.is ∙ ap checked.Command c.in-Rows.is) c.requires.passed in
+    record { checked = fits.0; known = λ cl b stood. of-known b c.args.actor.now c.in-Rows.supplier c.in-Rows.change fits.1 (c.requires.known cl b stood) }
+
+pub returns-in-Common-clause-acts : goal.returns-in-Common-clause-acts
+unfolding perform
+returns-in-Common-clause-acts g c = λ clean.
+    let old = g.R.Records.stands c.args.records.now in
+    let new = g.R.Records.stands c.change_common.new.records in
+    subst (λ (valid : Checked). Acts old new c.done.result c.args.actor.now valid) (sym (c.in-Command.is ∙ ap checked.Command c.in-Common.is))
+    (command_acts old new c.args.actor.now (command.Common c.in-Common.command) c.change_common.result c.done.result c.done.ensures
+    (performed old new c.change_common.result (λ cl b. common b c.in-Common.command) (c.change_common.ensures.does clean)))
+
+pub returns-in-Common-clause-leaves : goal.returns-in-Common-clause-leaves
+unfolding perform
+returns-in-Common-clause-leaves g c = λ clean.
+    let records = g.R.Records in
+    let stands = records.stands c.args.records.now in
+    let old = records.leaves c.args.records.now in
+    let new = records.leaves c.change_common.new.records in
+    subst (λ (valid : Checked). LeavesAct stands old new c.args.actor.now valid) (sym (c.in-Command.is ∙ ap checked.Command c.in-Common.is))
+    (act_command stands old new c.args.actor.now (command.Common c.in-Common.command) (may_perform stands old new (λ cl b. common b c.in-Common.command) (c.change_common.ensures.leaves clean)))
+
+pub returns-in-AddSupplier-clause-acts : goal.returns-in-AddSupplier-clause-acts
+unfolding perform
+returns-in-AddSupplier-clause-acts g c = λ clean.
+    let old = g.R.Records.stands c.args.records.now in
+    let new = g.R.Records.stands c.add_supplier.new.records in
+    subst (λ (valid : Checked). Acts old new c.done-in-AddSupplier.result c.args.actor.now valid) (sym (c.in-Command.is ∙ ap checked.Command c.in-AddSupplier.is))
+    (command_acts old new c.args.actor.now (command.AddSupplier c.in-AddSupplier.supplier c.in-AddSupplier.key) c.add_supplier.result c.done-in-AddSupplier.result c.done-in-AddSupplier.ensures
+    (performed old new c.add_supplier.result (λ cl b. add_supplier cl b c.in-AddSupplier.supplier c.in-AddSupplier.key) (c.add_supplier.ensures.does clean)))
+
+pub returns-in-AddSupplier-clause-leaves : goal.returns-in-AddSupplier-clause-leaves
+unfolding perform
+returns-in-AddSupplier-clause-leaves g c = λ clean.
+    let records = g.R.Records in
+    let stands = records.stands c.args.records.now in
+    let old = records.leaves c.args.records.now in
+    let new = records.leaves c.add_supplier.new.records in
+    subst (λ (valid : Checked). LeavesAct stands old new c.args.actor.now valid) (sym (c.in-Command.is ∙ ap checked.Command c.in-AddSupplier.is))
+    (act_command stands old new c.args.actor.now (command.AddSupplier c.in-AddSupplier.supplier c.in-AddSupplier.key) (may_perform stands old new (λ cl b. add_supplier cl b c.in-AddSupplier.supplier c.in-AddSupplier.key) (c.add_supplier.ensures.leaves clean)))
+
+pub returns-in-SetKey-clause-acts : goal.returns-in-SetKey-clause-acts
+unfolding perform
+returns-in-SetKey-clause-acts g c = λ clean.
+    let old = g.R.Records.stands c.args.records.now in
+    let new = g.R.Records.stands c.set_key.new.records in
+    subst (λ (valid : Checked). Acts old new c.done-in-SetKey.result c.args.actor.now valid) (sym (c.in-Command.is ∙ ap checked.Command c.in-SetKey.is))
+    (command_acts old new c.args.actor.now (command.SetKey c.in-SetKey.supplier c.in-SetKey.key) c.set_key.result c.done-in-SetKey.result c.done-in-SetKey.ensures
+    (performed old new c.set_key.result (λ cl b. set_key cl b c.in-SetKey.supplier c.in-SetKey.key) (c.set_key.ensures.does clean)))
+
+pub returns-in-SetKey-clause-leaves : goal.returns-in-SetKey-clause-leaves
+unfolding perform
+returns-in-SetKey-clause-leaves g c = λ clean.
+    let records = g.R.Records in
+    let stands = records.stands c.args.records.now in
+    let old = records.leaves c.args.records.now in
+    let new = records.leaves c.set_key.new.records in
+    subst (λ (valid : Checked). LeavesAct stands old new c.args.actor.now valid) (sym (c.in-Command.is ∙ ap checked.Command c.in-SetKey.is))
+    (act_command stands old new c.args.actor.now (command.SetKey c.in-SetKey.supplier c.in-SetKey.key) (may_perform stands old new (λ cl b. set_key cl b c.in-SetKey.supplier c.in-SetKey.key) (c.set_key.ensures.leaves clean)))
+
+pub returns-in-AddNode-clause-acts : goal.returns-in-AddNode-clause-acts
+unfolding perform
+returns-in-AddNode-clause-acts g c = λ clean.
+    let old = g.R.Records.stands c.args.records.now in
+    let new = g.R.Records.stands c.add_node.new.records in
+    subst (λ (valid : Checked). Acts old new c.done-in-AddNode.result c.args.actor.now valid) (sym (c.in-Command.is ∙ ap checked.Command c.in-AddNode.is))
+    (command_acts old new c.args.actor.now (command.AddNode c.in-AddNode.supplier c.in-AddNode.node) c.add_node.result c.done-in-AddNode.result c.done-in-AddNode.ensures
+    (performed old new c.add_node.result (λ cl b. add_node b c.in-AddNode.supplier c.in-AddNode.node) (c.add_node.ensures.does clean)))
+
+pub returns-in-AddNode-clause-leaves : goal.returns-in-AddNode-clause-leaves
+unfolding perform
+returns-in-AddNode-clause-leaves g c = λ clean.
+    let records = g.R.Records in
+    let stands = records.stands c.args.records.now in
+    let old = records.leaves c.args.records.now in
+    let new = records.leaves c.add_node.new.records in
+    subst (λ (valid : Checked). LeavesAct stands old new c.args.actor.now valid) (sym (c.in-Command.is ∙ ap checked.Command c.in-AddNode.is))
+    (act_command stands old new c.args.actor.now (command.AddNode c.in-AddNode.supplier c.in-AddNode.node) (may_perform stands old new (λ cl b. add_node b c.in-AddNode.supplier c.in-AddNode.node) (c.add_node.ensures.leaves clean)))
+
+pub returns-in-Rows-clause-acts : goal.returns-in-Rows-clause-acts
+unfolding perform
+returns-in-Rows-clause-acts g c = λ clean.
+    let old = g.R.Records.stands c.args.records.now in
+    let new = g.R.Records.stands c.change_rows.new.records in
+    subst (λ (valid : Checked). Acts old new c.done-in-Rows.result c.args.actor.now valid) (sym (c.in-Command.is ∙ ap checked.Command c.in-Rows.is))
+    (command_acts old new c.args.actor.now (command.Rows c.in-Rows.supplier c.in-Rows.variant c.in-Rows.change) c.change_rows.result c.done-in-Rows.result c.done-in-Rows.ensures
+    (performed old new c.change_rows.result (λ cl b. change_rows cl.params b c.in-Rows.supplier c.in-Rows.variant c.in-Rows.change) (c.change_rows.ensures.does clean)))
+
+pub returns-in-Rows-clause-leaves : goal.returns-in-Rows-clause-leaves
+unfolding perform
+returns-in-Rows-clause-leaves g c = λ clean.
+    let records = g.R.Records in
+    let stands = records.stands c.args.records.now in
+    let old = records.leaves c.args.records.now in
+    let new = records.leaves c.change_rows.new.records in
+    subst (λ (valid : Checked). LeavesAct stands old new c.args.actor.now valid) (sym (c.in-Command.is ∙ ap checked.Command c.in-Rows.is))
+    (act_command stands old new c.args.actor.now (command.Rows c.in-Rows.supplier c.in-Rows.variant c.in-Rows.change) (may_perform stands old new (λ cl b. change_rows cl.params b c.in-Rows.supplier c.in-Rows.variant c.in-Rows.change) (c.change_rows.ensures.leaves clean)))
 
 pub reply-requires : goal.reply-requires
 reply-requires g c = subst (λ (valid : Checked). HasPassed (g.R.Records.params c.args.records.now) c.args.actor.now valid) c.in-Query.is c.requires.passed
-
-pub returns-in_err-carry_out-in-Command-clause-acts : goal.returns-in_err-carry_out-in-Command-clause-acts
-returns-in_err-carry_out-in-Command-clause-acts g c = λ clean.
-    let old = g.R.Records.stands c.args.records.now in
-    let new = g.R.Records.stands c.carry_out.new.records in
-    subst (λ (valid : Checked). Acts old new c.from_residual.result c.args.actor.now valid) (sym c.in-Command.is)
-    (command_refused old new c.args.actor.now c.in-Command.command c.from_residual.result c.carry_out.result c.in_err-carry_out-in-Command.field-0.0 (search rules) (search rules) (c.carry_out.ensures.does clean))
-
-pub returns-in_ok-carry_out-in-Command-clause-acts : goal.returns-in_ok-carry_out-in-Command-clause-acts
-returns-in_ok-carry_out-in-Command-clause-acts g c = λ clean.
-    let old = g.R.Records.stands c.args.records.now in
-    let new = g.R.Records.stands c.carry_out.new.records in
-    subst (λ (valid : Checked). Acts old new (Ok Done) c.args.actor.now valid) (sym c.in-Command.is)
-    (command_done old new c.args.actor.now c.in-Command.command c.carry_out.result (search rules) (c.carry_out.ensures.does clean))
 
 pub returns-in-Import-clause-acts : goal.returns-in-Import-clause-acts
 returns-in-Import-clause-acts g c = λ clean.
@@ -61,22 +144,6 @@ returns-in-Query-clause-acts g c = λ clean.
     let new = g.R.Records.stands c.reply.new.records in
     subst (λ (valid : Checked). Acts old new c.reply.result c.args.actor.now valid) (sym c.in-Query.is)
     (query_acts old new c.args.actor.now c.in-Query.query c.reply.result (c.reply.ensures.replies clean))
-
-pub returns-in_err-carry_out-in-Command-clause-leaves : goal.returns-in_err-carry_out-in-Command-clause-leaves
-returns-in_err-carry_out-in-Command-clause-leaves g c = λ clean.
-    let records = g.R.Records in
-    let stands = records.stands c.args.records.now in
-    let old = records.leaves c.args.records.now in
-    let new = records.leaves c.carry_out.new.records in
-    subst (λ (valid : Checked). LeavesAct stands old new c.args.actor.now valid) (sym c.in-Command.is) (act_command stands old new c.args.actor.now c.in-Command.command (c.carry_out.ensures.leaves clean))
-
-pub returns-in_ok-carry_out-in-Command-clause-leaves : goal.returns-in_ok-carry_out-in-Command-clause-leaves
-returns-in_ok-carry_out-in-Command-clause-leaves g c = λ clean.
-    let records = g.R.Records in
-    let stands = records.stands c.args.records.now in
-    let old = records.leaves c.args.records.now in
-    let new = records.leaves c.carry_out.new.records in
-    subst (λ (valid : Checked). LeavesAct stands old new c.args.actor.now valid) (sym c.in-Command.is) (act_command stands old new c.args.actor.now c.in-Command.command (c.carry_out.ensures.leaves clean))
 
 pub returns-in-Import-clause-leaves : goal.returns-in-Import-clause-leaves
 returns-in-Import-clause-leaves g c = λ clean.

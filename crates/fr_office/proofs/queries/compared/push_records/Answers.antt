@@ -17,7 +17,7 @@ loop-name-preserved g c =
     let s = c.supplier-supplier.result in
     let e : Name × PageFrame = (c.in-Some.name.now, c.in-Some.frame.now) in
     let stepped : c.loop-name.name-iterator ≡ e ∷ c.next.new.self = search rules in
-    shown-more (λ e. g.T.FileRecord.records (entry s e)) e c.loop-name.name-iterator c.next.new.self c.loop-name.rows c.push.new.rows _ stepped c.in_ok-push.ensures c.loop-name.invariant
+    shown-more (λ e. g.T.FileRecord.records (entry s e)) e c.loop-name.name-iterator c.next.new.self c.loop-name.rows c.push.new.rows _ stepped c.in_ok-push.ensures.ok c.loop-name.invariant
 
 pub returns : goal.returns
 returns g c = shown-all (λ e. g.T.FileRecord.records (entry c.supplier-supplier.result e)) c.loop-name.name-iterator c.loop-name.rows _ c.in-None.ensures.steps.0 c.loop-name.invariant

@@ -20,7 +20,7 @@ loop-name-preserved-in-Continue-1 g c =
     let stepped : c.loop-name.name-iterator ≡ e ∷ c.next.new.self = search rules in
     pushed-taken g.T.FileRecord.records s e c.loop-name.name-iterator c.next.new.self c.count.result c.loop-name.rows c.loop-name.part c.takes.new.self c.args.rows.now c.args.part.now _
     stepped c.takes.ensures.part (c.count.ensures (s, e.0)) c.loop-name.invariant
-    c.push.new.rows (sym c.takes.ensures.taken ∙ c.if-takes.true) c.in_ok-push.ensures
+    c.push.new.rows (sym c.takes.ensures.taken ∙ c.if-takes.true) c.in_ok-push.ensures.ok
 
 pub loop-name-preserved : goal.loop-name-preserved
 loop-name-preserved g c =

@@ -1,22 +1,22 @@
-use Rattle.std.proofs.Common.{◌≡◌, Ok, false, refl, subst, sym}
+use Rattle.std.proofs.Common.{◌∙◌, Ok, ap, refl, subst, sym}
 use Rattle.std.specs.Prelude.{⊤}
 use Rattle.sqlite.specs.Held.{state}
+use Rattle.fr_base.specs.declared.request.Change.TheVariants.{Frame}
+use Rattle.fr_base.specs.declared.request.FrameChange.TheVariants.{Add, AddSignal, DropSignal, Place, Unplace}
+use Rattle.fr_world.specs.declared.edit.Edit.TheVariants.{Rows}
 use Rattle.fr_store.specs.Applying.{CarriesOut}
-use Rattle.fr_store.specs.Sparing.{changes_frame}
 use Rattle.fr_store.specs.declared.fault.StoreFault.{StoreFault}
 use Rattle.fr_store.proofs.ApplyLemmas.{key_applied, node_applied, supplier_applied}
 use Rattle.fr_store.proofs.ImportEdits.{import_kept}
-use Rattle.fr_store.proofs.VariantEdits.{released}
+use Rattle.fr_store.proofs.EditLemmas.{frame_carried}
+use Rattle.fr_store.proofs.FrameEditLemmas.{added}
+use Rattle.fr_store.proofs.VariantEdits.{granted, released, revoked}
 use Rattle.fr_store.proofs.SparingLemmas.{frames_spared}
 use Rattle.fr_store.proofs.applying.edits.carry_out.Goals as goal
 
 pub returns-in-NewVariant-clause-carried : goal.returns-in-NewVariant-clause-carried
 returns-in-NewVariant-clause-carried g c =
     subst (λ edit. CarriesOut edit (state g.S.Store c.args.tx.now.conn.now) (state g.S.Store c.open_variant.new.tx.conn.now) c.open_variant.result) (sym c.in-NewVariant.is) c.open_variant.ensures.carried
-
-pub returns-in-Rows-clause-carried : goal.returns-in-Rows-clause-carried
-returns-in-Rows-clause-carried g c =
-    subst (λ edit. CarriesOut edit (state g.S.Store c.args.tx.now.conn.now) (state g.S.Store c.change_rows.new.tx.conn.now) c.change_rows.result) (sym c.in-Rows.is) c.change_rows.ensures.carried
 
 pub returns-in_ok-release-in-SetReleased-clause-carried : goal.returns-in_ok-release-in-SetReleased-clause-carried
 returns-in_ok-release-in-SetReleased-clause-carried g c =
@@ -76,5 +76,79 @@ returns-in_ok-insert-in-KeepImport-clause-spared g c none clean inside has =
 pub returns-in-NewVariant-clause-spared : goal.returns-in-NewVariant-clause-spared
 returns-in-NewVariant-clause-spared g c none = c.open_variant.ensures.spared
 
-pub returns-in-Rows-clause-spared : goal.returns-in-Rows-clause-spared
-returns-in-Rows-clause-spared g c none = c.change_rows.ensures.spared (subst (λ edit. changes_frame edit ≡ false) c.in-Rows.is none)
+pub returns-in_ok-insert-in-Grant-clause-carried : goal.returns-in_ok-insert-in-Grant-clause-carried
+returns-in_ok-insert-in-Grant-clause-carried g c =
+    let s = c.in-Rows.supplier in
+    let v = c.in-Rows.variant in
+    let old = state g.S.Store c.args.tx.now.conn.now in
+    let new = state g.S.Store c.insert-in-Grant.new.tx.conn.now in
+    subst (λ edit. CarriesOut {X = ⊤} {E = StoreFault} edit old new (Ok tt)) (sym (c.in-Rows.is ∙ ap (Rows s v) c.in-Grant.is))
+    (λ clean inside cluster b stands fits. granted s v c.in-Grant.node c.in-Grant.slot c.in-Grant.channel old new (c.in_ok-insert-in-Grant.ensures.added clean inside stands.has) cluster b stands fits.0 fits.1.there fits.2.1)
+
+pub returns-in_ok-delete-in-Revoke-clause-carried : goal.returns-in_ok-delete-in-Revoke-clause-carried
+returns-in_ok-delete-in-Revoke-clause-carried g c =
+    let s = c.in-Rows.supplier in
+    let v = c.in-Rows.variant in
+    let old = state g.S.Store c.args.tx.now.conn.now in
+    let new = state g.S.Store c.delete.new.tx.conn.now in
+    subst (λ edit. CarriesOut {X = ⊤} {E = StoreFault} edit old new (Ok tt)) (sym (c.in-Rows.is ∙ ap (Rows s v) c.in-Revoke.is))
+    (λ clean inside cluster b stands fits. revoked s v c.in-Revoke.slot c.in-Revoke.channel old new (c.in_ok-delete-in-Revoke.ensures.ended clean inside stands.has) cluster b stands fits.0 fits.1.there)
+
+pub returns-in_ok-insert-in-Grant-clause-spared : goal.returns-in_ok-insert-in-Grant-clause-spared
+returns-in_ok-insert-in-Grant-clause-spared g c none clean inside has =
+    frames_spared _ (state g.S.Store c.args.tx.now.conn.now) (state g.S.Store c.insert-in-Grant.new.tx.conn.now) (λ t. record { frames = refl; placements = refl; signals = refl; dropped = refl }) (c.in_ok-insert-in-Grant.ensures.added clean inside has)
+
+pub returns-in_ok-delete-in-Revoke-clause-spared : goal.returns-in_ok-delete-in-Revoke-clause-spared
+returns-in_ok-delete-in-Revoke-clause-spared g c none clean inside has =
+    frames_spared _ (state g.S.Store c.args.tx.now.conn.now) (state g.S.Store c.delete.new.tx.conn.now) (λ t. record { frames = refl; placements = refl; signals = refl; dropped = refl }) (c.in_ok-delete-in-Revoke.ensures.ended clean inside has)
+
+pub returns-in_ok-insert-in-Add-clause-carried : goal.returns-in_ok-insert-in-Add-clause-carried
+returns-in_ok-insert-in-Add-clause-carried g c =
+    let s = c.in-Rows.supplier in
+    let v = c.in-Rows.variant in
+    let f = c.in-Frame.frame in
+    let old = state g.S.Store c.args.tx.now.conn.now in
+    let new = state g.S.Store c.insert-in-Add.new.tx.conn.now in
+    subst (λ edit. CarriesOut {X = ⊤} {E = StoreFault} edit old new (Ok tt)) (sym (c.in-Rows.is ∙ ap (Rows s v) (c.in-Frame.is ∙ ap (Frame f) c.in-Add.is)))
+    (frame_carried {X = ⊤} {E = StoreFault} v s f (Add c.in-Add.node) old new (Ok tt)
+    (λ clean inside cluster b x stands is fits same. added v s f old new cluster b x stands is c.in-Add.node fits (c.in_ok-insert-in-Add.ensures.added clean inside stands.has)))
+
+pub returns-in-Place-clause-carried : goal.returns-in-Place-clause-carried
+returns-in-Place-clause-carried g c =
+    let s = c.in-Rows.supplier in
+    let v = c.in-Rows.variant in
+    let f = c.in-Frame.frame in
+    let old = state g.S.Store c.args.tx.now.conn.now in
+    let new = state g.S.Store c.place.new.tx.conn.now in
+    subst (λ edit. CarriesOut edit old new c.place.result) (sym (c.in-Rows.is ∙ ap (Rows s v) (c.in-Frame.is ∙ ap (Frame f) c.in-Place.is)))
+    (frame_carried v s f (Place c.in-Place.placement) old new c.place.result c.place.ensures.changed)
+
+pub returns-in-Unplace-clause-carried : goal.returns-in-Unplace-clause-carried
+returns-in-Unplace-clause-carried g c =
+    let s = c.in-Rows.supplier in
+    let v = c.in-Rows.variant in
+    let f = c.in-Frame.frame in
+    let old = state g.S.Store c.args.tx.now.conn.now in
+    let new = state g.S.Store c.unplace.new.tx.conn.now in
+    subst (λ edit. CarriesOut edit old new c.unplace.result) (sym (c.in-Rows.is ∙ ap (Rows s v) (c.in-Frame.is ∙ ap (Frame f) c.in-Unplace.is)))
+    (frame_carried v s f (Unplace c.in-Unplace.placement) old new c.unplace.result c.unplace.ensures.changed)
+
+pub returns-in-AddSignal-clause-carried : goal.returns-in-AddSignal-clause-carried
+returns-in-AddSignal-clause-carried g c =
+    let s = c.in-Rows.supplier in
+    let v = c.in-Rows.variant in
+    let f = c.in-Frame.frame in
+    let old = state g.S.Store c.args.tx.now.conn.now in
+    let new = state g.S.Store c.add_signal.new.tx.conn.now in
+    subst (λ edit. CarriesOut edit old new c.add_signal.result) (sym (c.in-Rows.is ∙ ap (Rows s v) (c.in-Frame.is ∙ ap (Frame f) c.in-AddSignal.is)))
+    (frame_carried v s f (AddSignal c.in-AddSignal.signal) old new c.add_signal.result c.add_signal.ensures.changed)
+
+pub returns-in-DropSignal-clause-carried : goal.returns-in-DropSignal-clause-carried
+returns-in-DropSignal-clause-carried g c =
+    let s = c.in-Rows.supplier in
+    let v = c.in-Rows.variant in
+    let f = c.in-Frame.frame in
+    let old = state g.S.Store c.args.tx.now.conn.now in
+    let new = state g.S.Store c.drop_signal.new.tx.conn.now in
+    subst (λ edit. CarriesOut edit old new c.drop_signal.result) (sym (c.in-Rows.is ∙ ap (Rows s v) (c.in-Frame.is ∙ ap (Frame f) c.in-DropSignal.is)))
+    (frame_carried v s f (DropSignal c.in-DropSignal.signal) old new c.drop_signal.result c.drop_signal.ensures.changed)

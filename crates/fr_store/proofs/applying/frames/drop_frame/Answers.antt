@@ -8,7 +8,7 @@ use Rattle.fr_store.specs.Owning.{IsStoredSo}
 use Rattle.fr_store.proofs.AgainLemmas.{still_stands}
 use Rattle.fr_store.proofs.ChainLemmas.{same_tables}
 use Rattle.fr_store.proofs.InsideLemmas.{asked_inside, both_inside, made_inside}
-use Rattle.fr_store.proofs.FrameEditLemmas.{ended_over, ended_alone, not_over}
+use Rattle.fr_store.proofs.FrameEditLemmas.{ended_over, ended_alone}
 use Rattle.fr_store.proofs.applying.frames.drop_frame.Goals as goal
 
 pub returns-clause-changed : goal.returns-clause-changed
@@ -23,7 +23,7 @@ returns-clause-changed g c clean inside cluster b x stands is fits counted =
     let same = (c.in_ok-level.ensures.told clean_read stands.has).1 in
     let stood = still_stands old read cluster b same.0.now_is stands in
     let within = same.0.mode ∙ inside in
-    let gone = c.in_ok-delete.ensures.dropped clean_mid within stood.has in
+    let gone = c.in_ok-ended.ensures.dropped clean_mid within stood.has in
     ended_over c.args.variant.now c.args.supplier.now c.args.frame.now read mid new cluster b x there.0 stood is there.1 gone
     (c.in_ok-insert.ensures.added clean (gone.shown.mode ∙ within) gone.has)
 
@@ -39,7 +39,7 @@ returns-then-not-level-clause-changed g c clean inside cluster b x stands is fit
     let stood = still_stands old read cluster b same.0.now_is stands in
     let so = subst (λ t. IsStoredSo c.args.variant.now c.in_ok-level.level.overlay t) (sym (same_tables old read same)) told.0.overlay in
     ended_alone c.args.variant.now c.args.supplier.now c.args.frame.now read new cluster b x there.0 stood is there.1
-    (subst (λ over. IsStoredSo c.args.variant.now over (tables_of read)) (not_over c.in_ok-level.level.overlay c.if-not-level.true) so) (c.in_ok-delete.ensures.dropped clean (same.0.mode ∙ inside) stood.has)
+    (subst (λ over. IsStoredSo c.args.variant.now over (tables_of read)) c.if-not-level.true so) (c.in_ok-ended.ensures.dropped clean (same.0.mode ∙ inside) stood.has)
 
 pub returns-clause-stays : goal.returns-clause-stays
 returns-clause-stays g c clean inside has =
@@ -50,6 +50,6 @@ returns-clause-stays g c clean inside has =
     let clean_mid : HasCleanDisk mid = omega (arith, c.insert.ensures.survives.clean, clean) in
     let clean_read : HasCleanDisk read = omega (arith, c.delete.ensures.survives.clean, clean_mid) in
     let asked = asked_inside old read inside has (c.in_ok-level.ensures.told clean_read has).1 in
-    let gone = made_inside _ read mid asked.1.inside (c.in_ok-delete.ensures.dropped clean_mid asked.1.inside asked.1.has) in
+    let gone = made_inside _ read mid asked.1.inside (c.in_ok-ended.ensures.dropped clean_mid asked.1.inside asked.1.has) in
     let added = made_inside _ mid new gone.1.inside (c.in_ok-insert.ensures.added clean gone.1.inside gone.1.has) in
     both_inside old mid new (both_inside old read mid asked gone) added

@@ -1,11 +1,19 @@
-use Rattle.std.proofs.Common.{◌∙◌, subst, ap, refl, Ok}
-use Rattle.fr_world.specs.Amends.{HaveWords}
-use Rattle.fr_world.specs.Pages.{frames_data}
+use Rattle.std.proofs.Common.{◌≡◌, ◌∙◌, Result, Ok, OnOk, subst, ap, refl, sym}
+use Rattle.std.specs.Prelude.{⊤}
+use Rattle.fr_base.specs.Step.{OwnRows}
+use Rattle.fr_base.specs.declared.refusal.Refusal.{Refusal}
+use Rattle.fr_base.specs.declared.request.FrameChange.TheVariants.{Add}
+use Rattle.fr_world.specs.Amends.{AreChanged}
+use Rattle.fr_world.specs.Edits.{edited}
+use Rattle.fr_world.specs.PageCells.{ArePlaced}
+use Rattle.fr_world.specs.Pages.{IsKept, frames_data, own_rows_of}
 use Rattle.fr_world.specs.declared.edit.Edit.TheVariants.{Rows}
+use Rattle.fr_world.specs.declared.page.Page.TheInside.{Inside}
 use Rattle.fr_world.specs.contracts.page.Page.{the_view}
-use Rattle.fr_world.proofs.AmendPages.{kept, released_page, node_page, grant_page, ended_page, change_page, leaves_layout}
+use Rattle.fr_world.proofs.AmendPages.{kept, released_page, node_page, grant_page, ended_page, change_made, leaves_layout}
 use Rattle.fr_world.proofs.AmendLaws.{holds, on_ok, on_err}
 use Rattle.fr_world.proofs.page.Page.amend.Goals as goal
+use Rattle.fr_world.proofs.page.Page.amend.Goals.{in-Add, in-Drop, in-Place, in-Unplace, in-AddSignal, in-DropSignal}
 
 pub returns-in-SetReleased-clause-page : goal.returns-in-SetReleased-clause-page
 returns-in-SetReleased-clause-page c = released_page (the_view c.self.inside) c.args.self.now c.self.view_is c.args.edit.now c.requires.takes c.in-SetReleased.variant c.in-SetReleased.is
@@ -55,24 +63,45 @@ invariant_of-self-in-Revoke c = (
   c.self.invariant.1,
 )
 
-pub change_frame-requires-clause-leaves : goal.change_frame-requires-clause-leaves
-change_frame-requires-clause-leaves c =
-    leaves_layout (the_view c.self.inside) c.args.self.now c.self.view_is c.args.edit.now c.requires.takes c.in-Rows.supplier c.in-Rows.variant c.in-Frame.frame c.in-Frame.change
-    (c.in-Rows.is ∙ ap (Rows c.in-Rows.supplier c.in-Rows.variant) c.in-Frame.is) c.self.inside.rows.frames.entries refl c.self.invariant.0
+pub add_signal-requires : goal.add_signal-requires
+add_signal-requires c = record {
+  leaves = leaves_layout (the_view c.self.inside) c.args.self.now c.self.view_is c.args.edit.now c.requires.takes c.in-Rows.is c.in-Frame.is c.in-AddSignal.is c.self.inside.rows.frames.entries refl c.self.invariant.0;
+}
 
-pub returns-in-Frame-clause-page : goal.returns-in-Frame-clause-page
-returns-in-Frame-clause-page c =
-    on_ok c.change_frame.result
-    (change_page (the_view c.self.inside) c.args.self.now c.self.view_is c.args.edit.now c.requires.takes c.in-Rows.supplier c.in-Rows.variant c.in-Frame.frame c.in-Frame.change
-    (c.in-Rows.is ∙ ap (Rows c.in-Rows.supplier c.in-Rows.variant) c.in-Frame.is) c.self.inside.rows.frames.entries refl c.payload_words-words.result c.change_frame.new.frames.entries)
-    c.change_frame.ensures.ok
+-- the page that is to be, its invariant, and the cells of its frames
+abbrev IsMade : OwnRows → Result ⊤ Refusal → Inside → Type 0
+IsMade aim r x = OnOk r (own_rows_of (the_view x) ≡ aim) × IsKept (the_view x) × ArePlaced x.cells (frames_data x.rows.frames.entries)
+
+so : (aim : OwnRows) (r q : Result ⊤ Refusal) (x y : Inside) → r ≡ q → x ≡ y → IsMade aim q y → IsMade aim r x
+so aim r q x y e f h = subst (λ s. IsMade aim s x) (sym e) (subst (IsMade aim q) (sym f) h)
+
+made : (c : goal.Joined-change-2) → IsMade (edited (own_rows_of c.args.self.now) c.args.edit.now) c.match-change-2.result c.match-change-2.self-inside
+made c =
+    let aim = edited (own_rows_of c.args.self.now) c.args.edit.now in
+    let words = (the_view c.self.inside).params.payload_words in
+    elim c.match-change-2.branch [
+      | in-Add w ↦ so aim _ _ _ _ w.result-is w.self-inside-is
+          (change_made (the_view c.self.inside) c.args.self.now c.self.view_is c.args.edit.now c.requires.takes c.in-Rows.is c.in-Frame.is w.in-Add.is c.self.inside.rows.frames.entries refl
+          _ w.add_frame.result w.add_frame.new.frames.entries w.add_frame.new.cells c.self.invariant.0 (on_ok w.add_frame.result (subst (λ n. AreChanged n c.in-Frame.frame (Add w.in-Add.node) c.self.inside.rows.frames.entries w.add_frame.new.frames.entries) c.payload_words-words.ensures.value) w.add_frame.ensures.ok) w.add_frame.ensures.err w.add_frame.ensures.placed)
+      | in-Drop w ↦ so aim _ _ _ _ w.result-is w.self-inside-is
+          (change_made (the_view c.self.inside) c.args.self.now c.self.view_is c.args.edit.now c.requires.takes c.in-Rows.is c.in-Frame.is w.in-Drop.is c.self.inside.rows.frames.entries refl
+          ⊤ (Ok tt) w.drop_frame.new.frames.entries w.drop_frame.new.cells c.self.invariant.0 (w.drop_frame.ensures.changed words) tt w.drop_frame.ensures.placed)
+      | in-Place w ↦ so aim _ _ _ _ w.result-is w.self-inside-is
+          (change_made (the_view c.self.inside) c.args.self.now c.self.view_is c.args.edit.now c.requires.takes c.in-Rows.is c.in-Frame.is w.in-Place.is c.self.inside.rows.frames.entries refl
+          _ w.place.result w.place.new.frames.entries w.place.new.cells c.self.invariant.0 (on_ok w.place.result (λ changed. changed words) w.place.ensures.ok) w.place.ensures.err w.place.ensures.placed)
+      | in-Unplace w ↦ so aim _ _ _ _ w.result-is w.self-inside-is
+          (change_made (the_view c.self.inside) c.args.self.now c.self.view_is c.args.edit.now c.requires.takes c.in-Rows.is c.in-Frame.is w.in-Unplace.is c.self.inside.rows.frames.entries refl
+          ⊤ (Ok tt) w.unplace.new.frames.entries w.unplace.new.cells c.self.invariant.0 (w.unplace.ensures.changed words) tt w.unplace.ensures.placed)
+      | in-AddSignal w ↦ so aim _ _ _ _ w.result-is w.self-inside-is
+          (change_made (the_view c.self.inside) c.args.self.now c.self.view_is c.args.edit.now c.requires.takes c.in-Rows.is c.in-Frame.is w.in-AddSignal.is c.self.inside.rows.frames.entries refl
+          _ w.add_signal.result w.add_signal.new.frames.entries c.self.inside.cells c.self.invariant.0 (on_ok w.add_signal.result (λ changed. changed words) w.add_signal.ensures.ok) w.add_signal.ensures.err (w.add_signal.ensures.placed _ c.self.invariant.1))
+      | in-DropSignal w ↦ so aim _ _ _ _ w.result-is w.self-inside-is
+          (change_made (the_view c.self.inside) c.args.self.now c.self.view_is c.args.edit.now c.requires.takes c.in-Rows.is c.in-Frame.is w.in-DropSignal.is c.self.inside.rows.frames.entries refl
+          ⊤ (Ok tt) w.drop_signal.new.frames.entries c.self.inside.cells c.self.invariant.0 (w.drop_signal.ensures.changed words) tt (w.drop_signal.ensures.placed _ c.self.invariant.1))
+    ]
+
+pub returns-after-change-2-clause-page : goal.returns-after-change-2-clause-page
+returns-after-change-2-clause-page c = (made c).0
 
 pub invariant_of-self-in-Frame : goal.invariant_of-self-in-Frame
-invariant_of-self-in-Frame c = (
-  kept (the_view c.self.inside) c.args.self.now c.self.view_is c.args.edit.now c.requires.takes c.change_frame.result
-      (record (the_view c.self.inside) { frames = frames_data c.change_frame.new.frames.entries }) c.self.invariant.0 (returns-in-Frame-clause-page c)
-      (on_ok c.change_frame.result (λ changed. subst (λ w. HaveWords w c.self.inside.rows.frames.entries → HaveWords w c.change_frame.new.frames.entries) c.payload_words-words.ensures.value changed.words) c.change_frame.ensures.ok)
-      (on_ok c.change_frame.result (λ changed was. record { nodes = was.nodes; grants = was.grants; frames = changed.order was.frames }) c.change_frame.ensures.ok)
-      (on_err c.change_frame.result (λ same. ap (λ fs. record (the_view c.self.inside) { frames = fs }) same.0) c.change_frame.ensures.err),
-  c.change_frame.ensures.placed,
-)
+invariant_of-self-in-Frame c = let m = made c in (m.1, m.2)

@@ -1,4 +1,4 @@
-use Rattle.std.proofs.Common.{◌+◌, ◌-◌, ◌∙◌, arith, inl, inr, sym}
+use Rattle.std.proofs.Common.{◌-◌, ◌∙◌, arith, inl, inr, sym}
 use Rattle.fr_picture.proofs.MarkLemmas.{all_shown, first_is_free, free_more, shown_more}
 use Rattle.fr_picture.proofs.drawing.marks.Marks.shown.Goals as goal
 use Rattle.fr_picture.proofs.drawing.marks.Marks.shown.Goals.{then-is_slot, else-is_slot}

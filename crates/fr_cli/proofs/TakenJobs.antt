@@ -1,0 +1,286 @@
+-- Words in which `clap` finds no fault ask for a job, but for those of `check` and `export` that lack an object.
+use Rattle.std.proofs.Common.{◌≡◌, ◌⊎◌, inl, inr, ℕ, Bool, true, false, ◌||◌, cond, List, [], ◌∷◌, Option, Some, None, codes, refl, sym, ap, ◌∙◌, subst}
+use Rattle.std.specs.Prelude.{find, option_map}
+use Rattle.std.specs.Borrow.{Bor}
+use Rattle.std.specs.Str.{bytes_eq}
+use Rattle.std.proofs.lemmas.Slice.Eq.{bytes_eq-Decides}
+use Rattle.clap.specs.Faults.{level_fault}
+use Rattle.clap.specs.Simple.{Shape, built, label_of}
+use Rattle.clap.specs.Walk.{Row, Text, answers_to, first_of, nothing_held, one_of, rows_after}
+use Rattle.fr_base.specs.declared.query.Inventory.{Inventory}
+use Rattle.fr_base.specs.declared.query.Inventory.TheVariants.{Cluster, Variants, Nodes}
+use Rattle.fr_base.specs.declared.query.Query.TheVariants.{Register as OfRegister, Variant as OfVariant, Difference as OfTwo}
+use Rattle.fr_base.specs.declared.report.Report.{Report}
+use Rattle.fr_base.specs.declared.report.Report.TheVariants.{Grants, Frames, Schedule, Gaps, Layout, Load, Room, Export}
+use Rattle.fr_base.specs.Queries.{word_of_inventory}
+use Rattle.fr_cli.specs.Commands.{slotplan}
+use Rattle.fr_cli.specs.Words.{AreTaken, AskForNone, HasKind, HasNoObject, HasNumber, HasReport, IsFlagIn, IsFoundWithoutObject, IsJobFound, IsJobIn, IsJobOf, LackAnObject, max_number, word_of_delivery, word_of_report}
+use Rattle.fr_cli.specs.declared.delivery.DeliveryKind.{DeliveryKind}
+use Rattle.fr_cli.specs.declared.delivery.DeliveryKind.TheVariants.{Import as ByLabel, Replacement, Trial}
+use Rattle.fr_cli.specs.declared.delivery.Delivery.{Delivery}
+use Rattle.fr_cli.specs.declared.query.Inquiry.{Inquiry}
+use Rattle.fr_cli.specs.declared.words.Job.{Job}
+use Rattle.fr_cli.specs.declared.words.Job.TheVariants as job
+use Rattle.fr_cli.proofs.TakenRows.{differ, some_none, some_same}
+use Rattle.fr_cli.proofs.TakenNumbers.{IsNumber, number_stands}
+use Rattle.fr_cli.proofs.TakenThere.{Stands, has_word, word_stands}
+use Rattle.fr_cli.proofs.TakenSubs.{taken_sub}
+
+-- a text that is lent
+abbrev lent : Text → Bor Text
+lent text = record { ref_ptr = (0, 0); now = text }
+
+abbrev lent_if : Option Text → Option (Bor Text)
+lent_if = option_map lent
+
+lent_back : (o : Option Text) → option_map (λ t. t.now) (lent_if o) ≡ o
+lent_back None = refl
+lent_back (Some t) = refl
+
+abbrev flag_of : Option Text → Bool
+flag_of (Some t) = bytes_eq t (codes "true")
+flag_of None = false
+
+flag_is : (name : Text) (rows : List Row) (o : Option Text) → one_of name rows ≡ o → IsFlagIn (flag_of o) name rows
+flag_is name rows (Some t) is = (
+  λ e. (bytes_eq-Decides t (codes "true")).1 (some_same t (codes "true") (sym is ∙ e)),
+  λ e. ap (λ k. bytes_eq k (codes "true")) (some_same t (codes "false") (sym is ∙ e)),
+  λ e. some_none t (sym e ∙ is),
+)
+flag_is name rows None is = (λ e. some_none (codes "true") (sym is ∙ e), λ e. refl, λ e. refl)
+
+-- the subcommand of this name has a job with these words
+abbrev HasJob : Text → List Row → Type 0
+HasJob name rows = (j : Job) × IsJobOf j name rows
+
+-- or where it has none, it has no object
+abbrev Lacks : Text → List Row → Type 0
+Lacks name rows = IsJobIn None name rows → HasNoObject name rows
+
+-- so whatever its words are, in which no fault is found
+abbrev AlwaysHasJob : Shape → Type 0
+AlwaysHasJob s = (rest : List Text) → level_fault s [] nothing_held rest false [] ≡ [] → HasJob s.name (rows_after s.rules [] rest)
+
+abbrev OnlyLacks : Shape → Type 0
+OnlyLacks s = (rest : List Text) → level_fault s [] nothing_held rest false [] ≡ [] → Lacks s.name (rows_after s.rules [] rest)
+
+-- the subcommand is `help`, or so
+abbrev Asks : Shape → Type 0
+Asks s = (label_of s ≡ (codes "help", [])) ⊎ OnlyLacks s
+
+asks : (s : Shape) → AlwaysHasJob s → Asks s
+asks s has = inr (λ rest fine none. let (j, is) = has rest fine in absurd (none j is))
+
+module _ (s : Shape) (once : s.args_override_self ≡ false) (rest : List Text) (fine : level_fault s [] nothing_held rest false [] ≡ []) where
+  there : (id : Text) → has_word s.rules id ≡ true → Stands s.rules id (rows_after s.rules [] rest)
+  there id has = word_stands s id rest once has fine
+
+  count : (id : Text) (low high : ℕ) → has_word s.rules id ≡ true → IsNumber s.rules id low high
+      → (n : ℕ) × HasNumber id low high (rows_after s.rules [] rest) n
+  count id low high has parser = number_stands s.rules id (rows_after s.rules [] rest) low high (there id has) parser
+
+  report_job : (report : Report (Bor Text) ℕ) → s.name ≡ word_of_report report → HasReport report (rows_after s.rules [] rest)
+      → has_word s.rules (codes "DB") ≡ true
+      → has_word s.rules (codes "VARIANT") ≡ true → HasJob s.name (rows_after s.rules [] rest)
+  report_job report named has db variant =
+      let at = there (codes "DB") db in
+      let of = there (codes "VARIANT") variant in
+      let who = first_of (codes "supplier") (rows_after s.rules [] rest) in
+      let query : Inquiry = record { query = OfVariant (lent of.text) report; supplier = lent_if who } in
+      (job.Report (lent at.text) query, (named, at.first, ((of.first, has), lent_back who)))
+
+  deliver_job : (kind : DeliveryKind) → s.name ≡ word_of_delivery kind → HasKind kind (rows_after s.rules [] rest)
+      → has_word s.rules (codes "DB") ≡ true
+      → has_word s.rules (codes "KEY") ≡ true → has_word s.rules (codes "VARIANT") ≡ true → has_word s.rules (codes "FILE") ≡ true
+      → HasJob s.name (rows_after s.rules [] rest)
+  deliver_job kind named has db key variant file =
+      let at = there (codes "DB") db in
+      let by = there (codes "KEY") key in
+      let of = there (codes "VARIANT") variant in
+      let from = there (codes "FILE") file in
+      let delivery : Delivery = record { key = lent by.text; variant = lent of.text; kind = kind; file = lent from.text } in
+      (job.Deliver (lent at.text) delivery, (named, at.first, (by.first, of.first, has, from.first)))
+
+create_job : (s : Shape) → s.args_override_self ≡ false → s.name ≡ codes "create" → has_word s.rules (codes "DB") ≡ true
+    → has_word s.rules (codes "CONFIG") ≡ true
+    → AlwaysHasJob s
+create_job s once named db config rest fine =
+    let at = there s once rest fine (codes "DB") db in
+    let of = there s once rest fine (codes "CONFIG") config in
+    (job.Create (lent at.text) (lent of.text), (named, at.first, of.first))
+
+migrate_job : (s : Shape) → s.args_override_self ≡ false → s.name ≡ codes "migrate" → has_word s.rules (codes "DB") ≡ true → AlwaysHasJob s
+migrate_job s once named db rest fine = let at = there s once rest fine (codes "DB") db in (job.Migrate (lent at.text), (named, at.first))
+
+ask_job : (s : Shape) → s.args_override_self ≡ false → s.name ≡ codes "ask" → has_word s.rules (codes "DB") ≡ true → AlwaysHasJob s
+ask_job s once named db rest fine = let at = there s once rest fine (codes "DB") db in (job.Ask (lent at.text), (named, at.first))
+
+serve_job : (s : Shape) → s.args_override_self ≡ false → s.name ≡ codes "serve" → has_word s.rules (codes "DB") ≡ true
+    → has_word s.rules (codes "PORT") ≡ true
+    → IsNumber s.rules (codes "PORT") 1 65535 → has_word s.rules (codes "count") ≡ true
+    → IsNumber s.rules (codes "count") 1 1000000 → has_word s.rules (codes "seconds") ≡ true
+    → IsNumber s.rules (codes "seconds") 1 3600 → AlwaysHasJob s
+serve_job s once named db port ports many counts long seconds rest fine =
+    let at = there s once rest fine (codes "DB") db in
+    let number = count s once rest fine (codes "PORT") 1 65535 port ports in
+    let connections = count s once rest fine (codes "count") 1 1000000 many counts in
+    let time = count s once rest fine (codes "seconds") 1 3600 long seconds in
+    (job.Serve (lent at.text) number.0 connections.0 time.0, (named, at.first, number.1, connections.1, time.1))
+
+inventory_job : (inventory : Inventory) (s : Shape) → s.args_override_self ≡ false → s.name ≡ word_of_inventory inventory
+    → has_word s.rules (codes "DB") ≡ true
+    → AlwaysHasJob s
+inventory_job inventory s once named db rest fine =
+    let at = there s once rest fine (codes "DB") db in
+    let who = first_of (codes "supplier") (rows_after s.rules [] rest) in
+    (job.Report (lent at.text) (record { query = OfRegister inventory; supplier = lent_if who }), (named, at.first, (tt, lent_back who)))
+
+diff_job : (s : Shape) → s.args_override_self ≡ false → s.name ≡ codes "diff" → has_word s.rules (codes "DB") ≡ true
+    → has_word s.rules (codes "FROM") ≡ true
+    → has_word s.rules (codes "TO") ≡ true → AlwaysHasJob s
+diff_job s once named db from to rest fine =
+    let at = there s once rest fine (codes "DB") db in
+    let before = there s once rest fine (codes "FROM") from in
+    let after = there s once rest fine (codes "TO") to in
+    let who = first_of (codes "supplier") (rows_after s.rules [] rest) in
+    let query : Inquiry = record { query = OfTwo (lent after.text) (lent before.text); supplier = lent_if who } in
+    (job.Report (lent at.text) query, (named, at.first, ((after.first, before.first), lent_back who)))
+
+-- a report of a variant, of which nothing else is to be named
+plain_job : (report : Report (Bor Text) ℕ) → ((rows : List Row) → HasReport report rows) → (s : Shape) → s.args_override_self ≡ false
+    → s.name ≡ word_of_report report
+    → has_word s.rules (codes "DB") ≡ true → has_word s.rules (codes "VARIANT") ≡ true → AlwaysHasJob s
+plain_job report has s once named db variant rest fine = report_job s once rest fine report named (has (rows_after s.rules [] rest)) db variant
+
+layout_job : (s : Shape) → s.args_override_self ≡ false → s.name ≡ codes "layout" → has_word s.rules (codes "DB") ≡ true
+    → has_word s.rules (codes "VARIANT") ≡ true
+    → has_word s.rules (codes "FRAME") ≡ true → AlwaysHasJob s
+layout_job s once named db variant frame rest fine =
+    let of = there s once rest fine (codes "FRAME") frame in
+    report_job s once rest fine (Layout (lent of.text)) named of.first db variant
+
+room_job : (s : Shape) → s.args_override_self ≡ false → s.name ≡ codes "room" → has_word s.rules (codes "DB") ≡ true
+    → has_word s.rules (codes "VARIANT") ≡ true
+    → has_word s.rules (codes "FRAME") ≡ true → has_word s.rules (codes "REPETITION") ≡ true
+    → IsNumber s.rules (codes "REPETITION") 0 max_number → AlwaysHasJob s
+room_job s once named db variant frame every parser rest fine =
+    let of = there s once rest fine (codes "FRAME") frame in
+    let repetition = count s once rest fine (codes "REPETITION") 0 max_number every parser in
+    report_job s once rest fine (Room (lent of.text) repetition.0) named (of.first, repetition.1) db variant
+
+picture_job : (s : Shape) → s.args_override_self ≡ false → s.name ≡ codes "picture" → has_word s.rules (codes "DB") ≡ true
+    → has_word s.rules (codes "VARIANT") ≡ true
+    → AlwaysHasJob s
+picture_job s once named db variant rest fine =
+    let at = there s once rest fine (codes "DB") db in
+    let of = there s once rest fine (codes "VARIANT") variant in
+    let who = first_of (codes "supplier") (rows_after s.rules [] rest) in
+    (job.Picture (lent at.text) (lent of.text) (lent_if who), (named, at.first, of.first, lent_back who))
+
+import_job : (s : Shape) → s.args_override_self ≡ false → s.name ≡ codes "import" → has_word s.rules (codes "DB") ≡ true
+    → has_word s.rules (codes "KEY") ≡ true
+    → has_word s.rules (codes "VARIANT") ≡ true → has_word s.rules (codes "LABEL") ≡ true → has_word s.rules (codes "FILE") ≡ true
+    → AlwaysHasJob s
+import_job s once named db key variant label file rest fine =
+    let of = there s once rest fine (codes "LABEL") label in
+    deliver_job s once rest fine (ByLabel (lent of.text)) named of.first db key variant file
+
+replace_job : (s : Shape) → s.args_override_self ≡ false → s.name ≡ codes "replace" → has_word s.rules (codes "DB") ≡ true
+    → has_word s.rules (codes "KEY") ≡ true
+    → has_word s.rules (codes "VARIANT") ≡ true → has_word s.rules (codes "FILE") ≡ true → AlwaysHasJob s
+replace_job s once named db key variant file rest fine = deliver_job s once rest fine Replacement named tt db key variant file
+
+try_job : (s : Shape) → s.args_override_self ≡ false → s.name ≡ codes "try" → has_word s.rules (codes "DB") ≡ true
+    → has_word s.rules (codes "KEY") ≡ true
+    → has_word s.rules (codes "VARIANT") ≡ true → has_word s.rules (codes "FILE") ≡ true → AlwaysHasJob s
+try_job s once named db key variant file rest fine =
+    let said = one_of (codes "replace") (rows_after s.rules [] rest) in
+    let is = flag_is (codes "replace") (rows_after s.rules [] rest) said refl in
+    deliver_job s once rest fine (Trial (flag_of said)) named is db key variant file
+
+explain_job : (s : Shape) → s.name ≡ codes "explain" → AlwaysHasJob s
+explain_job s named rest fine =
+    let word = first_of (codes "WORD") (rows_after s.rules [] rest) in
+    (job.Explain (lent_if word), (named, lent_back word))
+
+-- `export` has one where its rows are named
+export_job : (s : Shape) → s.args_override_self ≡ false → s.name ≡ codes "export" → has_word s.rules (codes "DB") ≡ true
+    → has_word s.rules (codes "VARIANT") ≡ true
+    → has_word s.rules (codes "part") ≡ true → IsNumber s.rules (codes "part") 0 max_number → OnlyLacks s
+export_job s once named db variant part parser rest fine none = inr (
+  named,
+  (λ header has.
+      let number = count s once rest fine (codes "part") 0 max_number part parser in
+      let (j, is) = report_job s once rest fine (Export header number.0) named (has, number.1) db variant in
+      none j is),
+)
+
+-- and `check` where its file is
+check_job : (s : Shape) → s.name ≡ codes "check" → OnlyLacks s
+check_job s named rest fine none = inl (named, (λ file is. none (job.Check file) (named, is)))
+
+infixr 5 ◌and◌
+-- each subcommand of the list is so
+data EachAsks : List Shape → Type 0 where
+  nothing : EachAsks []
+  ◌and◌ : {s : Shape} {subs : List Shape} → Asks s → EachAsks subs → EachAsks (s ∷ subs)
+
+-- in the order of the command line
+all_ask : EachAsks (built slotplan).subs
+all_ask =
+    asks _ (λ rest fine. (job.Run, refl))
+    and asks _ (create_job _ refl refl refl refl)
+    and asks _ (migrate_job _ refl refl refl)
+    and asks _ (serve_job _ refl refl refl refl refl refl refl refl refl)
+    and asks _ (ask_job _ refl refl refl)
+    and asks _ (inventory_job Cluster _ refl refl refl)
+    and asks _ (inventory_job Variants _ refl refl refl)
+    and asks _ (inventory_job Nodes _ refl refl refl)
+    and asks _ (diff_job _ refl refl refl refl refl)
+    and asks _ (plain_job Grants (λ rows. tt) _ refl refl refl refl)
+    and asks _ (plain_job Frames (λ rows. tt) _ refl refl refl refl)
+    and asks _ (plain_job Schedule (λ rows. tt) _ refl refl refl refl)
+    and asks _ (plain_job Gaps (λ rows. tt) _ refl refl refl refl)
+    and asks _ (plain_job Load (λ rows. tt) _ refl refl refl refl)
+    and asks _ (layout_job _ refl refl refl refl refl)
+    and asks _ (room_job _ refl refl refl refl refl refl refl)
+    and inr (export_job _ refl refl refl refl refl refl)
+    and asks _ (picture_job _ refl refl refl refl)
+    and asks _ (import_job _ refl refl refl refl refl refl refl)
+    and asks _ (replace_job _ refl refl refl refl refl refl)
+    and asks _ (try_job _ refl refl refl refl refl refl)
+    and inr (check_job _ refl)
+    and asks _ (explain_job _ refl)
+    and inl refl
+    and nothing
+
+found_asks : (p : Shape → Bool) (subs : List Shape) (s : Shape) → EachAsks subs → find p subs ≡ Some s → Asks s × (p s ≡ true)
+found_asks p [] s all e = some_none s e
+found_asks p (x ∷ subs) s (one and more) e = go (p x) refl e (found_asks p subs s more)
+  where
+    go : (t : Bool) → p x ≡ t → cond t (Some x) (find p subs) ≡ Some s → (find p subs ≡ Some s → Asks s × (p s ≡ true))
+        → Asks s × (p s ≡ true)
+    go true is e rest = let same = some_same x s e in (subst Asks same one, ap p (sym same) ∙ is)
+    go false is e rest = rest e
+
+-- a word that `help` answers to is its name
+no_help : {X : Type 0} (word : Text) → answers_to word (codes "help", []) ≡ true → bytes_eq word (codes "help") ≡ false → X
+no_help word answers other =
+    let same : codes "help" ≡ word = (bytes_eq-Decides (codes "help") word).0 (either (bytes_eq (codes "help") word) answers) in
+    differ (sym ((bytes_eq-Decides word (codes "help")).1 (sym same)) ∙ other)
+  where
+    either : (t : Bool) → (t || false) ≡ true → t ≡ true
+    either true e = refl
+    either false e = e
+
+not_help : (s : Shape) (word : Text) → Asks s → answers_to word (label_of s) ≡ true → bytes_eq word (codes "help") ≡ false → OnlyLacks s
+not_help s word (inl help) answers other = no_help word (subst (λ (label : Text × List Text). answers_to word label ≡ true) help answers) other
+not_help s word (inr lacks) answers other = lacks
+
+-- where words in which `clap` finds no fault ask for no job, they lack an object
+pub object_lacks : (words : List Text) → AreTaken words → AskForNone words → LackAnObject words
+object_lacks words taken none =
+    let t = taken_sub (built slotplan) words refl refl taken in
+    let (asks, answers) = found_asks (λ s. answers_to t.word (label_of s)) (built slotplan).subs t.sub all_ask t.found in
+    let lacks = not_help t.sub t.word asks answers t.other t.rest t.fine in
+    subst IsFoundWithoutObject (sym t.is) (lacks (subst (IsJobFound None) t.is none))

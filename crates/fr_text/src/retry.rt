@@ -1,0 +1,17 @@
+//! Calls of a reader or a writer that fail, and are made again.
+ghost use Rattle.std.specs.Prelude.{◌≡◌, ◌↔◌, IfErr, IsOk};
+ghost use Rattle.std.specs.IoError.{error_kind};
+
+use std::io::{Error, ErrorKind};
+
+/// Whether a call that failed so is made again: it is, where it was interrupted. Else this is its
+/// fault.
+pub fn try_again<F: Copy>(error: &Error, fault: F) -> Result<(), F>
+    ensures again { IsOk result ↔ (error_kind error.now ≡ ErrorKind.Interrupted) }
+    ensures fault { IfErr result (λ e. e ≡ fault) }
+{
+    match error.kind() {
+        ErrorKind::Interrupted => Ok(()),
+        _ => Err(fault),
+    }
+}
