@@ -107,7 +107,7 @@ module _ (c : Cluster) (b : Book) (v : Name) (x : Variant) (sound : IsSound c b)
 
 module _ (old new : Standing) (v : Name) (suppliers : List Name) (known : (c : Cluster) (b : Book) → old c b → suppliers ≡ supplier_names b) where
   pub all-grants : (rows : List GrantRow) →
-      Gathers old new (Ok rows) v (λ p x rows. rows ≡ grants_of (grants_among suppliers x.grants)) → ShowsAll old new v Grants (Ok (shows.Grants rows))
+      Gathers v (λ p x rows. rows ≡ grants_of (grants_among suppliers x.grants)) old new (Ok rows) → ShowsAll v Grants old new (Ok (shows.Grants rows))
   unfolding shown
   all-grants rows gathers c b stood sound =
       let told = gathers c b stood in (
@@ -117,7 +117,7 @@ module _ (old new : Standing) (v : Name) (suppliers : List Name) (known : (c : C
       )
 
   pub all-frames : (rows : List FrameRow) →
-      Gathers old new (Ok rows) v (λ p x rows. rows ≡ flat_map (λ s. frames_of (own s x.frames)) suppliers) → ShowsAll old new v Frames (Ok (shows.Frames rows))
+      Gathers v (λ p x rows. rows ≡ flat_map (λ s. frames_of (own s x.frames)) suppliers) old new (Ok rows) → ShowsAll v Frames old new (Ok (shows.Frames rows))
   unfolding shown
   all-frames rows gathers c b stood sound =
       let told = gathers c b stood in (
@@ -127,7 +127,7 @@ module _ (old new : Standing) (v : Name) (suppliers : List Name) (known : (c : C
       )
 
   pub all-gaps : (rows : List GapRow) →
-      Gathers old new (Ok rows) v (λ p x rows. rows ≡ flat_map (λ s. gaps_of p (own s x.frames)) suppliers) → ShowsAll old new v Gaps (Ok (shows.Gaps rows))
+      Gathers v (λ p x rows. rows ≡ flat_map (λ s. gaps_of p (own s x.frames)) suppliers) old new (Ok rows) → ShowsAll v Gaps old new (Ok (shows.Gaps rows))
   unfolding shown
   all-gaps rows gathers c b stood sound =
       let told = gathers c b stood in (
@@ -137,7 +137,7 @@ module _ (old new : Standing) (v : Name) (suppliers : List Name) (known : (c : C
       )
 
   pub all-schedule : (p : Params) (rows : List Sending) → ((c : Cluster) (b : Book) → old c b → p ≡ c.params) →
-      Gathers old new (Ok rows) v (λ _ x rows. rows ≡ sent_in (placements_among suppliers x) (cluster_cells p)) → ShowsAll old new v Schedule (Ok (shows.Schedule rows))
+      Gathers v (λ _ x rows. rows ≡ sent_in (placements_among suppliers x) (cluster_cells p)) old new (Ok rows) → ShowsAll v Schedule old new (Ok (shows.Schedule rows))
   unfolding shown
   all-schedule p rows of_p gathers c b stood sound =
       let told = gathers c b stood in (
@@ -148,7 +148,7 @@ module _ (old new : Standing) (v : Name) (suppliers : List Name) (known : (c : C
       )
 
   pub all-load : (p : Params) (rows : List LoadRow) → ((c : Cluster) (b : Book) → old c b → p ≡ c.params) →
-      Gathers old new (Ok rows) v (λ _ x rows. rows ≡ filled_load p (grants_among suppliers x.grants) (placements_among suppliers x)) → ShowsAll old new v Load (Ok (shows.Load rows))
+      Gathers v (λ _ x rows. rows ≡ filled_load p (grants_among suppliers x.grants) (placements_among suppliers x)) old new (Ok rows) → ShowsAll v Load old new (Ok (shows.Load rows))
   unfolding shown
   all-load p rows of_p gathers c b stood sound =
       let told = gathers c b stood in (
@@ -160,7 +160,7 @@ module _ (old new : Standing) (v : Name) (suppliers : List Name) (known : (c : C
       )
 
   pub all-export : (header : Header) (number : ℕ) (r : Result ReportRows Refusal) →
-      Gathers old new r v (λ p x rows. rows ≡ exported header number (frames_among suppliers x)) → ShowsAll old new v (Export header number) r
+      Gathers v (λ p x rows. rows ≡ exported header number (frames_among suppliers x)) old new r → ShowsAll v (Export header number) old new r
   unfolding shown
   all-export header number (Ok rows) gathers c b stood sound =
       let told = gathers c b stood in (
@@ -181,7 +181,7 @@ module _ (old new : Standing) (v : Name) (suppliers : List Name) (known : (c : C
   named-known f c b x stood sound there = ap (λ ss. frames_named f ss x) (known c b stood) ∙ named-all c b v x sound there f
 
   pub all-layout : (f : Name) (rows : List SignalRow) →
-      Gathers old new (Ok (Some rows)) v (λ p x found. AreSignals f suppliers x found) → ShowsAll old new v (Layout f) (Ok (shows.Layout rows))
+      Gathers v (λ p x found. AreSignals f suppliers x found) old new (Ok (Some rows)) → ShowsAll v (Layout f) old new (Ok (shows.Layout rows))
   unfolding shown signals_of len ◌>>◌ refuse◌when◌
   all-layout f rows gathers c b stood sound =
       let told = gathers c b stood in (
@@ -194,7 +194,7 @@ module _ (old new : Standing) (v : Name) (suppliers : List Name) (known : (c : C
       )
 
   pub all-no_frame : (f : Name) →
-      Gathers {X = Option (List SignalRow)} old new (Ok None) v (λ p x found. AreSignals f suppliers x found) → ShowsAll old new v (Layout f) (Err NoFrame)
+      Gathers {X = Option (List SignalRow)} v (λ p x found. AreSignals f suppliers x found) old new (Ok None) → ShowsAll v (Layout f) old new (Err NoFrame)
   unfolding shown len ◌>>◌ refuse◌when◌
   all-no_frame f gathers c b stood sound =
       let told = gathers c b stood in (
@@ -205,7 +205,7 @@ module _ (old new : Standing) (v : Name) (suppliers : List Name) (known : (c : C
       )
 
 -- the integrator has no frames of which the room could be asked
-pub all-no_room : (old : Standing) (v f : Name) (repetition : ℕ) → ShowsAll old old v (Room f repetition) (Err NotYours)
+pub all-no_room : (old : Standing) (v f : Name) (repetition : ℕ) → ShowsAll v (Room f repetition) old old (Err NotYours)
 unfolding shown
 all-no_room old v f repetition c b stood sound = (stood, λ x there. inr refl)
 
@@ -213,14 +213,14 @@ all-no_room old v f repetition c b stood sound = (stood, λ x there. inr refl)
 
 module _ (old mid : Standing) (v : Name) (report : Report Name ℕ) (has : Bool)
     (told : (c : Cluster) (b : Book) → old c b → mid c b × (has ≡ contains b.variants v)) where
-  pub all-replied : (new : Standing) (r : Result ReportRows Refusal) → has ≡ true → ShowsAll mid new v report r → Replies old new r (λ c b. rows_found c.params b Integrator (OfVariant v report))
+  pub all-replied : (new : Standing) (r : Result ReportRows Refusal) → has ≡ true → ShowsAll v report mid new r → Replies (λ c b. rows_found c.params b Integrator (OfVariant v report)) old new r
   all-replied new r is shows c b stood sound =
       let first = told c b stood in
       let found = value_of (get b.variants v) (sym first.1 ∙ is) in
       let last = shows c b first.0 sound in
       (last.0, subst (Said r) (sym (reply-there c.params b Integrator v report found.0 found.1)) (last.1 found.0 found.1))
 
-  pub none-replied : has ≡ false → Replies old mid (Err NoVariant) (λ c b. rows_found c.params b Integrator (OfVariant v report))
+  pub none-replied : has ≡ false → Replies (λ c b. rows_found c.params b Integrator (OfVariant v report)) old mid (Err NoVariant)
   none-replied is c b stood sound =
       let first = told c b stood in
       (first.0, inr (reply-none c.params b Integrator v report (none_of (get b.variants v) (sym first.1 ∙ is))))

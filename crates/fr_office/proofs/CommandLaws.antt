@@ -28,7 +28,7 @@ use Rattle.fr_world.proofs.BookFits.{common-fits, node-fits}
 use Rattle.fr_world.proofs.IntegratorLaws.{common-decides, node-decides}
 use Rattle.fr_world.proofs.JoiningLaws.{joining-decides, joining-fits, key-decides, key-fits}
 use Rattle.fr_office.specs.Carried.{Does, Performs}
-use Rattle.fr_world.specs.Held.{Standing, Applies}
+use Rattle.fr_world.specs.Held.{Applies, Standing, Tells}
 
 -- What is known of a sound book for which records stood and still stand.
 abbrev pub Known : Standing → Standing → (Cluster → Book → Type 0) → Type 0
@@ -41,6 +41,16 @@ refused old mid does (Err f) e is known c b stood sound =
     let k = known c b stood sound in
     let same : e ≡ f = cc in
     (k.0, inr (k.1 ∙ ap Err same))
+
+-- what decides it was not read
+pub unread : {A : Type 0} (old mid : Standing) (does : Cluster → Book → Result Book Refusal) (asked : Result A Refusal) (says : Cluster → Book → A → Type 0) (r : Result ⊤ Refusal) (e : Refusal) → r ≡ Err e → asked ≡ Err e
+    → Tells old mid asked says → Does old mid r does
+unread old mid does asked says (Ok x) e is lacks tells c b stood sound = cc
+unread old mid does (Ok t) says (Err f) e is lacks tells c b stood sound = cc
+unread old mid does (Err h) says (Err f) e is lacks tells c b stood sound =
+    let t = tells c b stood in
+    let same : f ≡ h = cc in
+    (t.0, inl (same ∙ t.1))
 
 module _ (old mid new : Standing) (does : Cluster → Book → Result Book Refusal) where
   -- the edits are made, or it is Unavailable

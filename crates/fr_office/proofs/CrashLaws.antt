@@ -16,9 +16,7 @@ use Rattle.fr_office.specs.Answering.{LeavesAct}
 use Rattle.fr_office.specs.Carried.{Does, LeavesDone, MayLeave}
 use Rattle.fr_office.specs.Imports.{LeavesImport}
 use Rattle.fr_office.specs.Replacements.{LeavesReplacement}
-use Rattle.fr_world.specs.Held.{Leaving, LeavesEdited, LeavesNoMore, Standing}
-use Rattle.fr_world.specs.BookEdits.{all_applied}
-use Rattle.fr_world.specs.declared.edit.Edit.{Edit}
+use Rattle.fr_world.specs.Held.{Leaving, LeavesNoMore, Standing}
 
 -- where records may be left for a book more, seen as records that stand for it
 abbrev pub AddsTo : List Book → Leaving → Leaving → Standing
@@ -36,13 +34,6 @@ may_do stands old mid new does same did c b books stood sound left =
       | inl stays ↦ inl stays
       | inr more ↦ inr (d.0, d.1, more)
     ]
-
--- edits that were carried out, and then something was only read
-pub edited_then : (stands : Standing) (old mid new : Leaving) (edits : List Edit) → LeavesEdited stands old mid edits → LeavesNoMore mid new → LeavesEdited stands old new edits
-edited_then stands old mid new edits edited same c b books stood fit left = elim (edited c b books stood fit left) [
-  | inl stays ↦ inl (same c books stays)
-  | inr more ↦ inr (same c (all_applied b edits ∷ books) more)
-]
 
 -- a command's outcome
 pub may_perform : (stands : Standing) (old new : Leaving) (does : Cluster → Book → Result Book Refusal) → MayLeave stands old new does → LeavesDone stands old new (λ c b. done (does c b))

@@ -63,9 +63,9 @@ grants-merged before new = merge-between channel_slots same_holder grant_seen gr
 
 -- grants were gathered of the earlier variant, and then of the other
 pub grants-compared : (old mid now : Standing) (v w : Name) (ss : List Name) (before new : List GrantRow) (rows : List DifferenceRow) →
-    Gathers old mid (Ok before) w (λ p x rows. rows ≡ grants_of (grants_among ss x.grants)) →
-    Gathers mid now (Ok new) v (λ p x rows. rows ≡ grants_of (grants_among ss x.grants)) → rows ≡ grants_merged before new →
-    Compares old now (Ok rows) v w (λ p new before rows. rows ≡ grants_told ss before new)
+    Gathers w (λ p x rows. rows ≡ grants_of (grants_among ss x.grants)) old mid (Ok before) →
+    Gathers v (λ p x rows. rows ≡ grants_of (grants_among ss x.grants)) mid now (Ok new) → rows ≡ grants_merged before new →
+    Compares v w (λ p new before rows. rows ≡ grants_told ss before new) old now (Ok rows)
 grants-compared old mid now v w ss before new rows first second told c b stood =
     let start = first c b stood in
     let last = second c b start.0 in (
@@ -79,7 +79,7 @@ grants-compared old mid now v w ss before new rows first second told c b stood =
 
 -- this was told behind other rows
 abbrev Follows : Standing → Standing → Name → Name → List DifferenceRow → List DifferenceRow → (Params → Variant → Variant → List DifferenceRow) → Type 0
-Follows old now v w rows all told = Compares {X = ⊤} old now (Ok tt) v w (λ p new before _. all ≡ rows ++ told p before new)
+Follows old now v w rows all told = Compares {X = ⊤} v w (λ p new before _. all ≡ rows ++ told p before new) old now (Ok tt)
 
 module _ (v w : Name) (ss : List Name) (old first second third fourth last : Standing) (grants frames placements signals all : List DifferenceRow) where
   abbrev told_frames : Params → Variant → Variant → List DifferenceRow
@@ -95,9 +95,9 @@ module _ (v w : Name) (ss : List Name) (old first second third fourth last : Sta
   told_gaps p before new = kind_told owned same_gap gap_seen gap_entry (λ e. gap_row p e ∷ []) ss before new
 
   -- grants, frames, placements, signals and gaps
-  pub all-told : Compares old first (Ok grants) v w (λ p new before rows. rows ≡ grants_told ss before new) →
+  pub all-told : Compares v w (λ p new before rows. rows ≡ grants_told ss before new) old first (Ok grants) →
       Follows first second v w grants frames told_frames → Follows second third v w frames placements told_placements → Follows third fourth v w placements signals told_signals →
-      Follows fourth last v w signals all told_gaps → Compares old last (Ok all) v w (λ p new before rows. rows ≡ rows_among p ss before new)
+      Follows fourth last v w signals all told_gaps → Compares v w (λ p new before rows. rows ≡ rows_among p ss before new) old last (Ok all)
   all-told of_grants of_frames of_placements of_signals of_gaps c b stood =
       let p = c.params in
       let g = of_grants c b stood in
@@ -196,7 +196,7 @@ rows-differ c b v w new before actor sound is was =
 
 -- what was gathered of those whom the actor sees
 pub gathered-seen : (old now : Standing) (actor : Actor) (v w : Name) (suppliers : List Name) (r : Result (List DifferenceRow) Refusal) →
-    ((c : Cluster) (b : Book) → old c b → suppliers ≡ seen_names actor b) → Compares old now r v w (λ p new before rows. rows ≡ rows_among p suppliers before new) → SeesDifferences old now r actor v w
+    ((c : Cluster) (b : Book) → old c b → suppliers ≡ seen_names actor b) → Compares v w (λ p new before rows. rows ≡ rows_among p suppliers before new) old now r → SeesDifferences actor v w old now r
 gathered-seen old now actor v w suppliers (Ok rows) known told c b stood sound =
     let so = told c b stood in
     (so.0, λ new before is was. so.1 new before is was ∙ ap (λ ss. rows_among c.params ss before new) (known c b stood) ∙ rows-differ c b v w new before actor sound is was)
@@ -247,18 +247,18 @@ abbrev Has : Standing → Standing → Name → Bool → Type 0
 Has old now v has = (c : Cluster) (b : Book) → old c b → now c b × (has ≡ contains b.variants v)
 
 module _ (old mid : Standing) (actor : Actor) (v w : Name) where
-  pub no_new-replied : (has : Bool) → Has old mid v has → has ≡ false → Replies old mid (Err NoVariant) (λ c b. rows_found c.params b actor (Difference v w))
+  pub no_new-replied : (has : Bool) → Has old mid v has → has ≡ false → Replies (λ c b. rows_found c.params b actor (Difference v w)) old mid (Err NoVariant)
   no_new-replied has told is c b stood sound =
       let first = told c b stood in
       (first.0, inr (found-no_new c.params b actor v w (no_value (get b.variants v) (sym first.1 ∙ is))))
 
-  pub no_old-replied : (last : Standing) (has had : Bool) → Has old mid v has → Has mid last w had → had ≡ false → Replies old last (Err NoVariant) (λ c b. rows_found c.params b actor (Difference v w))
+  pub no_old-replied : (last : Standing) (has had : Bool) → Has old mid v has → Has mid last w had → had ≡ false → Replies (λ c b. rows_found c.params b actor (Difference v w)) old last (Err NoVariant)
   no_old-replied last has had told then is c b stood sound =
       let second = then c b (told c b stood).0 in
       (second.0, inr (found-no_old c.params b actor v w (no_value (get b.variants w) (sym second.1 ∙ is))))
 
   module _ (last now : Standing) (has had : Bool) (told : Has old mid v has) (then : Has mid last w had) (is : has ≡ true) (was : had ≡ true) where
-    pub differences-replied : (rows : List DifferenceRow) → SeesDifferences last now (Ok rows) actor v w → Replies old now (Ok (shows.Difference rows)) (λ c b. rows_found c.params b actor (Difference v w))
+    pub differences-replied : (rows : List DifferenceRow) → SeesDifferences actor v w last now (Ok rows) → Replies (λ c b. rows_found c.params b actor (Difference v w)) old now (Ok (shows.Difference rows))
     differences-replied rows sees c b stood sound =
         let first = told c b stood in
         let second = then c b first.0 in
@@ -267,7 +267,7 @@ module _ (old mid : Standing) (actor : Actor) (v w : Name) where
         let seen = sees c b second.0 sound in
         (seen.0, found-both c.params b actor v w new.0 before.0 new.1 before.1 ∙ ap (λ rs. Ok (shows.Difference rs)) (sym (seen.1 new.0 before.0 new.1 before.1)))
 
-    pub differences-lacked : (e : Refusal) (r : Result ReportRows Refusal) → r ≡ Err e → SeesDifferences last now (Err e) actor v w → Replies old now r (λ c b. rows_found c.params b actor (Difference v w))
+    pub differences-lacked : (e : Refusal) (r : Result ReportRows Refusal) → r ≡ Err e → SeesDifferences actor v w last now (Err e) → Replies (λ c b. rows_found c.params b actor (Difference v w)) old now r
     differences-lacked e r made sees c b stood sound =
         let first = told c b stood in
         let second = then c b first.0 in

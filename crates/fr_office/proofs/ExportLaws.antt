@@ -81,7 +81,7 @@ module _ {R : Type 0} (records : FrameEntry → List R) (number : ℕ) (old : St
 
   -- one page more
   pub begun-more : (mid new : Standing) (s : Name) (before after : List Name) (page : PageData) (rows all : List R) (part left : Part) →
-      IsSoFar old mid v (λ p x. IsBegun records number before x rows part) → FindsPage mid new (Some page) (Ok tt) s v →
+      IsSoFar old mid v (λ p x. IsBegun records number before x rows part) → FindsPage (Some page) s v mid new (Ok tt) →
       ((rest : List (List R)) → all ++ in_part left rest ≡ rows ++ in_part part (map records (own_rows_of page).frames.rows ++ rest)) →
       after ≡ before ++ s ∷ [] → IsSoFar old new v (λ p x. IsBegun records number after x all left)
   unfolding own_rows
@@ -105,7 +105,7 @@ module _ {R : Type 0} (records : FrameEntry → List R) (number : ℕ) (old : St
 
   -- after the last
   pub begun-all_of : (new : Standing) (i : ℕ) (ss : List Name) (rows : List R) (left : Part) → length ss ≤ i → IsSoFar old new v (λ p x. IsBegun records number (take i ss) x rows left) →
-      Gathers old new (Ok rows) v (λ p x rows. rows ≡ part_of number (map records (frames_among ss x)))
+      Gathers v (λ p x rows. rows ≡ part_of number (map records (frames_among ss x))) old new (Ok rows)
   begun-all_of new i ss rows left last so c b stood =
       let told = so c b stood in (
         told.0,
@@ -117,22 +117,22 @@ module _ {R : Type 0} (records : FrameEntry → List R) (number : ℕ) (old : St
 -- ---- the rows of the report
 
 module _ (old new : Standing) (v : Name) (ss : List Name) (number : ℕ) where
-  pub gathers-frames : (rows : List FrameRecord) → Gathers old new (Ok rows) v (λ p x rows. rows ≡ part_of number (map frame_records (frames_among ss x)))
-      → Gathers old new (Ok (shows.FrameRecords rows)) v (λ p x rows. rows ≡ exported Frames number (frames_among ss x))
+  pub gathers-frames : (rows : List FrameRecord) → Gathers v (λ p x rows. rows ≡ part_of number (map frame_records (frames_among ss x))) old new (Ok rows)
+      → Gathers v (λ p x rows. rows ≡ exported Frames number (frames_among ss x)) old new (Ok (shows.FrameRecords rows))
   unfolding exported
   gathers-frames rows gathers c b stood =
       let told = gathers c b stood in
       (told.0, λ x there. ap shows.FrameRecords (told.1 x there))
 
-  pub gathers-placements : (rows : List PlacementRecord) → Gathers old new (Ok rows) v (λ p x rows. rows ≡ part_of number (map placement_records (frames_among ss x)))
-      → Gathers old new (Ok (shows.PlacementRecords rows)) v (λ p x rows. rows ≡ exported Placements number (frames_among ss x))
+  pub gathers-placements : (rows : List PlacementRecord) → Gathers v (λ p x rows. rows ≡ part_of number (map placement_records (frames_among ss x))) old new (Ok rows)
+      → Gathers v (λ p x rows. rows ≡ exported Placements number (frames_among ss x)) old new (Ok (shows.PlacementRecords rows))
   unfolding exported
   gathers-placements rows gathers c b stood =
       let told = gathers c b stood in
       (told.0, λ x there. ap shows.PlacementRecords (told.1 x there))
 
-  pub gathers-signals : (rows : List SignalRecord) → Gathers old new (Ok rows) v (λ p x rows. rows ≡ part_of number (map signal_records (frames_among ss x)))
-      → Gathers old new (Ok (shows.SignalRecords rows)) v (λ p x rows. rows ≡ exported Signals number (frames_among ss x))
+  pub gathers-signals : (rows : List SignalRecord) → Gathers v (λ p x rows. rows ≡ part_of number (map signal_records (frames_among ss x))) old new (Ok rows)
+      → Gathers v (λ p x rows. rows ≡ exported Signals number (frames_among ss x)) old new (Ok (shows.SignalRecords rows))
   unfolding exported
   gathers-signals rows gathers c b stood =
       let told = gathers c b stood in

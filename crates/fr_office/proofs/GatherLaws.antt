@@ -34,7 +34,7 @@ IsSoFar old now v says = (c : Cluster) (b : Book) → old c b → now c b × ((x
 
 -- the supplier's page that was found has its rows of the variant
 pub page-rows : (old mid new : Standing) (s v : Name) (page : PageData) (before says : Params → Variant → Type 0) →
-    IsSoFar old mid v before → FindsPage mid new (Some page) (Ok tt) s v →
+    IsSoFar old mid v before → FindsPage (Some page) s v mid new (Ok tt) →
     ((p : Params) (b : Book) (x : Variant) → before p x → page.params ≡ p → own_rows_of page ≡ own_rows p b s x → says p x) → IsSoFar old new v says
 page-rows old mid new s v page before says so finds next c b stood =
     let first = so c b stood in
@@ -59,7 +59,7 @@ module _ {R : Type 0} (made : Params → Table owned Frame → List R) (old : St
 
   -- one page more
   pub gathered-more : (mid new : Standing) (s : Name) (before after : List Name) (page : PageData) (rows all : List R) →
-      IsSoFar old mid v (λ p x. rows ≡ each_own made p x before) → FindsPage mid new (Some page) (Ok tt) s v →
+      IsSoFar old mid v (λ p x. rows ≡ each_own made p x before) → FindsPage (Some page) s v mid new (Ok tt) →
       all ≡ rows ++ made page.params (own_rows_of page).frames → after ≡ before ++ s ∷ [] → IsSoFar old new v (λ p x. all ≡ each_own made p x after)
   unfolding own_rows
   gathered-more mid new s before after page rows all so finds e more =
@@ -75,20 +75,20 @@ module _ {R : Type 0} (made : Params → Table owned Frame → List R) (old : St
 
   -- after the last
   pub gathered-all : (new : Standing) (i : ℕ) (ss : List Name) (rows : List R) → length ss ≤ i → IsSoFar old new v (λ p x. rows ≡ each_own made p x (take i ss)) →
-      Gathers old new (Ok rows) v (λ p x rows. rows ≡ each_own made p x ss)
+      Gathers v (λ p x rows. rows ≡ each_own made p x ss) old new (Ok rows)
   gathered-all new i ss rows last so c b stood =
       let told = so c b stood in
       (told.0, λ x there. told.1 x there ∙ ap (each_own made c.params x) (take_all i ss last))
 
 module _ {X : Type 0} (old mid : Standing) (v : Name) (before : Params → Variant → Type 0) (says : Params → Variant → X → Type 0) (so : IsSoFar old mid v before) where
   -- there is no page
-  pub gather-stops : (new : Standing) (s : Name) (lent : Option PageData) (r : Result X Refusal) (e : Refusal) → r ≡ Err e → FindsPage mid new lent (Err e) s v → Gathers old new r v says
+  pub gather-stops : (new : Standing) (s : Name) (lent : Option PageData) (r : Result X Refusal) (e : Refusal) → r ≡ Err e → FindsPage lent s v mid new (Err e) → Gathers v says old new r
   gather-stops new s lent r e is finds c b stood =
       let found = finds c b (so c b stood).0 in
       (found.0, rw is found.1)
 
   -- there is no memory
-  pub gather-lacks : (new : Standing) (s : Name) (page : PageData) (r : Result X Refusal) → r ≡ Err Unavailable → FindsPage mid new (Some page) (Ok tt) s v → Gathers old new r v says
+  pub gather-lacks : (new : Standing) (s : Name) (page : PageData) (r : Result X Refusal) → r ≡ Err Unavailable → FindsPage (Some page) s v mid new (Ok tt) → Gathers v says old new r
   gather-lacks new s page r is finds c b stood =
       let found = finds c b (so c b stood).0 in
       (found.0, rw is (inl refl))
@@ -96,7 +96,7 @@ module _ {X : Type 0} (old mid : Standing) (v : Name) (before : Params → Varia
 -- ---- what placements send
 
 pub sent-gathered : (old new : Standing) (v : Name) (ss : List Name) (p : Params) (placed : List (Sender × Placement)) (rows : List Sending) → rows ≡ sent_in placed (cluster_cells p) →
-    IsSoFar old new v (λ _ x. placed ≡ placements_among ss x) → Gathers old new (Ok rows) v (λ _ x rows. rows ≡ sent_in (placements_among ss x) (cluster_cells p))
+    IsSoFar old new v (λ _ x. placed ≡ placements_among ss x) → Gathers v (λ _ x rows. rows ≡ sent_in (placements_among ss x) (cluster_cells p)) old new (Ok rows)
 sent-gathered old new v ss p placed rows e so c b stood =
     let told = so c b stood in
     (told.0, λ x there. e ∙ ap (λ filled. sent_in filled (cluster_cells p)) (told.1 x there))
@@ -122,7 +122,7 @@ none_of (x ∷ xs) ys true b e g = sym (ne_eqb (suc (length (xs ++ ys))) 0 (λ h
 none_of (x ∷ xs) ys false b e g = let no : true ≡ false = e ∙ ne_eqb (suc (length xs)) 0 (λ h. omega (arith, h)) in cc
 
 module _ (old mid new : Standing) (f s v : Name) (before after : List Name) (page : PageData) where
-  pub found-more : (found has : Bool) → IsSoFar old mid v (λ p x. IsFound f before found x) → FindsPage mid new (Some page) (Ok tt) s v →
+  pub found-more : (found has : Bool) → IsSoFar old mid v (λ p x. IsFound f before found x) → FindsPage (Some page) s v mid new (Ok tt) →
       not has ≡ (len (named f (own_rows_of page).frames) == 0) → after ≡ before ++ s ∷ [] → IsSoFar old new v (λ p x. IsFound f after (found || has) x)
   unfolding own_rows len
   found-more found has so finds e more =
@@ -149,7 +149,7 @@ signals_named f p t = signals_of (named f t)
 
 module _ (old new : Standing) (f v : Name) (i : ℕ) (ss : List Name) (rows : List SignalRow) (last : length ss ≤ i)
     (gathered : IsSoFar old new v (λ p x. rows ≡ each_own (signals_named f) p x (take i ss))) where
-  pub signals-gathered : IsSoFar old new v (λ p x. IsFound f (take i ss) true x) → Gathers old new (Ok (Some rows)) v (λ p x found. AreSignals f ss x found)
+  pub signals-gathered : IsSoFar old new v (λ p x. IsFound f (take i ss) true x) → Gathers v (λ p x found. AreSignals f ss x found) old new (Ok (Some rows))
   unfolding signals_of
   signals-gathered found c b stood =
       let told = gathered c b stood in (
@@ -163,7 +163,7 @@ module _ (old new : Standing) (f v : Name) (i : ℕ) (ss : List Name) (rows : Li
             ),
       )
 
-  pub signals-none : IsSoFar old new v (λ p x. IsFound f (take i ss) false x) → Gathers {X = Option (List SignalRow)} old new (Ok None) v (λ p x found. AreSignals f ss x found)
+  pub signals-none : IsSoFar old new v (λ p x. IsFound f (take i ss) false x) → Gathers {X = Option (List SignalRow)} v (λ p x found. AreSignals f ss x found) old new (Ok None)
   signals-none found c b stood =
       let told = found c b stood in
       (told.0, λ x there. no_rows (frames_named f ss x) (told.1 x there ∙ ap (λ ts. length (frames_named f ts x) == 0) (take_all i ss last)))

@@ -150,7 +150,7 @@ module _ (old : Standing) (v : Name) where
   )
 
   pub held-more : (mid new : Standing) (s : Name) (before after : List Name) (page : PageData) (es fs : List (ChannelSlot × LaneHolder)) →
-      HoldsSoFar old mid v before es → FindsPage mid new (Some page) (Ok tt) s v →
+      HoldsSoFar old mid v before es → FindsPage (Some page) s v mid new (Ok tt) →
       grants_in_lanes fs ≡ with_rows (grants_in_lanes es) (own_rows_of page).grants.rows → after ≡ before ++ s ∷ [] → HoldsSoFar old new v after fs
   unfolding own_rows
   held-more mid new s before after page es fs so finds e more =
@@ -188,7 +188,7 @@ grants-all c b v x sound there = same_table _ _ (λ k. get-only channel_slots (�
 -- the rows of what is held
 pub held-shown : (old new : Standing) (v : Name) (ss : List Name) (es : List (ChannelSlot × LaneHolder)) (rows : List GrantRow) →
     rows ≡ grants_of (grants_in_lanes es) → HoldsSoFar old new v ss es →
-    Gathers old new (Ok rows) v (λ p x rows. rows ≡ grants_of (grants_among ss x.grants))
+    Gathers v (λ p x rows. rows ≡ grants_of (grants_among ss x.grants)) old new (Ok rows)
 held-shown old new v ss es rows e so c b stood =
     let told = so c b stood in
     (told.0, λ x there. e ∙ ap grants_of (told.1 x there))

@@ -169,10 +169,6 @@ module _ (i : Import) (count : ℕ) where
 
 -- ---- the import
 
--- what is said of a refusal is said of a result that is this refusal
-pub refused_so : (old new : Standing) (i : Import) (said : Result Answer Refusal) (e : Refusal) → said ≡ Err e → GivesImport old new (Err e) i → GivesImport old new said i
-refused_so old new i said e is given = subst (λ r. GivesImport old new r i) (sym is) given
-
 -- what holds after an import holds after a new one
 pub after_new : (stands : Standing) (i : Import) (P : Type 0) (r : Result Answer Refusal) → OnImported r P → AfterNew stands i r P
 after_new stands i P (Ok answer) h = λ c b stood sound free. h
@@ -190,7 +186,7 @@ module _ (i : Import) (old mid : Standing) where
   by_label c b decided is = label-decides c.params b i (get b.imports (i.supplier, i.label)) ∙ ap (λ d. d >>= after_label c.params b i) is
 
   -- another is kept under the label
-  pub label_stopped : (e : Refusal) → Replies old mid (Err e) label_of → GivesImport old mid (Err e) i
+  pub label_stopped : (e : Refusal) → Replies label_of old mid (Err e) → GivesImport old mid (Err e) i
   unfolding ◌>>=◌
   label_stopped e stopped c b stood sound known =
       let t = stopped c b stood sound in (
@@ -202,14 +198,14 @@ module _ (i : Import) (old mid : Standing) where
       )
 
   -- the same is
-  pub label_again : (found : Option ℕ) (rows : ℕ) → found ≡ Some rows → Replies old mid (Ok found) label_of → GivesImport old mid (Ok (Imported rows)) i
+  pub label_again : (found : Option ℕ) (rows : ℕ) → found ≡ Some rows → Replies label_of old mid (Ok found) → GivesImport old mid (Ok (Imported rows)) i
   unfolding ◌>>=◌
   label_again found rows is kept c b stood sound known =
       let t = kept c b stood sound in
       (b, by_label c b (Ok (Some rows)) (t.1 ∙ ap Ok is), t.0)
 
   -- so one is kept
-  pub label_taken : (found : Option ℕ) (rows : ℕ) → found ≡ Some rows → Replies old mid (Ok found) label_of → (c : Cluster) (b : Book) → old c b → IsSound c b → ¬ (get b.imports (i.supplier, i.label) ≡ None)
+  pub label_taken : (found : Option ℕ) (rows : ℕ) → found ≡ Some rows → Replies label_of old mid (Ok found) → (c : Cluster) (b : Book) → old c b → IsSound c b → ¬ (get b.imports (i.supplier, i.label) ≡ None)
   unfolding label_decision
   label_taken found rows is kept c b stood sound free =
       let said : label_of c b ≡ Ok found = (kept c b stood sound).1 in
@@ -217,7 +213,7 @@ module _ (i : Import) (old mid : Standing) where
       cc
 
   -- none is
-  pub label_free : (found : Option ℕ) → found ≡ None → Replies old mid (Ok found) label_of → IsNew old mid i
+  pub label_free : (found : Option ℕ) → found ≡ None → Replies label_of old mid (Ok found) → IsNew old mid i
   label_free found is kept c b stood sound =
       let t = kept c b stood sound in
       (t.0, new_label (get b.imports (i.supplier, i.label)) i (t.1 ∙ ap Ok is))
@@ -237,7 +233,7 @@ module _ (i : Import) (old mid : Standing) where
 
     module _ (count : ℕ) (counted : Tells mid next (Ok count) (λ c b count. count ≡ len (own i.supplier b.imports))) (last : Standing) (lent : Option PageData) where
       -- there is no page that is open
-      pub page_stopped : (e : Refusal) → Opens next last lent (Err e) i.supplier i.variant → GivesImport old last (Err e) i
+      pub page_stopped : (e : Refusal) → Opens lent i.supplier i.variant next last (Err e) → GivesImport old last (Err e) i
       unfolding ◌>>=◌
       page_stopped e stopped c b stood sound known =
           let t = stopped c b (counted c b (new c b stood sound).0).0 sound in (
@@ -248,7 +244,7 @@ module _ (i : Import) (old mid : Standing) where
             ],
           )
 
-      module _ (page : PageData) (is : lent ≡ Some page) (opens : Opens next last lent (Ok tt) i.supplier i.variant) where
+      module _ (page : PageData) (is : lent ≡ Some page) (opens : Opens lent i.supplier i.variant next last (Ok tt)) where
         by_room : (c : Cluster) (b : Book) → old c b → IsSound c b → contains b.suppliers i.supplier ≡ true →
             last c b × (open_page c.params b i.supplier i.variant ≡ Ok page)
             × (import c.params b i (get b.imports (i.supplier, i.label)) ≡ (import_room i count >> Ok (rows_outcome c.params b i page)))

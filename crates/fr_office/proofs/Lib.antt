@@ -23,6 +23,7 @@ pub mod ExportLaws
 pub mod AllReplies
 pub mod RegisterReplies
 pub mod CrashLaws
+pub mod CallLaws
 pub mod DoneLaws
 pub mod CrashedLaws
 pub mod ListingLaws

@@ -116,7 +116,7 @@ closed f None e = refl
 closed f (Some x) e = cc
 
 module _ (old new : Standing) (s v : Name) (lent : Option PageData) (tells : (c : Cluster) (b : Book) → old c b → new c b × (lent ≡ page_of c.params b s v)) where
-  pub finds-page : is_some lent ≡ true → FindsPage old new lent (Ok tt) s v
+  pub finds-page : is_some lent ≡ true → FindsPage lent s v old new (Ok tt)
   finds-page some c b stood =
       let told = tells c b stood in
       (told.0, at_hand lent some told.1)
@@ -127,7 +127,7 @@ module _ (old new : Standing) (s v : Name) (lent : Option PageData) (tells : (c 
           let there = opened (page_in c.params b s v) (get b.variants v) page is in
           (there.0, there.1, ap Some there.2)
 
-  pub finds-none : is_some lent ≡ false → FindsPage old new lent (Err NoVariant) s v
+  pub finds-none : is_some lent ≡ false → FindsPage lent s v old new (Err NoVariant)
   finds-none none c b stood =
       let told = tells c b stood in
       (told.0, inr (refl, at_hand lent none told.1))
@@ -137,8 +137,8 @@ module _ (old new : Standing) (s v : Name) (lent : Option PageData) (tells : (c 
       at_hand (Some page) none is = cc
 
 -- the page that is lent
-pub finds-lent : (old new : Standing) (s v : Name) (lent : Option PageData) (page : PageData) → lent ≡ Some page → FindsPage old new lent (Ok tt) s v → FindsPage old new (Some page) (Ok tt) s v
-finds-lent old new s v lent page is finds = subst (λ o. FindsPage old new o (Ok tt) s v) is finds
+pub finds-lent : (old new : Standing) (s v : Name) (lent : Option PageData) (page : PageData) → lent ≡ Some page → FindsPage lent s v old new (Ok tt) → FindsPage (Some page) s v old new (Ok tt)
+finds-lent old new s v lent page is finds = subst (λ o. FindsPage o s v old new (Ok tt)) is finds
 
 -- ---- the answer to a supplier
 
@@ -154,14 +154,14 @@ unfolding rows_found ◌or◌ ◌>>=◌
 reply-none p b a v report none = ap (λ o. (o or NoVariant) >>= λ variant. shown p a variant report) none
 
 module _ (old new : Standing) (s : Name) (v : Name) (report : Report Name ℕ) where
-  pub replies-own : (page : PageData) (r : Result ReportRows Refusal) → FindsPage old new (Some page) (Ok tt) s v → ShowsOwn page report r → Replies old new r (λ c b. rows_found c.params b (Supplier s) (OfVariant v report))
+  pub replies-own : (page : PageData) (r : Result ReportRows Refusal) → FindsPage (Some page) s v old new (Ok tt) → ShowsOwn page report r → Replies (λ c b. rows_found c.params b (Supplier s) (OfVariant v report)) old new r
   replies-own page r finds shows c b stood sound =
       let found = finds c b stood in
       let x = found.1.0 in
       let own : ShowsOwn (page_in c.params b s v x) report r = subst (λ p. ShowsOwn p report r) (same_some page (page_in c.params b s v x) found.1.2) shows in
       (found.0, subst (Said r) (sym (reply-there c.params b (Supplier s) v report x found.1.1)) (own b x (rows-registers c b s v x) refl))
 
-  pub replies-none : (lent : Option PageData) (r : Result ReportRows Refusal) (e : Refusal) → r ≡ Err e → FindsPage old new lent (Err e) s v → Replies old new r (λ c b. rows_found c.params b (Supplier s) (OfVariant v report))
+  pub replies-none : (lent : Option PageData) (r : Result ReportRows Refusal) (e : Refusal) → r ≡ Err e → FindsPage lent s v old new (Err e) → Replies (λ c b. rows_found c.params b (Supplier s) (OfVariant v report)) old new r
   replies-none lent r e is finds c b stood sound =
       let found = finds c b stood in (
         found.0,

@@ -138,7 +138,7 @@ nodes-split c b sound =
 
 -- those of one supplier, or of all, are what the actor sees
 pub sees-own : (old new : Standing) (s : Name) (r : Result (List NodeRow) Refusal) → Tells old new r (λ c b rows. rows ≡ flat_map (λ s. nodes_of (own s b.nodes)) (s ∷ []))
-    → Sees old new r (λ c b rows. rows ≡ nodes_of (seen_nodes (Supplier s) b.nodes))
+    → Sees (λ c b rows. rows ≡ nodes_of (seen_nodes (Supplier s) b.nodes)) old new r
 sees-own old new s (Ok rows) tells c b stood sound =
     let told = tells c b stood in
     (told.0, told.1 ∙ append-nil (nodes_of (own s b.nodes)))
@@ -146,7 +146,7 @@ sees-own old new s (Err e) tells c b stood sound = tells c b stood
 
 pub sees-all : (old new : Standing) (suppliers : List Name) (r : Result (List NodeRow) Refusal) → ((c : Cluster) (b : Book) → old c b → suppliers ≡ supplier_names b)
     → Tells old new r (λ c b rows. rows ≡ flat_map (λ s. nodes_of (own s b.nodes)) suppliers)
-    → Sees old new r (λ c b rows. rows ≡ nodes_of (seen_nodes Integrator b.nodes))
+    → Sees (λ c b rows. rows ≡ nodes_of (seen_nodes Integrator b.nodes)) old new r
 sees-all old new suppliers (Ok rows) known tells c b stood sound =
     let told = tells c b stood in
     (told.0, told.1 ∙ ap (flat_map (λ s. nodes_of (own s b.nodes))) (known c b stood) ∙ nodes-split c b sound)
@@ -156,21 +156,21 @@ sees-all old new suppliers (Err e) known tells c b stood sound = tells c b stood
 
 module _ (old new : Standing) (actor : Actor) where
   pub holds-cluster : (rows : List ClusterRow) → ((c : Cluster) (b : Book) → old c b → new c b × (rows ≡ cluster_told (file_of c b) actor))
-      → Replies old new (Ok (shows.Cluster rows)) (λ c b. Ok (held c.params b actor asked.Cluster))
+      → Replies (λ c b. Ok (held c.params b actor asked.Cluster)) old new (Ok (shows.Cluster rows))
   unfolding held
   holds-cluster rows told c b stood sound =
       let is = told c b stood in
       (is.0, ap (λ rs. Ok (shows.Cluster rs)) (sym (is.1 ∙ cluster-told c b actor)))
 
   pub holds-variants : (rows : List VariantRow) → Tells {X = List VariantRow} old new (Ok rows) (λ c b rows. rows ≡ variants_in b)
-      → Replies old new (Ok (shows.Variants rows)) (λ c b. Ok (held c.params b actor asked.Variants))
+      → Replies (λ c b. Ok (held c.params b actor asked.Variants)) old new (Ok (shows.Variants rows))
   unfolding held variants_of variants_in
   holds-variants rows tells c b stood sound =
       let told = tells c b stood in
       (told.0, ap (λ rs. Ok (shows.Variants rs)) (sym told.1))
 
-  pub holds-nodes : (rows : List NodeRow) → Sees old new (Ok rows) (λ c b rows. rows ≡ nodes_of (seen_nodes actor b.nodes))
-      → Replies old new (Ok (shows.Nodes rows)) (λ c b. Ok (held c.params b actor asked.Nodes))
+  pub holds-nodes : (rows : List NodeRow) → Sees (λ c b rows. rows ≡ nodes_of (seen_nodes actor b.nodes)) old new (Ok rows)
+      → Replies (λ c b. Ok (held c.params b actor asked.Nodes)) old new (Ok (shows.Nodes rows))
   unfolding held
   holds-nodes rows sees c b stood sound =
       let told = sees c b stood sound in
@@ -179,22 +179,22 @@ module _ (old new : Standing) (actor : Actor) where
 -- ---- the answer
 
 module _ (old new : Standing) (actor : Actor) where
-  pub found-held : (inventory : Inventory) (r : Result ReportRows Refusal) → Replies old new r (λ c b. Ok (held c.params b actor inventory))
-      → Replies old new r (λ c b. found c.params b actor (OfRegister inventory))
+  pub found-held : (inventory : Inventory) (r : Result ReportRows Refusal) → Replies (λ c b. Ok (held c.params b actor inventory)) old new r
+      → Replies (λ c b. found c.params b actor (OfRegister inventory)) old new r
   unfolding found
   found-held inventory r replies = replies
 
-  pub reply-found : (query : Query Name ℕ) (rows : ReportRows) → Replies old new (Ok rows) (λ c b. found c.params b actor query)
-      → Replies old new (Ok (answer.Report (is_integrator actor) rows)) (λ c b. reply c.params b actor query)
+  pub reply-found : (query : Query Name ℕ) (rows : ReportRows) → Replies (λ c b. found c.params b actor query) old new (Ok rows)
+      → Replies (λ c b. reply c.params b actor query) old new (Ok (answer.Report (is_integrator actor) rows))
   unfolding reply ◌>>=◌
   reply-found query rows replies c b stood sound =
       let told = replies c b stood sound in
       (told.0, ap (λ r. r >>= (λ rows. Ok (answer.Report (is_integrator actor) rows))) told.1)
 
-  pub reply-refused : (query : Query Name ℕ) (e : Refusal) (r : Result Answer Refusal) → r ≡ Err e → Replies {A = ReportRows} old new (Err e) (λ c b. found c.params b actor query)
-      → Replies old new r (λ c b. reply c.params b actor query)
+  pub reply-refused : (query : Query Name ℕ) (e : Refusal) (r : Result Answer Refusal) → r ≡ Err e → Replies {A = ReportRows} (λ c b. found c.params b actor query) old new (Err e)
+      → Replies (λ c b. reply c.params b actor query) old new r
   unfolding reply ◌>>=◌
-  reply-refused query e r is replies = subst (λ r. Replies old new r (λ c b. reply c.params b actor query)) (sym is) (λ c b stood sound.
+  reply-refused query e r is replies = subst (λ r. Replies (λ c b. reply c.params b actor query) old new r) (sym is) (λ c b stood sound.
       let told = replies c b stood sound in (
         told.0,
         elim told.1 [

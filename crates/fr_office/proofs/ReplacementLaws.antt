@@ -154,13 +154,9 @@ replaced_leads page new edits leads same still = record {
 
 -- ---- the replacement
 
--- what is said of a refusal is said of a result that is this refusal
-pub refused_so : (old new : Standing) (r : Replacement) (said : Result Answer Refusal) (e : Refusal) → said ≡ Err e → GivesReplacement old new (Err e) r → GivesReplacement old new said r
-refused_so old new r said e is given = subst (λ result. GivesReplacement old new result r) (sym is) given
-
 module _ (r : Replacement) (old last : Standing) (lent : Option PageData) where
   -- there is no page that is open
-  pub page_stopped : (e : Refusal) → Opens old last lent (Err e) r.supplier r.variant → GivesReplacement old last (Err e) r
+  pub page_stopped : (e : Refusal) → Opens lent r.supplier r.variant old last (Err e) → GivesReplacement old last (Err e) r
   unfolding ◌>>=◌
   page_stopped e stopped c b stood sound known =
       let t = stopped c b stood sound in (
@@ -171,7 +167,7 @@ module _ (r : Replacement) (old last : Standing) (lent : Option PageData) where
         ],
       )
 
-  module _ (page : PageData) (is : lent ≡ Some page) (opens : Opens old last lent (Ok tt) r.supplier r.variant) where
+  module _ (page : PageData) (is : lent ≡ Some page) (opens : Opens lent r.supplier r.variant old last (Ok tt)) where
     by_room : (c : Cluster) (b : Book) → old c b → IsSound c b → contains b.suppliers r.supplier ≡ true →
         last c b × (open_page c.params b r.supplier r.variant ≡ Ok page) × (replace c.params b r ≡ (replacement_room r >> Ok (replaced_outcome c.params b r page)))
     unfolding ◌>>=◌

@@ -83,7 +83,7 @@ module _ {A : Type 0} (P : A → Type 0) (o : Option A) (x : A) (is : o ≡ Some
 -- ---- what is lent
 
 module _ (old new : Standing) (s v : Name) (lent : Option PageData) (lends : (c : Cluster) (b : Book) → old c b → new c b × (lent ≡ page_of c.params b s v)) where
-  pub opens-none : is_some lent ≡ false → Opens old new lent (Err NoVariant) s v
+  pub opens-none : is_some lent ≡ false → Opens lent s v old new (Err NoVariant)
   opens-none none c b stood sound =
       let told = lends c b stood in
       (told.0, inr (at_hand lent none told.1))
@@ -93,12 +93,12 @@ module _ (old new : Standing) (s v : Name) (lent : Option PageData) (lends : (c 
       at_hand (Some page) none is = cc
 
   module _ (page : PageData) (is : lent ≡ Some page) where
-    pub opens-frozen : page.released ≡ true → Opens old new lent (Err Released) s v
+    pub opens-frozen : page.released ≡ true → Opens lent s v old new (Err Released)
     opens-frozen frozen c b stood sound =
         let told = lends c b stood in
         (told.0, inr (open-frozen c.params b s v page (sym is ∙ told.1) frozen))
 
-    pub opens-page : page.released ≡ false → Opens old new lent (Ok tt) s v
+    pub opens-page : page.released ≡ false → Opens lent s v old new (Ok tt)
     opens-page still c b stood sound =
         let told = lends c b stood in
         (told.0, has_some (λ page. open_page c.params b s v ≡ Ok page) lent page is (opened c.params b s v page (sym is ∙ told.1) still))
@@ -187,18 +187,9 @@ module _ (old mid : Standing) (s v : Name) (change : Change) where
   abbrev does : Cluster → Book → Result Book Refusal
   does c b = change_rows c.params b s v change
 
-  -- what all rows say of it is not known
-  pub rows_unknown : (r : Result ⊤ Refusal) (asked : Result BesidePage Refusal) (e : Refusal) → r ≡ Err e → asked ≡ Err e → Tells old mid asked (λ c b. IsBeside b s v change) → Does old mid r does
-  rows_unknown (Ok x) asked e said lacks tells c b stood sound = cc
-  rows_unknown (Err f) (Ok t) e said lacks tells c b stood sound = cc
-  rows_unknown (Err f) (Err h) e said lacks tells c b stood sound =
-      let t = tells c b stood in
-      let same : f ≡ h = cc in
-      (t.0, inl (same ∙ t.1))
-
   module _ (beside : BesidePage) (told : Tells old mid (Ok beside) (λ c b. IsBeside b s v change)) (next : Standing) where
     -- there is no page that is open
-    pub rows_stopped : (lent : Option PageData) (r : Result ⊤ Refusal) (e : Refusal) → r ≡ Err e → Opens mid next lent (Err e) s v → Does old next r does
+    pub rows_stopped : (lent : Option PageData) (r : Result ⊤ Refusal) (e : Refusal) → r ≡ Err e → Opens lent s v mid next (Err e) → Does old next r does
     unfolding ◌>>=◌
     rows_stopped lent (Ok x) e said stopped c b stood sound = cc
     rows_stopped lent (Err f) e said stopped c b stood sound =
@@ -211,7 +202,7 @@ module _ (old mid : Standing) (s v : Name) (change : Change) where
           ],
         )
 
-    module _ (lent : Option PageData) (page : PageData) (is : lent ≡ Some page) (opens : Opens mid next lent (Ok tt) s v) where
+    module _ (lent : Option PageData) (page : PageData) (is : lent ≡ Some page) (opens : Opens lent s v mid next (Ok tt)) where
       page_open : (c : Cluster) (b : Book) → old c b → IsSound c b → next c b × (open_page c.params b s v ≡ Ok page)
       page_open c b stood sound =
           let t = opens c b (told c b stood).0 sound in

@@ -125,7 +125,7 @@ module _ (old new : Standing) (actor : Actor) where
   replacement_acts replacement r asks gives c b stood sound known = gives c b stood sound (subst (λ a. IsTrue (knows b a)) asks known)
 
   -- a trial
-  pub trial_acts : (t : Trial) (r : Result Answer Refusal) → actor ≡ Supplier t.supplier → TellsTrial old new r t → Acts old new r actor (checked.Try t)
+  pub trial_acts : (t : Trial) (r : Result Answer Refusal) → actor ≡ Supplier t.supplier → TellsTrial t old new r → Acts old new r actor (checked.Try t)
   unfolding act
   trial_acts t (Ok answer) asks tells c b stood sound known =
       let k = tells c b stood sound (subst (λ a. IsTrue (knows b a)) asks known) in
@@ -135,7 +135,7 @@ module _ (old new : Standing) (actor : Actor) where
       (k.0, k.1)
 
   -- a query
-  pub query_acts : (query : Query Name ℕ) (r : Result Answer Refusal) → Replies old new r (λ c b. reply c.params b actor query) → Acts old new r actor (checked.Query query)
+  pub query_acts : (query : Query Name ℕ) (r : Result Answer Refusal) → Replies (λ c b. reply c.params b actor query) old new r → Acts old new r actor (checked.Query query)
   unfolding act ◌>>=◌
   query_acts query (Ok answer) replies c b stood sound known =
       let t = replies c b stood sound in

@@ -65,9 +65,9 @@ module _ (c : Cluster) (b : Book) (t : Trial) (sound : IsSound c b) (known : con
 
 module _ (t : Trial) (old last : Standing) (lent : Option PageData) where
   -- there is no page that is open
-  pub page_stopped : (e : Refusal) → Opens old last lent (Err e) t.supplier t.variant → (said : Result Answer Refusal) → said ≡ Err e → TellsTrial old last said t
+  pub page_stopped : (e : Refusal) → Opens lent t.supplier t.variant old last (Err e) → (said : Result Answer Refusal) → said ≡ Err e → TellsTrial t old last said
   unfolding ◌>>=◌
-  page_stopped e stopped said is = subst (λ r. TellsTrial old last r t) (sym is) (λ c b stood sound known.
+  page_stopped e stopped said is = subst (λ r. TellsTrial t old last r) (sym is) (λ c b stood sound known.
       let k = stopped c b stood sound in (
         k.0,
         elim k.1 [
@@ -77,8 +77,8 @@ module _ (t : Trial) (old last : Standing) (lent : Option PageData) where
       ))
 
   -- what is told on the page that is
-  pub page_told : (page : PageData) → lent ≡ Some page → Opens old last lent (Ok tt) t.supplier t.variant → (said : Result Answer Refusal) →
-      MatchResult said (λ answer. told_on page t ≡ Ok answer) (λ e. (e ≡ Unavailable) ⊎ (told_on page t ≡ Err e)) → TellsTrial old last said t
+  pub page_told : (page : PageData) → lent ≡ Some page → Opens lent t.supplier t.variant old last (Ok tt) → (said : Result Answer Refusal) →
+      MatchResult said (λ answer. told_on page t ≡ Ok answer) (λ e. (e ≡ Unavailable) ⊎ (told_on page t ≡ Err e)) → TellsTrial t old last said
   unfolding ◌>>=◌
   page_told page is opens said told c b stood sound known =
       let k = opens c b stood sound in

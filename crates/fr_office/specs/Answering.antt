@@ -1,6 +1,6 @@
 -- Answering: a request is one step of a sound book, or `Unavailable` where that may be, and the
 -- records stand for the book after it. What a crash leaves of the records until the answer, and
--- that it leaves a change that was answered.
+-- that it leaves a change that was answered. What a call that does so comes to, in a record.
 use Rattle.std.specs.Prelude.{◌≡◌, ◌⊎◌, Bool, true, List, [], ◌∷◌, Result, Ok, Err, IsTrue, MatchResult, OnOk, ⊤}
 use Rattle.std.specs.List.{list_any}
 use Rattle.fr_base.specs.Book.{Book}
@@ -24,6 +24,7 @@ use Rattle.fr_office.specs.Decided.{IsCheckedCommand, IsOwnCommand}
 use Rattle.fr_office.specs.Imports.{AfterNew}
 use Rattle.fr_office.specs.Replacements.{OnReplaced}
 use Rattle.fr_world.specs.Held.{Leaving, Standing}
+use Rattle.fr_world.specs.declared.records.Records.{Ghosts}
 
 -- whether the sender is in what a cluster file says
 abbrev pub is_known : ClusterFile → Actor → Bool
@@ -92,3 +93,23 @@ LeavesStep stands old new ask = (c : Cluster) (b : Book) (books : List Book) →
 abbrev pub KeepsChange : Standing → Leaving → Ask → Answer → Type 0
 KeepsChange stands new ask answer = (c : Cluster) (b : Book) → stands c b → IsSound c b
     → WhereChanged b (step c b ask.actor ask.request).book answer (new c ((step c b ask.actor ask.request).book ∷ []))
+
+-- ---- calls on records
+
+-- In a sound book that knows the sender, a call carried out a request with checked values, or did
+-- nothing. The records were clean before if they are now. After a change that was carried out they
+-- can be read and changed. A crash leaves what it left before, or the book after the request.
+pub record CarriesAct {R : Type 0} (g : Ghosts R) (actor : Actor) (valid : Checked) (old new : R) (r : Result Answer Refusal) : Type 0 where
+  pub falls : g.clean new → g.clean old
+  pub serves : g.clean new → AfterAct (g.stands old) valid r (g.serves new)
+  pub leaves : g.clean new → LeavesAct (g.stands old) (g.leaves old) (g.leaves new) actor valid
+  pub acts : g.clean new → Acts (g.stands old) (g.stands new) r actor valid
+
+-- A call answered a request to a sound book. The records were clean before if they are now. After a
+-- change they can be read and changed. A crash leaves what it left before, or the book after the
+-- request.
+pub record AnswersAsk {R : Type 0} (g : Ghosts R) (ask : Ask) (old new : R) (answer : Answer) : Type 0 where
+  pub falls : g.clean new → g.clean old
+  pub serves : g.clean new → AfterChange (g.stands old) ask answer (g.serves new)
+  pub leaves : g.clean new → LeavesStep (g.stands old) (g.leaves old) (g.leaves new) ask
+  pub answers : g.clean new → Answers (g.stands old) (g.stands new) ask answer

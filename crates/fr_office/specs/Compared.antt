@@ -25,15 +25,15 @@ use Rattle.fr_world.specs.KeyedRows.{by_key, frame_entry, gap_entry, placement_e
 
 -- This was gathered of two variants that are there; or one is not there, or the answer is
 -- Unavailable. The records stand for the same book as before.
-abbrev pub Compares : {X : Type 0} → Standing → Standing → Result X Refusal → Name → Name → (Params → Variant → Variant → X → Type 0) → Type 0
-Compares old now r v w says = (c : Cluster) (b : Book) → old c b → now c b × MatchResult r
+abbrev pub Compares : {X : Type 0} → Name → Name → (Params → Variant → Variant → X → Type 0) → Standing → Standing → Result X Refusal → Type 0
+Compares v w says old now r = (c : Cluster) (b : Book) → old c b → now c b × MatchResult r
     (λ found. (new before : Variant) → get b.variants v ≡ Some new → get b.variants w ≡ Some before → says c.params new before found)
     (λ e. (e ≡ Unavailable) ⊎ ((e ≡ NoVariant) × ((get b.variants v ≡ None) ⊎ (get b.variants w ≡ None))))
 
 -- In a sound book, where both variants are there, their difference was gathered as the actor sees
 -- it, or the answer is Unavailable. The records stand for the same book as before.
-abbrev pub SeesDifferences : Standing → Standing → Result (List DifferenceRow) Refusal → Actor → Name → Name → Type 0
-SeesDifferences old now r actor v w = (c : Cluster) (b : Book) → old c b → IsSound c b → now c b × ((new before : Variant) → get b.variants v ≡ Some new → get b.variants w ≡ Some before → MatchResult r
+abbrev pub SeesDifferences : Actor → Name → Name → Standing → Standing → Result (List DifferenceRow) Refusal → Type 0
+SeesDifferences actor v w old now r = (c : Cluster) (b : Book) → old c b → IsSound c b → now c b × ((new before : Variant) → get b.variants v ≡ Some new → get b.variants w ≡ Some before → MatchResult r
     (λ rows. rows ≡ differences c.params actor before new)
     (λ e. e ≡ Unavailable))
 

@@ -47,8 +47,8 @@ IsBeside b s v change beside = (beside.is_there ≡ contains b.suppliers s) × (
 
 -- The supplier's page of the variant is the one that is lent, and the variant is open; else the
 -- refusal is the definition's, or Unavailable. The records stand for the same book as before.
-abbrev pub Opens : Standing → Standing → Option PageData → Result ⊤ Refusal → Name → Name → Type 0
-Opens old new lent r s v = (c : Cluster) (b : Book) → old c b → IsSound c b → new c b × MatchResult r
+abbrev pub Opens : Option PageData → Name → Name → Standing → Standing → Result ⊤ Refusal → Type 0
+Opens lent s v old new r = (c : Cluster) (b : Book) → old c b → IsSound c b → new c b × MatchResult r
     (λ _. IfSome lent (λ page. open_page c.params b s v ≡ Ok page))
     (λ e. (e ≡ Unavailable) ⊎ (open_page c.params b s v ≡ Err e))
 

@@ -1,5 +1,6 @@
 -- Import: an import is carried out as the definition says, and its rows as they are decided on the
--- supplier's page; or nothing is done. What a crash leaves of it.
+-- supplier's page; or nothing is done. What a crash leaves of it. What a call that does so comes to,
+-- in a record.
 use Rattle.std.specs.Prelude.{◌≡◌, ◌⊎◌, ℕ, List, [], ◌∷◌, ◌++◌, length, Result, Ok, None, IfOk, IsTrue, MatchResult, ⊤}
 use Rattle.fr_base.specs.Book.{Book}
 use Rattle.fr_base.specs.Cluster.{Cluster}
@@ -22,6 +23,7 @@ use Rattle.fr_world.specs.declared.edit.Edit.TheVariants.{KeepImport}
 use Rattle.fr_office.specs.Carried.{IsRefused}
 use Rattle.fr_office.specs.Decided.{open_page}
 use Rattle.fr_world.specs.Held.{Leaving, Standing}
+use Rattle.fr_world.specs.declared.records.Records.{Ghosts}
 
 -- In a sound book the import of a supplier that is there was carried out as the definition says,
 -- and the records stand for the book after it; or nothing was done.
@@ -72,3 +74,21 @@ OnImported r P = IfOk r (λ answer. WhereImported answer P)
 -- This holds after an import that was carried out, if none was kept under the label before.
 abbrev pub AfterNew : Standing → Import → Result Answer Refusal → Type 0 → Type 0
 AfterNew stands i r P = IfOk r (λ answer. (c : Cluster) (b : Book) → stands c b → IsSound c b → get b.imports (i.supplier, i.label) ≡ None → WhereImported answer P)
+
+-- ---- calls on records
+
+-- A call carried out the import of a supplier that is there, or did nothing. The records were clean
+-- before if they are now. After a new import they can be read and changed. A crash leaves what it
+-- left before, or the book after the import.
+pub record CarriesImport {R : Type 0} (g : Ghosts R) (i : Import) (old new : R) (r : Result Answer Refusal) : Type 0 where
+  pub falls : g.clean new → g.clean old
+  pub serves : g.clean new → AfterNew (g.stands old) i r (g.serves new)
+  pub leaves : g.clean new → LeavesImport (g.stands old) (g.leaves old) (g.leaves new) i
+  pub gives : g.clean new → GivesImport (g.stands old) (g.stands new) r i
+
+-- A call did so with the rows of a new import, as they are decided on its supplier's page.
+pub record CarriesRows {R : Type 0} (g : Ghosts R) (i : Import) (old new : R) (r : Result Answer Refusal) (page : PageData) : Type 0 where
+  pub falls : g.clean new → g.clean old
+  pub serves : g.clean new → OnImported r (g.serves new)
+  pub leaves : g.clean new → LeavesRows (g.stands old) (g.leaves old) (g.leaves new) i page
+  pub gives : g.clean new → GivesRows (g.stands old) (g.stands new) r i page

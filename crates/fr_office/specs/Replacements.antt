@@ -17,6 +17,7 @@ use Rattle.fr_base.specs.declared.refusal.Refusal.TheVariants.{Limit, Unavailabl
 use Rattle.fr_base.specs.declared.request.Replacement.{Replacement}
 use Rattle.fr_world.specs.BookEdits.{all_applied}
 use Rattle.fr_world.specs.Held.{Leaving, Standing}
+use Rattle.fr_world.specs.declared.records.Records.{Ghosts}
 use Rattle.fr_world.specs.Pages.{PageData}
 use Rattle.fr_world.specs.ReplacementDecisions.{replacement_decision}
 use Rattle.fr_office.specs.Carried.{IsRefused}
@@ -68,3 +69,21 @@ WhereReplaced _ P = ⊤
 -- This holds after a replacement that was carried out.
 abbrev pub OnReplaced : Result Answer Refusal → Type 0 → Type 0
 OnReplaced result P = IfOk result (λ answer. WhereReplaced answer P)
+
+-- ---- calls on records
+
+-- A call carried out the replacement of a supplier that is there, or did nothing. The records were
+-- clean before if they are now. After a replacement they can be read and changed. A crash leaves what
+-- it left before, or the book after the replacement.
+pub record CarriesReplacement {R : Type 0} (g : Ghosts R) (replacement : Replacement) (old new : R) (r : Result Answer Refusal) : Type 0 where
+  pub falls : g.clean new → g.clean old
+  pub serves : g.clean new → OnReplaced r (g.serves new)
+  pub leaves : g.clean new → LeavesReplacement (g.stands old) (g.leaves old) (g.leaves new) replacement
+  pub gives : g.clean new → GivesReplacement (g.stands old) (g.stands new) r replacement
+
+-- A call did so with the rows of a replacement, as they are decided on its supplier's page.
+pub record CarriesReplaced {R : Type 0} (g : Ghosts R) (replacement : Replacement) (old new : R) (r : Result Answer Refusal) (page : PageData) : Type 0 where
+  pub falls : g.clean new → g.clean old
+  pub serves : g.clean new → OnReplaced r (g.serves new)
+  pub leaves : g.clean new → LeavesReplaced (g.stands old) (g.leaves old) (g.leaves new) replacement page
+  pub gives : g.clean new → GivesReplaced (g.stands old) (g.stands new) r replacement page

@@ -44,13 +44,13 @@ node_of supplier node = record { node = node; supplier = supplier }
 
 -- What was read of a sound book tells this of it, or the answer is Unavailable. The records stand
 -- for the same book as before.
-abbrev pub Sees : {X : Type 0} → Standing → Standing → Result X Refusal → (Cluster → Book → X → Type 0) → Type 0
-Sees old new r says = (c : Cluster) (b : Book) → old c b → IsSound c b → new c b × MatchResult r (says c b) (λ e. e ≡ Unavailable)
+abbrev pub Sees : {X : Type 0} → (Cluster → Book → X → Type 0) → Standing → Standing → Result X Refusal → Type 0
+Sees says old new r = (c : Cluster) (b : Book) → old c b → IsSound c b → new c b × MatchResult r (says c b) (λ e. e ≡ Unavailable)
 
 -- The supplier's page of the variant is the one that is lent; or the variant is not there, or the answer is Unavailable. The records
 -- stand for the same book as before.
-abbrev pub FindsPage : Standing → Standing → Option PageData → Result ⊤ Refusal → Name → Name → Type 0
-FindsPage old new lent r s v = (c : Cluster) (b : Book) → old c b → new c b × MatchResult r
+abbrev pub FindsPage : Option PageData → Name → Name → Standing → Standing → Result ⊤ Refusal → Type 0
+FindsPage lent s v old new r = (c : Cluster) (b : Book) → old c b → new c b × MatchResult r
     (λ _. (x : Variant) × (get b.variants v ≡ Some x) × (lent ≡ Some (page_in c.params b s v x)))
     (λ e. (e ≡ Unavailable) ⊎ ((e ≡ NoVariant) × (get b.variants v ≡ None)))
 
@@ -63,15 +63,15 @@ ShowsOwn page report r = (b : Book) (x : Variant) → own_rows_of page ≡ own_r
 
 -- This was gathered of the variant, if it is there; or it is not there, or the answer is
 -- Unavailable. The records stand for the same book as before.
-abbrev pub Gathers : {X : Type 0} → Standing → Standing → Result X Refusal → Name → (Params → Variant → X → Type 0) → Type 0
-Gathers old new r v says = (c : Cluster) (b : Book) → old c b → new c b × MatchResult r
+abbrev pub Gathers : {X : Type 0} → Name → (Params → Variant → X → Type 0) → Standing → Standing → Result X Refusal → Type 0
+Gathers v says old new r = (c : Cluster) (b : Book) → old c b → new c b × MatchResult r
     (λ found. (x : Variant) → get b.variants v ≡ Some x → says c.params x found)
     (λ e. (e ≡ Unavailable) ⊎ ((e ≡ NoVariant) × (get b.variants v ≡ None)))
 
 -- The report shows the integrator what the definition says of the variant, if it is there; or the
 -- answer is Unavailable. The records stand for the same book as before.
-abbrev pub ShowsAll : Standing → Standing → Name → Report Name ℕ → Result ReportRows Refusal → Type 0
-ShowsAll old new v report r = (c : Cluster) (b : Book) → old c b → IsSound c b → new c b × ((x : Variant) → get b.variants v ≡ Some x → MatchResult r
+abbrev pub ShowsAll : Name → Report Name ℕ → Standing → Standing → Result ReportRows Refusal → Type 0
+ShowsAll v report old new r = (c : Cluster) (b : Book) → old c b → IsSound c b → new c b × ((x : Variant) → get b.variants v ≡ Some x → MatchResult r
     (λ answer. shown c.params Integrator x report ≡ Ok answer)
     (λ e. (e ≡ Unavailable) ⊎ (shown c.params Integrator x report ≡ Err e)))
 

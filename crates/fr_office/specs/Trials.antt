@@ -32,7 +32,7 @@ told_on page t = do
 
 -- In a sound book the trial of a supplier that is there is answered as the definition says, or
 -- Unavailable. The records stand for the same book as before.
-abbrev pub TellsTrial : Standing → Standing → Result Answer Refusal → Trial → Type 0
-TellsTrial old new r t = (c : Cluster) (b : Book) → old c b → IsSound c b → IsTrue (contains b.suppliers t.supplier) → new c b × MatchResult r
+abbrev pub TellsTrial : Trial → Standing → Standing → Result Answer Refusal → Type 0
+TellsTrial t old new r = (c : Cluster) (b : Book) → old c b → IsSound c b → IsTrue (contains b.suppliers t.supplier) → new c b × MatchResult r
     (λ answer. try c.params b t ≡ Ok (record { book = b; answer = answer }))
     (λ e. (e ≡ Unavailable) ⊎ (try c.params b t ≡ Err e))

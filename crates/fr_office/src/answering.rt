@@ -3,7 +3,7 @@ ghost use Rattle.std.specs.Prelude.{◌≡◌, Err, IsTrue, MatchResult, Ok};
 ghost use Rattle.std.specs.List.{list_any};
 ghost use Rattle.fr_base.specs.Names.{same_text};
 ghost use Rattle.fr_base.specs.Step.{knows};
-ghost use Rattle.fr_office.specs.Answering.{Acts, AfterAct, AfterChange, Answers, HasPassed, LeavesAct, LeavesStep, is_known};
+ghost use Rattle.fr_office.specs.Answering.{Answers, AnswersAsk, CarriesAct, HasPassed, is_known};
 
 use crate::commands::common::change_common;
 use crate::commands::nodes::add_node;
@@ -21,13 +21,7 @@ use std::alloc::Global;
 /// Answers a request of a sound register by one step: `UnknownKey` where who asks is not there; then what the request's own
 /// text refuses; then it is carried out, or `Unavailable`.
 pub fn answer<R: Lender>(alloc: Global, records: &mut R, ask: &Ask) -> Answer
-    ensures falls { R.clean records.new → R.clean records.old }
-    ensures open { R.clean records.new
-        → AfterChange (R.stands records.old) ask.now result (R.serves records.new) }
-    ensures leaves { R.clean records.new
-        → LeavesStep (R.stands records.old) (R.leaves records.old) (R.leaves records.new) ask.now }
-    ensures answers { R.clean records.new
-        → Answers (R.stands records.old) (R.stands records.new) ask.now result }
+    ensures { AnswersAsk R.Records ask.now records.old records.new result }
 {
     let config = records.config();
     if !is_known(config, &ask.actor) {
@@ -92,14 +86,7 @@ fn act<R: Lender>(
 ) -> Result<Answer, Refusal>
     requires passed { HasPassed (R.params records.old) actor.now valid.now }
     requires known { (c : _) (b : _) → R.stands records.old c b → IsTrue (knows b actor.now) }
-    ensures falls { R.clean records.new → R.clean records.old }
-    ensures open { R.clean records.new
-        → AfterAct (R.stands records.old) valid.now result (R.serves records.new) }
-    ensures leaves { R.clean records.new
-        → LeavesAct (R.stands records.old) (R.leaves records.old) (R.leaves records.new) actor.now
-        valid.now }
-    ensures acts { R.clean records.new
-        → Acts (R.stands records.old) (R.stands records.new) result actor.now valid.now }
+    ensures { CarriesAct R.Records actor.now valid.now records.old records.new result }
 {
     match valid {
         Checked::Command(command) => match command {

@@ -1,13 +1,12 @@
 //! Carries an import out, or answers it once more.
 #![tactic(auto, using(fr_world::proofs::ReadLaws::reads_none, fr_world::proofs::ReadLaws::reads_then))]
 
-ghost use Rattle.std.specs.Prelude.{◌≡◌, IfSome, IsSome, OnOk, false};
+ghost use Rattle.std.specs.Prelude.{◌≡◌, IfSome, IsSome, false};
 ghost use Rattle.fr_base.specs.Tables.{get};
-ghost use Rattle.fr_office.specs.Carried.{Replies};
+ghost use Rattle.fr_office.specs.Carried.{CarriesEdits, OnlyReads, Replies};
 ghost use Rattle.fr_office.specs.Decided.{LeadsTo};
-ghost use Rattle.fr_office.specs.Imports.{AfterNew, GivesImport, GivesRows, LeavesImport, LeavesRows, OnImported, kept_edits};
+ghost use Rattle.fr_office.specs.Imports.{CarriesImport, CarriesRows, kept_edits};
 ghost use Rattle.fr_world.specs.ImportLabels.{label_decision};
-ghost use Rattle.fr_world.specs.Held.{Applies, LeavesEdited, Reads};
 
 use crate::lender::{Lender, open_page};
 use fr_base::{Answer, Body, Import, Refusal};
@@ -25,14 +24,7 @@ pub(crate) fn import<R: Lender>(
     records: &mut R,
     import: &Import<'_>,
 ) -> Result<Answer, Refusal>
-    ensures falls { R.clean records.new → R.clean records.old }
-    ensures open { R.clean records.new
-        → AfterNew (R.stands records.old) import.now result (R.serves records.new) }
-    ensures leaves { R.clean records.new
-        → LeavesImport (R.stands records.old) (R.leaves records.old) (R.leaves records.new)
-        import.now }
-    ensures gives { R.clean records.new
-        → GivesImport (R.stands records.old) (R.stands records.new) result import.now }
+    ensures { CarriesImport R.Records import.now records.old records.new result }
 {
     if let Some(rows) = rows_kept(alloc, records, import)? {
         return Ok(Answer::Imported { rows });
@@ -49,10 +41,11 @@ fn rows_kept<R: Records>(
     records: &mut R,
     import: &Import<'_>,
 ) -> Result<Option<u32>, Refusal>
-    ensures reads { Reads R.clean R.params R.leaves records.old records.new }
-    ensures label { R.clean records.new
-        → Replies (R.stands records.old) (R.stands records.new) result
-        (λ c b. label_decision (get b.imports (import.now.supplier, import.now.label)) import.now) }
+    ensures { OnlyReads R.Records
+        (Replies
+        (λ c b. label_decision (get b.imports (import.now.supplier, import.now.label))
+        import.now))
+        records.old records.new result }
 {
     let kept = records.import(alloc, import.supplier, import.label)?;
     decide_label(kept.as_ref(), import)
@@ -67,15 +60,8 @@ fn import_rows<R: Lender>(
 ) -> Result<Answer, Refusal>
     requires lent { IsSome (R.lent records.old) }
     requires open { IfSome (R.lent records.old) (λ page. page.released ≡ false) }
-    ensures falls { R.clean records.new → R.clean records.old }
-    ensures open { R.clean records.new → OnImported result (R.serves records.new) }
-    ensures leaves { R.clean records.new
-        → IfSome (R.lent records.old)
-        (LeavesRows (R.stands records.old) (R.leaves records.old) (R.leaves records.new)
-        import.now) }
-    ensures gives { R.clean records.new
-        → IfSome (R.lent records.old)
-        (GivesRows (R.stands records.old) (R.stands records.new) result import.now) }
+    ensures { IfSome (R.lent records.old)
+        (CarriesRows R.Records import.now records.old records.new result) }
 {
     let page = records.lent();
     let rows = read_import(alloc, &page.params(), import.body.as_slice())?;
@@ -104,14 +90,8 @@ fn keep<R: Lender>(
     requires lent { IsSome (R.lent records.old) }
     requires leads { IfSome (R.lent records.old)
         (λ page. LeadsTo page (kept_edits draft.edits.items import.now rows) draft.page) }
-    ensures falls { R.clean records.new → R.clean records.old }
-    ensures open { R.clean records.new → OnOk result (R.serves records.new) }
-    ensures leaves { R.clean records.new
-        → LeavesEdited (R.stands records.old) (R.leaves records.old) (R.leaves records.new)
-        (kept_edits draft.edits.items import.now rows) }
-    ensures applies { R.clean records.new
-        → Applies (R.stands records.old) (R.stands records.new) result
-        (kept_edits draft.edits.items import.now rows) }
+    ensures { CarriesEdits R.Records (kept_edits draft.edits.items import.now rows)
+        records.old records.new result }
 {
     let Draft { page, mut edits } = draft;
     edits.push(Edit::KeepImport {

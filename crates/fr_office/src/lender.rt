@@ -3,8 +3,8 @@
 #![tactic(auto, using(fr_world::proofs::ReadLaws::reads_none, fr_world::proofs::ReadLaws::reads_then))]
 
 ghost use Rattle.std.specs.Prelude.{◌≡◌, Option, Some, false, IfOk, IfSome, IsSome, MatchResult, OnOk, is_some};
+ghost use Rattle.fr_office.specs.Carried.{OnlyReads};
 ghost use Rattle.fr_office.specs.Decided.{Opens};
-ghost use Rattle.fr_world.specs.Held.{Reads};
 
 use fr_base::{Name, Refusal};
 use fr_world::{Edit, Page, Records};
@@ -13,9 +13,10 @@ use std::alloc::Global;
 /// Records that lend one page at a time. The page stays with them, so it is not lost, whatever
 /// comes of the request.
 pub trait Lender: Records {
+    ghost use Rattle.fr_office.specs.Carried.{CarriesEdits, OnlyReads};
     ghost use Rattle.fr_office.specs.Decided.{LeadsTo, TakesAll};
     ghost use Rattle.fr_office.specs.KeptPages.{FollowsAll};
-    ghost use Rattle.fr_world.specs.Held.{Applies, LeavesEdited, Reads, Tells, page_of};
+    ghost use Rattle.fr_world.specs.Held.{Tells, page_of};
     ghost use Rattle.fr_world.specs.Pages.{PageData};
 
     /// The page that is lent, if one is.
@@ -25,12 +26,12 @@ pub trait Lender: Records {
     /// that was lent before is lent no more. Where the variant is not there, no page is lent. A
     /// page has the cluster's parameters.
     fn lend(&mut self, alloc: Global, supplier: Name, variant: Name) -> Result<bool, Refusal>
-        ensures reads { Reads Self.clean Self.params Self.leaves self.old self.new }
         ensures there { IfOk result (λ there. there ≡ is_some (lent self.new)) }
         ensures params { IfSome (lent self.new) (λ page. page.params ≡ Self.params self.old) }
-        ensures lends { Self.clean self.new
-            → Tells (Self.stands self.old) (Self.stands self.new) result
-            (λ c b _. lent self.new ≡ page_of c.params b supplier variant) };
+        ensures lends { OnlyReads Self.Records
+            (λ old new r. Tells old new r
+            (λ c b _. lent self.new ≡ page_of c.params b supplier variant))
+            self.old self.new result };
 
     /// The page that is lent.
     fn lent(&self) -> &Page
@@ -42,14 +43,7 @@ pub trait Lender: Records {
     /// change it. After an error it is lent as it was.
     fn change(&mut self, alloc: Global, edits: &[Edit]) -> Result<(), Refusal>
         requires takes { IfSome (lent self.old) (λ page. TakesAll page edits.now) }
-        ensures falls { Self.clean self.new → Self.clean self.old }
-        ensures same { Self.params self.new ≡ Self.params self.old }
-        ensures open { Self.clean self.new → OnOk result (Self.serves self.new) }
-        ensures leaves { Self.clean self.new
-            → LeavesEdited (Self.stands self.old) (Self.leaves self.old) (Self.leaves self.new)
-            edits.now }
-        ensures applies { Self.clean self.new
-            → Applies (Self.stands self.old) (Self.stands self.new) result edits.now }
+        ensures carries { CarriesEdits Self.Records edits.now self.old self.new result }
         ensures lent { MatchResult result
             (λ _. FollowsAll edits.now (lent self.old) (lent self.new))
             (λ _. lent self.new ≡ lent self.old) };
@@ -59,14 +53,7 @@ pub trait Lender: Records {
     fn change_to(&mut self, alloc: Global, edits: &[Edit], page: Page) -> Result<(), Refusal>
         requires lent { IsSome (lent self.old) }
         requires leads { IfSome (lent self.old) (λ before. LeadsTo before edits.now page) }
-        ensures falls { Self.clean self.new → Self.clean self.old }
-        ensures same { Self.params self.new ≡ Self.params self.old }
-        ensures open { Self.clean self.new → OnOk result (Self.serves self.new) }
-        ensures leaves { Self.clean self.new
-            → LeavesEdited (Self.stands self.old) (Self.leaves self.old) (Self.leaves self.new)
-            edits.now }
-        ensures applies { Self.clean self.new
-            → Applies (Self.stands self.old) (Self.stands self.new) result edits.now }
+        ensures carries { CarriesEdits Self.Records edits.now self.old self.new result }
         ensures lent { MatchResult result (λ _. lent self.new ≡ Some page)
             (λ _. lent self.new ≡ lent self.old) };
 }
@@ -79,13 +66,11 @@ pub(crate) fn open_page<R: Lender>(
     supplier: Name,
     variant: Name,
 ) -> Result<(), Refusal>
-    ensures reads { Reads R.clean R.params R.leaves records.old records.new }
     ensures lent { OnOk result (IsSome (R.lent records.new)) }
     ensures open { OnOk result (IfSome (R.lent records.new) (λ page. page.released ≡ false)) }
     ensures params { IfSome (R.lent records.new) (λ page. page.params ≡ R.params records.old) }
-    ensures page { R.clean records.new
-        → Opens (R.stands records.old) (R.stands records.new) (R.lent records.new) result supplier
-        variant }
+    ensures opens { OnlyReads R.Records (Opens (R.lent records.new) supplier variant)
+        records.old records.new result }
 {
     if !records.lend(alloc, supplier, variant)? {
         return Err(Refusal::NoVariant);

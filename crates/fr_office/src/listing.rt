@@ -1,6 +1,6 @@
 //! The variants of the register, listed for a sender.
+ghost use Rattle.fr_office.specs.Carried.{OnlyReads};
 ghost use Rattle.fr_office.specs.Listing.{Lists};
-ghost use Rattle.fr_world.specs.Held.{Reads};
 
 use crate::answering::is_known;
 use fr_base::{Actor, Refusal, VariantRow};
@@ -14,9 +14,8 @@ pub fn list_variants<R: Records>(
     records: &mut R,
     actor: &Actor,
 ) -> Result<Vec<VariantRow>, Refusal>
-    ensures reads { Reads R.clean R.params R.leaves records.old records.new }
-    ensures lists { R.clean records.new
-        → Lists (R.stands records.old) (R.stands records.new) actor.now result }
+    ensures { OnlyReads R.Records (λ old new r. Lists old new actor.now r)
+        records.old records.new result }
 {
     if !is_known(records.config(), actor) {
         return Err(Refusal::UnknownKey);

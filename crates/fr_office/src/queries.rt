@@ -6,9 +6,8 @@ ghost use Rattle.fr_base.specs.Checks.{divides, has_repetition, is_integrator};
 ghost use Rattle.fr_base.specs.Queries.{found, held, reply};
 ghost use Rattle.fr_base.specs.declared.actor.Actor.TheVariants.{Integrator, Supplier};
 ghost use Rattle.fr_base.specs.declared.query.Query.TheVariants.{Variant as OfVariant};
-ghost use Rattle.fr_office.specs.Carried.{Replies};
+ghost use Rattle.fr_office.specs.Carried.{OnlyReads, Replies};
 ghost use Rattle.fr_office.specs.Shown.{FindsPage, ShowsAll, ShowsOwn};
-ghost use Rattle.fr_world.specs.Held.{Reads};
 
 mod cluster;
 mod compared;
@@ -49,10 +48,8 @@ pub(crate) fn reply<R: Lender>(
     query: &Query<Name>,
 ) -> Result<Answer, Refusal>
     requires { IsTrue (has_repetition (R.params records.old) query.now) }
-    ensures reads { Reads R.clean R.params R.leaves records.old records.new }
-    ensures replies { R.clean records.new
-        → Replies (R.stands records.old) (R.stands records.new) result
-        (λ c b. reply c.params b actor.now query.now) }
+    ensures { OnlyReads R.Records (Replies (λ c b. reply c.params b actor.now query.now))
+        records.old records.new result }
 {
     let rows = find_rows(alloc, records, actor, query)?;
     let all = is_integrator(actor);
@@ -74,10 +71,8 @@ fn find_rows<R: Lender>(
     query: &Query<Name>,
 ) -> Result<ReportRows, Refusal>
     requires { IsTrue (has_repetition (R.params records.old) query.now) }
-    ensures reads { Reads R.clean R.params R.leaves records.old records.new }
-    ensures replies { R.clean records.new
-        → Replies (R.stands records.old) (R.stands records.new) result
-        (λ c b. found c.params b actor.now query.now) }
+    ensures { OnlyReads R.Records (Replies (λ c b. found c.params b actor.now query.now))
+        records.old records.new result }
 {
     match query {
         Query::Register(inventory) => held(alloc, records, actor, *inventory),
@@ -95,10 +90,8 @@ fn held<R: Lender>(
     actor: &Actor,
     inventory: Inventory,
 ) -> Result<ReportRows, Refusal>
-    ensures reads { Reads R.clean R.params R.leaves records.old records.new }
-    ensures holds { R.clean records.new
-        → Replies (R.stands records.old) (R.stands records.new) result
-        (λ c b. Ok (held c.params b actor.now inventory)) }
+    ensures { OnlyReads R.Records (Replies (λ c b. Ok (held c.params b actor.now inventory)))
+        records.old records.new result }
 {
     match inventory {
         Inventory::Cluster => {
@@ -125,10 +118,9 @@ fn of_variant<R: Lender>(
     report: &Report<Name>,
 ) -> Result<ReportRows, Refusal>
     requires { IsTrue (divides (R.params records.old) report.now) }
-    ensures reads { Reads R.clean R.params R.leaves records.old records.new }
-    ensures replies { R.clean records.new
-        → Replies (R.stands records.old) (R.stands records.new) result
-        (λ c b. found c.params b actor.now (OfVariant variant report.now)) }
+    ensures { OnlyReads R.Records
+        (Replies (λ c b. found c.params b actor.now (OfVariant variant report.now)))
+        records.old records.new result }
 {
     match actor {
         Actor::Supplier(supplier) => of_supplier(alloc, records, *supplier, variant, report),
@@ -143,10 +135,9 @@ fn of_all<R: Lender>(
     variant: Name,
     report: &Report<Name>,
 ) -> Result<ReportRows, Refusal>
-    ensures reads { Reads R.clean R.params R.leaves records.old records.new }
-    ensures replies { R.clean records.new
-        → Replies (R.stands records.old) (R.stands records.new) result
-        (λ c b. found c.params b Integrator (OfVariant variant report.now)) }
+    ensures { OnlyReads R.Records
+        (Replies (λ c b. found c.params b Integrator (OfVariant variant report.now)))
+        records.old records.new result }
 {
     if records.has_variant(variant)? {
         show_all(alloc, records, variant, report)
@@ -162,9 +153,7 @@ fn show_all<R: Lender>(
     variant: Name,
     report: &Report<Name>,
 ) -> Result<ReportRows, Refusal>
-    ensures reads { Reads R.clean R.params R.leaves records.old records.new }
-    ensures shows { R.clean records.new
-        → ShowsAll (R.stands records.old) (R.stands records.new) variant report.now result }
+    ensures { OnlyReads R.Records (ShowsAll variant report.now) records.old records.new result }
 {
     let params = records.config().params();
     let suppliers = supplier_names(alloc, records.config())?;
@@ -211,10 +200,9 @@ fn of_supplier<R: Lender>(
     report: &Report<Name>,
 ) -> Result<ReportRows, Refusal>
     requires { IsTrue (divides (R.params records.old) report.now) }
-    ensures reads { Reads R.clean R.params R.leaves records.old records.new }
-    ensures replies { R.clean records.new
-        → Replies (R.stands records.old) (R.stands records.new) result
-        (λ c b. found c.params b (Supplier supplier) (OfVariant variant report.now)) }
+    ensures { OnlyReads R.Records
+        (Replies (λ c b. found c.params b (Supplier supplier) (OfVariant variant report.now)))
+        records.old records.new result }
 {
     find_page(alloc, records, supplier, variant)?;
     show(alloc, records.lent(), report)
@@ -227,12 +215,10 @@ pub(crate) fn find_page<R: Lender>(
     supplier: Name,
     variant: Name,
 ) -> Result<(), Refusal>
-    ensures reads { Reads R.clean R.params R.leaves records.old records.new }
     ensures lent { OnOk result (IsSome (R.lent records.new)) }
     ensures params { IfSome (R.lent records.new) (λ page. page.params ≡ R.params records.old) }
-    ensures page { R.clean records.new
-        → FindsPage (R.stands records.old) (R.stands records.new) (R.lent records.new) result
-        supplier variant }
+    ensures finds { OnlyReads R.Records (FindsPage (R.lent records.new) supplier variant)
+        records.old records.new result }
 {
     if records.lend(alloc, supplier, variant)? {
         Ok(())

@@ -1,10 +1,10 @@
 //! Carries a replacement out.
 #![tactic(auto, using(fr_world::proofs::ReadLaws::reads_none, fr_world::proofs::ReadLaws::reads_then))]
 
-ghost use Rattle.std.specs.Prelude.{◌≡◌, IfSome, IsSome, OnOk, false};
+ghost use Rattle.std.specs.Prelude.{◌≡◌, IfSome, IsSome, false};
+ghost use Rattle.fr_office.specs.Carried.{CarriesEdits};
 ghost use Rattle.fr_office.specs.Decided.{LeadsTo};
-ghost use Rattle.fr_office.specs.Replacements.{GivesReplaced, GivesReplacement, LeavesReplaced, LeavesReplacement, OnReplaced, replacement_room};
-ghost use Rattle.fr_world.specs.Held.{Applies, LeavesEdited};
+ghost use Rattle.fr_office.specs.Replacements.{CarriesReplaced, CarriesReplacement, replacement_room};
 
 use crate::lender::{Lender, open_page};
 use fr_base::{Answer, MAX_IMPORT_BYTES, Refusal, Replacement};
@@ -19,13 +19,7 @@ pub(crate) fn replace<R: Lender>(
     records: &mut R,
     replacement: &Replacement<'_>,
 ) -> Result<Answer, Refusal>
-    ensures falls { R.clean records.new → R.clean records.old }
-    ensures open { R.clean records.new → OnReplaced result (R.serves records.new) }
-    ensures leaves { R.clean records.new
-        → LeavesReplacement (R.stands records.old) (R.leaves records.old) (R.leaves records.new)
-        replacement.now }
-    ensures gives { R.clean records.new
-        → GivesReplacement (R.stands records.old) (R.stands records.new) result replacement.now }
+    ensures { CarriesReplacement R.Records replacement.now records.old records.new result }
 {
     open_page(alloc, records, replacement.supplier, replacement.variant)?;
     admit_file(replacement)?;
@@ -53,15 +47,8 @@ fn replace_rows<R: Lender>(
 ) -> Result<Answer, Refusal>
     requires lent { IsSome (R.lent records.old) }
     requires open { IfSome (R.lent records.old) (λ page. page.released ≡ false) }
-    ensures falls { R.clean records.new → R.clean records.old }
-    ensures open { R.clean records.new → OnReplaced result (R.serves records.new) }
-    ensures leaves { R.clean records.new
-        → IfSome (R.lent records.old)
-        (LeavesReplaced (R.stands records.old) (R.leaves records.old) (R.leaves records.new)
-        replacement.now) }
-    ensures gives { R.clean records.new
-        → IfSome (R.lent records.old)
-        (GivesReplaced (R.stands records.old) (R.stands records.new) result replacement.now) }
+    ensures { IfSome (R.lent records.old)
+        (CarriesReplaced R.Records replacement.now records.old records.new result) }
 {
     let page = records.lent();
     let rows = read_import(alloc, &page.params(), replacement.body.as_slice())?;
@@ -84,13 +71,7 @@ fn change_to_draft<R: Lender>(alloc: Global, records: &mut R, draft: Draft) -> R
     requires lent { IsSome (R.lent records.old) }
     requires leads { IfSome (R.lent records.old)
         (λ page. LeadsTo page draft.edits.items draft.page) }
-    ensures falls { R.clean records.new → R.clean records.old }
-    ensures open { R.clean records.new → OnOk result (R.serves records.new) }
-    ensures leaves { R.clean records.new
-        → LeavesEdited (R.stands records.old) (R.leaves records.old) (R.leaves records.new)
-        draft.edits.items }
-    ensures applies { R.clean records.new
-        → Applies (R.stands records.old) (R.stands records.new) result draft.edits.items }
+    ensures { CarriesEdits R.Records draft.edits.items records.old records.new result }
 {
     let Draft { page, edits } = draft;
     records.change_to(alloc, &edits, page)

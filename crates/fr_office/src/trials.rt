@@ -3,8 +3,8 @@
 
 ghost use Rattle.std.specs.Prelude.{◌≡◌, ◌⊎◌, Ok, Err, MatchResult};
 ghost use Rattle.fr_base.specs.declared.refusal.Refusal.TheVariants.{Unavailable};
+ghost use Rattle.fr_office.specs.Carried.{OnlyReads};
 ghost use Rattle.fr_office.specs.Trials.{TellsTrial, fates_on, told_on};
-ghost use Rattle.fr_world.specs.Held.{Reads};
 
 use crate::lender::{Lender, open_page};
 use fr_base::{Answer, FateRow, MAX_IMPORT_BYTES, Refusal, ReportRows, Rows, Trial};
@@ -19,9 +19,7 @@ pub(crate) fn try_file<R: Lender>(
     records: &mut R,
     trial: &Trial<'_>,
 ) -> Result<Answer, Refusal>
-    ensures reads { Reads R.clean R.params R.leaves records.old records.new }
-    ensures tells { R.clean records.new
-        → TellsTrial (R.stands records.old) (R.stands records.new) result trial.now }
+    ensures { OnlyReads R.Records (TellsTrial trial.now) records.old records.new result }
 {
     open_page(alloc, records, trial.supplier, trial.variant)?;
     tell_rows(alloc, records.lent(), trial)

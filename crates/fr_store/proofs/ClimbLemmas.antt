@@ -6,6 +6,7 @@ use Rattle.fr_base.specs.Tables.{get}
 use Rattle.fr_base.specs.Cluster.{Cluster}
 use Rattle.fr_base.specs.Book.{Frame, Variant, Book}
 use Rattle.fr_base.specs.declared.name.Name.{Name}
+use Rattle.fr_tables.specs.declared.frame_key.FrameKey.{FrameKey}
 use Rattle.fr_tables.specs.Changes.{Stays, tables_of}
 use Rattle.fr_store.specs.Owning.{TellsLevel, IsOwner, is_own}
 use Rattle.fr_store.specs.Reading.{Stands}
@@ -21,15 +22,15 @@ pub has_after : (old new : State) → new.now ≡ old.now → HasTables old.now 
 has_after old new same h = subst HasTables (sym same) h
 
 -- so far the tables are as they were, and this variant shows the frame too; where the first has it as its own, this is the first
-pub record HasClimbed (v s f above : Name) (old now : State) : Type 0 where
+pub record HasClimbed (key : FrameKey) (above : Name) (old now : State) : Type 0 where
   pub same : now.now ≡ old.now
   pub inside : IsTrue now.in_transaction
   pub keeps : KeepsCommit old now
-  pub shows : (c : Cluster) (b : Book) → Stands old c b → (x : Variant) (frame : Frame) → get b.variants v ≡ Some x → get x.frames (s, f) ≡ Some frame → Shown v s f (tables_of old) b.variants above frame
-  pub first : is_own v s f (tables_of old) ≡ true → above ≡ v
+  pub shows : (c : Cluster) (b : Book) → Stands old c b → (x : Variant) (frame : Frame) → get b.variants key.variant ≡ Some x → get x.frames (key.supplier, key.frame) ≡ Some frame → Shown key.variant key.supplier key.frame (tables_of old) b.variants above frame
+  pub first : is_own key (tables_of old) ≡ true → above ≡ key.variant
 
-module _ (v s f : Name) (old : State) where
-  pub begins : IsTrue old.in_transaction → HasClimbed v s f v old old
+module _ (key : FrameKey) (old : State) where
+  pub begins : IsTrue old.in_transaction → HasClimbed key key.variant old old
   begins inside = record {
     same = refl;
     inside = inside;
@@ -38,7 +39,7 @@ module _ (v s f : Name) (old : State) where
     first = λ own. refl;
   }
 
-  module _ (above : Name) (before : State) (climbed : HasClimbed v s f above old before) where
+  module _ (above : Name) (before : State) (climbed : HasClimbed key above old before) where
     pub has_before : HasTables old.now → HasTables before.now
     has_before h = has_after old before climbed.same h
 
@@ -48,23 +49,23 @@ module _ (v s f : Name) (old : State) where
     same_tables : tables_of before ≡ tables_of old
     same_tables = ap (λ (d : Database). tables_in d.trees) climbed.same
 
-    pub is_owner : (new : State) → IsUnchanged before new → is_own above s f (tables_of before) ≡ true → IsOwner v s f above old new
+    pub is_owner : (new : State) → IsUnchanged before new → is_own (record key { variant = above }) (tables_of before) ≡ true → IsOwner key above old new
     is_owner new same own = record {
       now = same.0.now_is ∙ climbed.same;
       inside = same.0.mode ∙ climbed.inside;
       of = λ c b stands x frame there shown.
           let here = climbed.shows c b stands x frame there shown in
-          record { variant = here.0; there = here.1; shown = here.2; own = ap (is_own above s f) (sym same_tables) ∙ own; nearest = climbed.first };
+          record { variant = here.0; there = here.1; shown = here.2; own = ap (is_own (record key { variant = above })) (sym same_tables) ∙ own; nearest = climbed.first };
     }
 
     pub owner_kept : (new : State) → IsUnchanged before new → KeepsCommit old new
     owner_kept new same = fails new (inl same)
 
     -- the next is the parent
-    pub climbs : (mid new : State) (level : Level) (parent : Name) → IsUnchanged before mid → is_own above s f (tables_of before) ≡ false → TellsLevel above (tables_of mid) level → IsUnchanged mid new → level.parent ≡ Some parent
-        → HasClimbed v s f parent old new
+    pub climbs : (mid new : State) (level : Level) (parent : Name) → IsUnchanged before mid → is_own (record key { variant = above }) (tables_of before) ≡ false → TellsLevel above (tables_of mid) level → IsUnchanged mid new → level.parent ≡ Some parent
+        → HasClimbed key parent old new
     climbs mid new level parent same not_own told still is =
-        let not_here : is_own above s f (tables_of old) ≡ false = ap (is_own above s f) (sym same_tables) ∙ not_own in
+        let not_here : is_own (record key { variant = above }) (tables_of old) ≡ false = ap (is_own (record key { variant = above })) (sym same_tables) ∙ not_own in
         let tables_mid : tables_of mid ≡ tables_of old = ap (λ (d : Database). tables_in d.trees) same.0.now_is ∙ same_tables in
         record {
           same = still.0.now_is ∙ same.0.now_is ∙ climbed.same;
@@ -73,6 +74,6 @@ module _ (v s f : Name) (old : State) where
           shows = λ c b stands x frame there shown.
               let here = climbed.shows c b stands x frame there shown in
               let its = subst (λ t. TellsLevel above t level) tables_mid told in
-              above_shows above s f (tables_of old) c.params.cycles b stands.for.rows here.0 here.1 frame here.2 not_here parent (its.parent c.params.cycles b stands.for.rows here.0 here.1 ∙ is);
-          first = λ own. absurd (true≢false (sym own ∙ ap (λ w. is_own w s f (tables_of old)) (sym (climbed.first own)) ∙ not_here));
+              above_shows above key.supplier key.frame (tables_of old) c.params.cycles b stands.for.rows here.0 here.1 frame here.2 not_here parent (its.parent c.params.cycles b stands.for.rows here.0 here.1 ∙ is);
+          first = λ own. absurd (true≢false (sym own ∙ ap (λ w. is_own (record key { variant = w }) (tables_of old)) (sym (climbed.first own)) ∙ not_here));
         }

@@ -19,7 +19,7 @@ use Rattle.sqlite_tied.proofs.RuleLemmas.{and_assoc}
 use Rattle.fr_base.specs.declared.name.Name.{Name}
 use Rattle.fr_base.proofs.SoundRows.{same_text-is}
 use Rattle.fr_tables.specs.Changes.{AreListed}
-use Rattle.fr_tables.specs.Rows.{PlacementRow, SignalRow}
+use Rattle.fr_tables.specs.Rows.{PlacementRow, SignalRow, key_of}
 use Rattle.fr_tables.specs.Statements.{text_cmp, shows_placement, is_placed_by, is_placement_of, placements_cmp, shows_signal, is_signalled_by, is_signal_of, signals_cmp}
 use Rattle.fr_store.specs.Reading.{name_shown}
 
@@ -196,16 +196,16 @@ module _ (v s f : Name) (rows whole its : List Row) (is : whole ≡ rows) (deal 
       (then_total (on_total (λ p. p.base) int_cmp_total) (on_total (λ p. p.repetition) int_cmp_total))))
 
   pub placements_dealt : (all : List PlacementRow) → AreListed shows_placement (is_placed_by v s) placements_cmp all rows
-      → AreListed shows_placement (is_placement_of v s f) placements_cmp all its
+      → AreListed shows_placement (is_placement_of (key_of v s f)) placements_cmp all its
   placements_dealt all h =
-      dealt shows_placement (λ p. p.frame) (λ p. refl) _ (is_placed_by v s) all rows h placements_total f (is_placement_of v s f)
+      dealt shows_placement (λ p. p.frame) (λ p. refl) _ (is_placed_by v s) all rows h placements_total f (is_placement_of (key_of v s f))
       (λ p. and_assoc (bytes_eq p.variant v) (bytes_eq p.supplier s) (bytes_eq p.frame f)) whole its is deal
 
   signals_total : IsTotalOrder signals_cmp
   signals_total = then_total (on_total (λ x. x.frame) nat_list_cmp_total) (on_total (λ x. x.name) nat_list_cmp_total)
 
   pub signals_dealt : (all : List SignalRow) → AreListed shows_signal (is_signalled_by v s) signals_cmp all rows
-      → AreListed shows_signal (is_signal_of v s f) signals_cmp all its
+      → AreListed shows_signal (is_signal_of (key_of v s f)) signals_cmp all its
   signals_dealt all h =
-      dealt shows_signal (λ x. x.frame) (λ x. refl) _ (is_signalled_by v s) all rows h signals_total f (is_signal_of v s f)
+      dealt shows_signal (λ x. x.frame) (λ x. refl) _ (is_signalled_by v s) all rows h signals_total f (is_signal_of (key_of v s f))
       (λ x. and_assoc (bytes_eq x.variant v) (bytes_eq x.supplier s) (bytes_eq x.frame f)) whole its is deal

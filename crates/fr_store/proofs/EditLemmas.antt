@@ -11,6 +11,7 @@ use Rattle.fr_base.specs.declared.request.FrameChange.{FrameChange}
 use Rattle.fr_base.specs.declared.request.FrameChange.TheVariants.{Add, Drop, Place, Unplace, AddSignal, DropSignal}
 use Rattle.fr_world.specs.Edits.{FitsFrame}
 use Rattle.fr_world.specs.declared.edit.Edit.TheVariants.{Rows}
+use Rattle.fr_tables.specs.Rows.{key_of}
 use Rattle.fr_store.specs.Applying.{CarriesOut}
 use Rattle.fr_store.specs.FrameEdits.{FitsAt, EditsFrame}
 
@@ -27,6 +28,6 @@ fits_at nodes s None (AddSignal signal) h = absurd h
 fits_at nodes s None (DropSignal name) h = absurd h
 
 -- an edit of a frame that fits is carried out where its change is
-pub frame_carried : {X E : Type 0} (v s f : Name) (what : FrameChange) (old new : State) (r : Result X E) → EditsFrame v s f what old new r → CarriesOut (Rows s v (OfFrame f what)) old new r
+pub frame_carried : {X E : Type 0} (v s f : Name) (what : FrameChange) (old new : State) (r : Result X E) → EditsFrame (key_of v s f) what old new r → CarriesOut (Rows s v (OfFrame f what)) old new r
 frame_carried v s f what old new r h clean inside c b stands fits =
     h clean inside c b fits.0 stands fits.1 (fits_at b.nodes s (get fits.0.frames (s, f)) what fits.2) fits.3

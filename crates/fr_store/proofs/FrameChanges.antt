@@ -13,7 +13,7 @@ use Rattle.fr_base.specs.Step.{with_variant}
 use Rattle.fr_base.specs.declared.name.Name.{Name}
 use Rattle.fr_base.proofs.TableLaws.{equal, get-insert}
 use Rattle.fr_base.proofs.SoundTables.{insert-cases, contains-more, same_key, same_some}
-use Rattle.fr_tables.specs.Rows.{FrameRow, PlacementRow, SignalRow, DroppedRow, flag}
+use Rattle.fr_tables.specs.Rows.{FrameRow, PlacementRow, SignalRow, DroppedRow, flag, key_of}
 use Rattle.fr_tables.specs.Tables.{Tables}
 use Rattle.fr_tables.specs.Statements.{placement_row, signal_row, is_frame, is_placement_of, is_signal_of, is_dropped}
 use Rattle.fr_store.specs.StandsFor.{HoldsRows, Stored, Entry, IsAsStored, IsFine, HasItsParent, variant_row, grant_rows, frame_row, placement_rows, signal_rows, of_frames, seen, own_or, is_hidden, of_parent}
@@ -34,13 +34,13 @@ Turns {X} rows passes v s f before after all next =
 
 -- so in the three tables
 abbrev pub FramesTurn : Name → Name → Name → Option Frame → Option Frame → List FrameRow → List FrameRow → Type 0
-FramesTurn v s f = Turns one_row (is_frame v s f) v s f
+FramesTurn v s f = Turns one_row (is_frame (key_of v s f)) v s f
 
 abbrev pub PlacementsTurn : Name → Name → Name → Option Frame → Option Frame → List PlacementRow → List PlacementRow → Type 0
-PlacementsTurn v s f = Turns placement_rows (is_placement_of v s f) v s f
+PlacementsTurn v s f = Turns placement_rows (is_placement_of (key_of v s f)) v s f
 
 abbrev pub SignalsTurn : Name → Name → Name → Option Frame → Option Frame → List SignalRow → List SignalRow → Type 0
-SignalsTurn v s f = Turns signal_rows (is_signal_of v s f) v s f
+SignalsTurn v s f = Turns signal_rows (is_signal_of (key_of v s f)) v s f
 
 -- ---- rows of another frame are not the frame's
 
@@ -48,25 +48,25 @@ abbrev pub Apart : {X : Type 0} → (Name → Entry → List X) → (X → Bool)
 Apart rows passes v s f = (w : Name) (e : Entry) → is_it v s f w e.0 ≡ false → filter passes (rows w e) ≡ []
 
 module _ (v s f : Name) where
-  pub frame_apart : Apart one_row (is_frame v s f) v s f
+  pub frame_apart : Apart one_row (is_frame (key_of v s f)) v s f
   frame_apart w e other = ap (λ b. cond b (frame_row w e ∷ []) []) other
 
-  placements_apart : Apart placement_rows (is_placement_of v s f) v s f
+  placements_apart : Apart placement_rows (is_placement_of (key_of v s f)) v s f
   placements_apart w e other =
-      filter-map (is_placement_of v s f) (placement_row w e.0.0 e.0.1) (placements_in e.1)
-      ∙ ap (map (placement_row w e.0.0 e.0.1)) (all_or_none (is_it v s f w e.0) (placements_in e.1) ∙ ap (λ b. cond b (placements_in e.1) []) other)
+      filter-map (is_placement_of (key_of v s f)) (placement_row (key_of w e.0.0 e.0.1)) (placements_in e.1)
+      ∙ ap (map (placement_row (key_of w e.0.0 e.0.1))) (all_or_none (is_it v s f w e.0) (placements_in e.1) ∙ ap (λ b. cond b (placements_in e.1) []) other)
 
-  signals_apart : Apart signal_rows (is_signal_of v s f) v s f
+  signals_apart : Apart signal_rows (is_signal_of (key_of v s f)) v s f
   signals_apart w e other =
-      filter-map (is_signal_of v s f) (signal_row w e.0.0 e.0.1) e.1.signals
-      ∙ ap (map (signal_row w e.0.0 e.0.1)) (all_or_none (is_it v s f w e.0) e.1.signals ∙ ap (λ b. cond b e.1.signals []) other)
+      filter-map (is_signal_of (key_of v s f)) (signal_row (key_of w e.0.0 e.0.1)) e.1.signals
+      ∙ ap (map (signal_row (key_of w e.0.0 e.0.1))) (all_or_none (is_it v s f w e.0) e.1.signals ∙ ap (λ b. cond b e.1.signals []) other)
 
 -- ---- the frames that a variant has not of its parent's
 
 module _ (t : Tables) (b : Book) (v s f : Name) where
   -- the same are dropped in all variants, but for this frame in this variant
   pub record DropsElsewhere (drops : List DroppedRow) : Type 0 where
-    pub others : (w : Name) (k : Name × Name) → (w ≡ v → k ≡ (s, f) → ⊥) → list_any (is_dropped w k.0 k.1) drops ≡ list_any (is_dropped w k.0 k.1) t.dropped
+    pub others : (w : Name) (k : Name × Name) → (w ≡ v → k ≡ (s, f) → ⊥) → list_any (is_dropped (key_of w k.0 k.1)) drops ≡ list_any (is_dropped (key_of w k.0 k.1)) t.dropped
     pub known : All (λ d. IsTrue (contains b.variants d.variant)) drops
 
 module _ (t : Tables) (count : ℕ) (b : Book) (h : HoldsRows t count b) (v s f : Name) where
@@ -214,9 +214,9 @@ module _ (t : Tables) (count : ℕ) (b : Book) (h : HoldsRows t count b) (v s f 
       stored = stored_next;
       variants = variants_turn;
       grants = grants_turn;
-      frames = turned one_row (is_frame v s f) (frame_apart v s f) t.frames fs h.frames in_frames;
-      placements = turned placement_rows (is_placement_of v s f) (placements_apart v s f) t.placements ps h.placements in_placements;
-      signals = turned signal_rows (is_signal_of v s f) (signals_apart v s f) t.signals ss h.signals in_signals;
+      frames = turned one_row (is_frame (key_of v s f)) (frame_apart v s f) t.frames fs h.frames in_frames;
+      placements = turned placement_rows (is_placement_of (key_of v s f)) (placements_apart v s f) t.placements ps h.placements in_placements;
+      signals = turned signal_rows (is_signal_of (key_of v s f)) (signals_apart v s f) t.signals ss h.signals in_signals;
       dropped = λ k d low. contains-more b.variants v after _ (elsewhere.known k d low);
       each = each_next;
     }

@@ -24,7 +24,7 @@ use Rattle.fr_base.proofs.TableLaws.{equal}
 use Rattle.fr_world.specs.Fits.{IsOpen}
 use Rattle.fr_world.specs.BookEdits.{applied, changed_at}
 use Rattle.fr_world.specs.declared.edit.Edit.TheVariants.{Rows}
-use Rattle.fr_tables.specs.Rows.{FrameRow, PlacementRow, SignalRow, DroppedRow}
+use Rattle.fr_tables.specs.Rows.{FrameRow, PlacementRow, SignalRow, DroppedRow, key_of}
 use Rattle.fr_tables.specs.Tables.{Tables}
 use Rattle.fr_tables.specs.Changes.{Changes, tables_of}
 use Rattle.fr_tables.specs.Statements as statements
@@ -34,7 +34,7 @@ use Rattle.fr_store.specs.Reading.{Stands}
 use Rattle.fr_store.specs.FrameEdits.{FitsAt}
 use Rattle.fr_store.specs.Owning.{IsStoredSo, is_own}
 use Rattle.fr_store.proofs.ApartLemmas.{becomes, get-settle, get-settle_other, settle-cases, remove-settle}
-use Rattle.fr_store.proofs.DroppedRows.{dropped_row, now_dropped, drops_elsewhere}
+use Rattle.fr_store.proofs.DroppedRows.{now_dropped, drops_elsewhere}
 use Rattle.fr_store.proofs.FramePartLemmas.{is_it}
 use Rattle.fr_store.proofs.FrameSections.{section}
 use Rattle.fr_store.proofs.FrameChanges.{one_row, FramesTurn, PlacementsTurn, SignalsTurn, Shows, DropsElsewhere, as_dropped, frame_changed}
@@ -127,102 +127,102 @@ module _ (t : Tables) (count : ℕ) (b : Book) (h : HoldsRows t count b) (v s f 
       let next : Frame = record { node = node; placements = empty; signals = [] } in
       let none : get x.frames (s, f) ≡ None = none_there _ new in
       edited (Add node) None None next none (not_own none) refl (fine_empty count node) _ _ _
-      (turns_more one_row (is_frame v s f) v s f None (Some next) t.frames _ (IsPermutation-refl _))
-      (turns_not placement_rows (is_placement_of v s f) v s f None (Some next) t.placements refl)
-      (turns_not signal_rows (is_signal_of v s f) v s f None (Some next) t.signals refl)
+      (turns_more one_row (is_frame (key_of v s f)) v s f None (Some next) t.frames _ (IsPermutation-refl _))
+      (turns_not placement_rows (is_placement_of (key_of v s f)) v s f None (Some next) t.placements refl)
+      (turns_not signal_rows (is_signal_of (key_of v s f)) v s f None (Some next) t.signals refl)
 
   module _ (o : Option Frame) where
-    all_of_frames : filter (λ r. not (is_frame v s f r)) (section one_row v s f o) ≡ []
+    all_of_frames : filter (λ r. not (is_frame (key_of v s f) r)) (section one_row v s f o) ≡ []
     all_of_frames = by_frame o
       where
-        by_frame : (o : Option Frame) → filter (λ r. not (is_frame v s f r)) (section one_row v s f o) ≡ []
+        by_frame : (o : Option Frame) → filter (λ r. not (is_frame (key_of v s f) r)) (section one_row v s f o) ≡ []
         by_frame None = refl
         by_frame (Some frame) = ap (λ b. cond (not b) (section one_row v s f (Some frame)) []) (it_is v s f)
 
-    all_of_placements : filter (λ r. not (is_placement_of v s f r)) (section placement_rows v s f o) ≡ []
+    all_of_placements : filter (λ r. not (is_placement_of (key_of v s f) r)) (section placement_rows v s f o) ≡ []
     all_of_placements = by_frame o
       where
-        by_frame : (o : Option Frame) → filter (λ r. not (is_placement_of v s f r)) (section placement_rows v s f o) ≡ []
+        by_frame : (o : Option Frame) → filter (λ r. not (is_placement_of (key_of v s f) r)) (section placement_rows v s f o) ≡ []
         by_frame None = refl
         by_frame (Some frame) =
-            filter-map (λ r. not (is_placement_of v s f r)) (placement_row v s f) (placements_in frame)
-            ∙ ap (map (placement_row v s f)) (filter_none (λ q. not (is_placement_of v s f (placement_row v s f q))) (placements_in frame) (all_of _ (λ q. ap not (it_is v s f)) (placements_in frame)))
+            filter-map (λ r. not (is_placement_of (key_of v s f) r)) (placement_row (key_of v s f)) (placements_in frame)
+            ∙ ap (map (placement_row (key_of v s f))) (filter_none (λ q. not (is_placement_of (key_of v s f) (placement_row (key_of v s f) q))) (placements_in frame) (all_of _ (λ q. ap not (it_is v s f)) (placements_in frame)))
 
-    all_of_signals : filter (λ r. not (is_signal_of v s f r)) (section signal_rows v s f o) ≡ []
+    all_of_signals : filter (λ r. not (is_signal_of (key_of v s f) r)) (section signal_rows v s f o) ≡ []
     all_of_signals = by_frame o
       where
-        by_frame : (o : Option Frame) → filter (λ r. not (is_signal_of v s f r)) (section signal_rows v s f o) ≡ []
+        by_frame : (o : Option Frame) → filter (λ r. not (is_signal_of (key_of v s f) r)) (section signal_rows v s f o) ≡ []
         by_frame None = refl
         by_frame (Some frame) =
-            filter-map (λ r. not (is_signal_of v s f r)) (signal_row v s f) frame.signals
-            ∙ ap (map (signal_row v s f)) (filter_none (λ y. not (is_signal_of v s f (signal_row v s f y))) frame.signals (all_of _ (λ y. ap not (it_is v s f)) frame.signals))
+            filter-map (λ r. not (is_signal_of (key_of v s f) r)) (signal_row (key_of v s f)) frame.signals
+            ∙ ap (map (signal_row (key_of v s f))) (filter_none (λ y. not (is_signal_of (key_of v s f) (signal_row (key_of v s f) y))) frame.signals (all_of _ (λ y. ap not (it_is v s f)) frame.signals))
 
   -- the own rows go, if there are any, and the parent's frame is hidden
   ended : (frame : Frame) → get x.frames (s, f) ≡ Some frame → (drops : List DroppedRow) → DropsElsewhere t b v s f drops → hidden drops (s, f) ≡ true
-      → HoldsRows (record (without_frame v s f t) { dropped = drops }) count (applied b (Rows s v (OfFrame f Drop)))
+      → HoldsRows (record (without_frame (key_of v s f) t) { dropped = drops }) count (applied b (Rows s v (OfFrame f Drop)))
   unfolding frame_after
   ended frame there drops elsewhere hides =
       edited_with Drop (Some frame) own_there Gone drops elsewhere (ap (λ is. own_or None is (of_its_parent (s, f))) hides) there refl refl (λ g is. absurd cc) _ _ _
-      (turns_fewer one_row (is_frame v s f) v s f own_there None t.frames (is_frame v s f) (λ r is. is) (all_of_frames own_there))
-      (turns_fewer placement_rows (is_placement_of v s f) v s f own_there None t.placements (is_placement_of v s f) (λ r is. is) (all_of_placements own_there))
-      (turns_fewer signal_rows (is_signal_of v s f) v s f own_there None t.signals (is_signal_of v s f) (λ r is. is) (all_of_signals own_there))
+      (turns_fewer one_row (is_frame (key_of v s f)) v s f own_there None t.frames (is_frame (key_of v s f)) (λ r is. is) (all_of_frames own_there))
+      (turns_fewer placement_rows (is_placement_of (key_of v s f)) v s f own_there None t.placements (is_placement_of (key_of v s f)) (λ r is. is) (all_of_placements own_there))
+      (turns_fewer signal_rows (is_signal_of (key_of v s f)) v s f own_there None t.signals (is_signal_of (key_of v s f)) (λ r is. is) (all_of_signals own_there))
 
-  pub end_alone : (frame : Frame) → get x.frames (s, f) ≡ Some frame → (h.stored v).overlay ≡ false → HoldsRows (without_frame v s f t) count (applied b (Rows s v (OfFrame f Drop)))
-  end_alone frame there alone = ended frame there t.dropped (as_dropped t count b h v s f) (ap (λ over. not over || list_any (is_dropped v s f) t.dropped) alone)
+  pub end_alone : (frame : Frame) → get x.frames (s, f) ≡ Some frame → (h.stored v).overlay ≡ false → HoldsRows (without_frame (key_of v s f) t) count (applied b (Rows s v (OfFrame f Drop)))
+  end_alone frame there alone = ended frame there t.dropped (as_dropped t count b h v s f) (ap (λ over. not over || list_any (is_dropped (key_of v s f)) t.dropped) alone)
 
   pub end_over : (frame : Frame) → get x.frames (s, f) ≡ Some frame
-      → HoldsRows (with_dropped (dropped_row v s f) (without_frame v s f t)) count (applied b (Rows s v (OfFrame f Drop)))
+      → HoldsRows (with_dropped (key_of v s f) (without_frame (key_of v s f) t)) count (applied b (Rows s v (OfFrame f Drop)))
   end_over frame there =
-      ended frame there (with_dropped (dropped_row v s f) t).dropped (drops_elsewhere v s f t b x is.there h.dropped) (ap (λ is. not (h.stored v).overlay || is) (now_dropped v s f t.dropped) ∙ either (not (h.stored v).overlay))
+      ended frame there (with_dropped (key_of v s f) t).dropped (drops_elsewhere v s f t b x is.there h.dropped) (ap (λ is. not (h.stored v).overlay || is) (now_dropped v s f t.dropped) ∙ either (not (h.stored v).overlay))
     where
       either : (o : Bool) → (o || true) ≡ true
       either true = refl
       either false = refl
 
-  module _ (frame : Frame) (there : get x.frames (s, f) ≡ Some frame) (is_its_own : IsTrue (is_own v s f t)) where
+  module _ (frame : Frame) (there : get x.frames (s, f) ≡ Some frame) (is_its_own : IsTrue (is_own (key_of v s f) t)) where
     own : own_there ≡ Some frame
     own = own_as_shown v s f t count b h x is.there frame there is_its_own
 
     -- ---- a placement is added, or ended
 
-    pub put_placement : (q : Placement) → contains frame.placements q ≡ false → q.cycles.count ≡ count → HoldsRows (with_placement (placement_row v s f q) t) count (applied b (Rows s v (OfFrame f (Place q))))
+    pub put_placement : (q : Placement) → contains frame.placements q ≡ false → q.cycles.count ≡ count → HoldsRows (with_placement (placement_row (key_of v s f) q) t) count (applied b (Rows s v (OfFrame f (Place q))))
     unfolding frame_after
     put_placement q new same =
         let next : Frame = record frame { placements = insert frame.placements q tt } in
         edited (Place q) (Some frame) (Some frame) next there own refl (fine_placed count frame (fine_at frame there) q same) _ _ _
-        (turns_not one_row (is_frame v s f) v s f (Some frame) (Some next) t.frames refl)
-        (turns_more placement_rows (is_placement_of v s f) v s f (Some frame) (Some next) t.placements _ (place_section v s f frame q new))
-        (turns_not signal_rows (is_signal_of v s f) v s f (Some frame) (Some next) t.signals refl)
+        (turns_not one_row (is_frame (key_of v s f)) v s f (Some frame) (Some next) t.frames refl)
+        (turns_more placement_rows (is_placement_of (key_of v s f)) v s f (Some frame) (Some next) t.placements _ (place_section v s f frame q new))
+        (turns_not signal_rows (is_signal_of (key_of v s f)) v s f (Some frame) (Some next) t.signals refl)
 
-    pub end_placement : (q : Placement) → IsTrue (contains frame.placements q) → HoldsRows (without_placement (placement_row v s f q) t) count (applied b (Rows s v (OfFrame f (Unplace q))))
+    pub end_placement : (q : Placement) → IsTrue (contains frame.placements q) → HoldsRows (without_placement (placement_row (key_of v s f) q) t) count (applied b (Rows s v (OfFrame f (Unplace q))))
     unfolding frame_after
     end_placement q there_is =
         let next : Frame = record frame { placements = remove frame.placements q } in
         edited (Unplace q) (Some frame) (Some frame) next there own refl (fine_unplaced count frame (fine_at frame there) q) _ _ _
-        (turns_not one_row (is_frame v s f) v s f (Some frame) (Some next) t.frames refl)
-        (turns_fewer placement_rows (is_placement_of v s f) v s f (Some frame) (Some next) t.placements (is_placement (placement_row v s f q))
-        (λ r is. of_frame v s f (placement_row v s f q) r refl refl refl is) (unplace_section v s f frame q count ((fine_at frame there).counted q there_is) (each_counted count frame (fine_at frame there))))
-        (turns_not signal_rows (is_signal_of v s f) v s f (Some frame) (Some next) t.signals refl)
+        (turns_not one_row (is_frame (key_of v s f)) v s f (Some frame) (Some next) t.frames refl)
+        (turns_fewer placement_rows (is_placement_of (key_of v s f)) v s f (Some frame) (Some next) t.placements (is_placement (placement_row (key_of v s f) q))
+        (λ r is. of_frame v s f (placement_row (key_of v s f) q) r refl refl refl is) (unplace_section v s f frame q count ((fine_at frame there).counted q there_is) (each_counted count frame (fine_at frame there))))
+        (turns_not signal_rows (is_signal_of (key_of v s f)) v s f (Some frame) (Some next) t.signals refl)
 
     -- ---- a signal is added, or dropped
 
-    pub put_signal : (signal : SignalData) → HoldsRows (statements.with_signal (signal_row v s f signal) t) count (applied b (Rows s v (OfFrame f (AddSignal signal))))
+    pub put_signal : (signal : SignalData) → HoldsRows (statements.with_signal (signal_row (key_of v s f) signal) t) count (applied b (Rows s v (OfFrame f (AddSignal signal))))
     unfolding frame_after
     put_signal signal =
         let next : Frame = record frame { signals = with_signal signal frame.signals } in
         edited (AddSignal signal) (Some frame) (Some frame) next there own refl (fine_with count frame (fine_at frame there) signal) _ _ _
-        (turns_not one_row (is_frame v s f) v s f (Some frame) (Some next) t.frames refl)
-        (turns_not placement_rows (is_placement_of v s f) v s f (Some frame) (Some next) t.placements refl)
-        (turns_more signal_rows (is_signal_of v s f) v s f (Some frame) (Some next) t.signals _ (add_section v s f frame signal))
+        (turns_not one_row (is_frame (key_of v s f)) v s f (Some frame) (Some next) t.frames refl)
+        (turns_not placement_rows (is_placement_of (key_of v s f)) v s f (Some frame) (Some next) t.placements refl)
+        (turns_more signal_rows (is_signal_of (key_of v s f)) v s f (Some frame) (Some next) t.signals _ (add_section v s f frame signal))
 
-    pub end_signal : (name : Name) → HoldsRows (statements.without_signal v s f name t) count (applied b (Rows s v (OfFrame f (DropSignal name))))
+    pub end_signal : (name : Name) → HoldsRows (statements.without_signal (key_of v s f) name t) count (applied b (Rows s v (OfFrame f (DropSignal name))))
     unfolding frame_after
     end_signal name =
         let next : Frame = record frame { signals = without_signal name frame.signals } in
         edited (DropSignal name) (Some frame) (Some frame) next there own refl (fine_without count frame (fine_at frame there) name) _ _ _
-        (turns_not one_row (is_frame v s f) v s f (Some frame) (Some next) t.frames refl)
-        (turns_not placement_rows (is_placement_of v s f) v s f (Some frame) (Some next) t.placements refl)
-        (turns_fewer signal_rows (is_signal_of v s f) v s f (Some frame) (Some next) t.signals (is_signal v s f name) (of_signal v s f frame name) (drop_section v s f frame name))
+        (turns_not one_row (is_frame (key_of v s f)) v s f (Some frame) (Some next) t.frames refl)
+        (turns_not placement_rows (is_placement_of (key_of v s f)) v s f (Some frame) (Some next) t.placements refl)
+        (turns_fewer signal_rows (is_signal_of (key_of v s f)) v s f (Some frame) (Some next) t.signals (is_signal (key_of v s f) name) (of_signal v s f frame name) (drop_section v s f frame name))
 
 -- ---- what was changed stands for the book after the edit
 
@@ -232,14 +232,14 @@ carried change old new c next h heads rows = record { has = h.has; for = subst (
 
 -- a frame is dropped by two statements, or by one where the variant is not stored over its parent
 pub ended_over : (v s f : Name) (old mid new : State) (c : Cluster) (b : Book) (x : Variant) (frame : Frame) → Stands old c b → IsOpen b v x → get x.frames (s, f) ≡ Some frame
-    → Changes (without_frame v s f) old mid → Changes (with_dropped (dropped_row v s f)) mid new → Stands new c (applied b (Rows s v (OfFrame f Drop)))
+    → Changes (without_frame (key_of v s f)) old mid → Changes (with_dropped (key_of v s f)) mid new → Stands new c (applied b (Rows s v (OfFrame f Drop)))
 ended_over v s f old mid new c b x frame stands is there h k = record {
   has = k.has;
-  for = subst (λ t. StandsFor t c (applied b (Rows s v (OfFrame f Drop)))) (sym (k.now ∙ ap (with_dropped (dropped_row v s f)) h.now)) (record { heads = stands.for.heads; rows = end_over (tables_of old) c.params.cycles b stands.for.rows v s f x is frame there });
+  for = subst (λ t. StandsFor t c (applied b (Rows s v (OfFrame f Drop)))) (sym (k.now ∙ ap (with_dropped (key_of v s f)) h.now)) (record { heads = stands.for.heads; rows = end_over (tables_of old) c.params.cycles b stands.for.rows v s f x is frame there });
 }
 
 pub ended_alone : (v s f : Name) (old new : State) (c : Cluster) (b : Book) (x : Variant) (frame : Frame) → Stands old c b → IsOpen b v x → get x.frames (s, f) ≡ Some frame → IsStoredSo v false (tables_of old)
-    → Changes (without_frame v s f) old new → Stands new c (applied b (Rows s v (OfFrame f Drop)))
+    → Changes (without_frame (key_of v s f)) old new → Stands new c (applied b (Rows s v (OfFrame f Drop)))
 ended_alone v s f old new c b x frame stands is there so h = record {
   has = h.has;
   for = subst (λ t. StandsFor t c (applied b (Rows s v (OfFrame f Drop)))) (sym h.now)
@@ -265,21 +265,21 @@ module _ (v s f : Name) (old new : State) (c : Cluster) (b : Book) (x : Variant)
   pub added : (node : Name) → is_some (get x.frames (s, f)) ≡ false → Changes (with_frame (record { variant = v; supplier = s; name = f; node = node })) old new → frame_then (Add node)
   added node free h = carried _ old new c _ h stands.for.heads (new_frame (tables_of old) c.params.cycles b stands.for.rows v s f x is node free)
 
-  module _ (own : IsTrue (is_own v s f (tables_of old))) where
-    pub placed : (q : Placement) → FitsAt (get x.frames (s, f)) (Place q) → q.cycles.count ≡ c.params.cycles → Changes (with_placement (placement_row v s f q)) old new → frame_then (Place q)
+  module _ (own : IsTrue (is_own (key_of v s f) (tables_of old))) where
+    pub placed : (q : Placement) → FitsAt (get x.frames (s, f)) (Place q) → q.cycles.count ≡ c.params.cycles → Changes (with_placement (placement_row (key_of v s f) q)) old new → frame_then (Place q)
     placed q fits same h =
         let there = place_fits (get x.frames (s, f)) q fits in
         carried _ old new c _ h stands.for.heads (put_placement (tables_of old) c.params.cycles b stands.for.rows v s f x is there.0 there.1 own q there.2 same)
 
-    pub unplaced : (q : Placement) → FitsAt (get x.frames (s, f)) (Unplace q) → Changes (without_placement (placement_row v s f q)) old new → frame_then (Unplace q)
+    pub unplaced : (q : Placement) → FitsAt (get x.frames (s, f)) (Unplace q) → Changes (without_placement (placement_row (key_of v s f) q)) old new → frame_then (Unplace q)
     unplaced q fits h =
         let there = unplace_fits (get x.frames (s, f)) q fits in
         carried _ old new c _ h stands.for.heads (end_placement (tables_of old) c.params.cycles b stands.for.rows v s f x is there.0 there.1 own q there.2)
 
-    pub signal_added : (frame : Frame) → get x.frames (s, f) ≡ Some frame → (signal : SignalData) → Changes (statements.with_signal (signal_row v s f signal)) old new → frame_then (AddSignal signal)
+    pub signal_added : (frame : Frame) → get x.frames (s, f) ≡ Some frame → (signal : SignalData) → Changes (statements.with_signal (signal_row (key_of v s f) signal)) old new → frame_then (AddSignal signal)
     signal_added frame there signal h =
         carried _ old new c _ h stands.for.heads (put_signal (tables_of old) c.params.cycles b stands.for.rows v s f x is frame there own signal)
 
-    pub signal_dropped : (frame : Frame) → get x.frames (s, f) ≡ Some frame → (name : Name) → Changes (statements.without_signal v s f name) old new → frame_then (DropSignal name)
+    pub signal_dropped : (frame : Frame) → get x.frames (s, f) ≡ Some frame → (name : Name) → Changes (statements.without_signal (key_of v s f) name) old new → frame_then (DropSignal name)
     signal_dropped frame there name h =
         carried _ old new c _ h stands.for.heads (end_signal (tables_of old) c.params.cycles b stands.for.rows v s f x is frame there own name)

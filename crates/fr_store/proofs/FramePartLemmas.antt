@@ -22,7 +22,7 @@ use Rattle.fr_base.specs.declared.placement.Placement.{Placement}
 use Rattle.fr_base.proofs.SoundRows.{same_text-is}
 use Rattle.fr_base.proofs.TableLaws.{same_rows}
 use Rattle.fr_world.specs.Maps.{set_of}
-use Rattle.fr_tables.specs.Rows.{PlacementRow}
+use Rattle.fr_tables.specs.Rows.{PlacementRow, key_of}
 use Rattle.fr_tables.specs.Tables.{Tables}
 use Rattle.fr_tables.specs.Changes.{AreListed}
 use Rattle.fr_tables.specs.Statements.{placement_row, is_placement_of, shows_placement, placements_cmp}
@@ -81,11 +81,11 @@ module _ (v s f : Name) where
 
   -- ---- placements
 
-  pub placements_test : (w : Name) (e : Entry) → filter (is_placement_of v s f) (placement_rows w e) ≡ cond (is_it w e.0) (placement_rows w e) []
+  pub placements_test : (w : Name) (e : Entry) → filter (is_placement_of (key_of v s f)) (placement_rows w e) ≡ cond (is_it w e.0) (placement_rows w e) []
   placements_test w e =
-      filter-map (is_placement_of v s f) (placement_row w e.0.0 e.0.1) (placements_in e.1) ∙ ap (map (placement_row w e.0.0 e.0.1)) (all_or_none (is_it w e.0) (placements_in e.1)) ∙ inside (is_it w e.0)
+      filter-map (is_placement_of (key_of v s f)) (placement_row (key_of w e.0.0 e.0.1)) (placements_in e.1) ∙ ap (map (placement_row (key_of w e.0.0 e.0.1))) (all_or_none (is_it w e.0) (placements_in e.1)) ∙ inside (is_it w e.0)
     where
-      inside : (b : Bool) → map (placement_row w e.0.0 e.0.1) (cond b (placements_in e.1) []) ≡ cond b (placement_rows w e) []
+      inside : (b : Bool) → map (placement_row (key_of w e.0.0 e.0.1)) (cond b (placements_in e.1) []) ≡ cond b (placement_rows w e) []
       inside true = refl
       inside false = refl
 
@@ -95,7 +95,7 @@ module _ (v s f : Name) where
   channels_again B = refl
 
   abbrev placed : Placement × ⊤ → PlacementRow
-  placed q = placement_row v s f q.0
+  placed q = placement_row (key_of v s f) q.0
 
   placement_again : (count : ℕ) (q : Placement × ⊤) → q.0.cycles.count ≡ count → (placement_shown count (shows_placement (placed q)), tt) ≡ q
   placement_again count q same i = (record { slot = q.0.slot; channels = channels_again q.0.channels i; cycles = record { count = sym same i; base = q.0.cycles.base; repetition = q.0.cycles.repetition } }, tt)
@@ -116,18 +116,18 @@ module _ (v s f : Name) where
 
   module _ (t : Tables) (count : ℕ) (b : Book) (stands : HoldsRows t count b) (x : Variant) (frame : Frame) (there : get b.variants v ≡ Some x) (own : get (stands.stored v).own (s, f) ≡ Some frame)
       (fine : IsFine count frame) where
-    same_placements : IsPermutation (map placed (filter (has_count count) frame.placements.rows)) (filter (is_placement_of v s f) t.placements)
+    same_placements : IsPermutation (map placed (filter (has_count count) frame.placements.rows)) (filter (is_placement_of (key_of v s f)) t.placements)
     same_placements =
-        subst (λ xs. IsPermutation xs (filter (is_placement_of v s f) t.placements))
-        (of_one placement_rows (is_placement_of v s f) placements_test stands.stored b.variants x frame there own
-        ∙ map-map (placement_row v s f) (λ q. q.0) frame.placements.rows
+        subst (λ xs. IsPermutation xs (filter (is_placement_of (key_of v s f)) t.placements))
+        (of_one placement_rows (is_placement_of (key_of v s f)) placements_test stands.stored b.variants x frame there own
+        ∙ map-map (placement_row (key_of v s f)) (λ q. q.0) frame.placements.rows
         ∙ ap (map placed) (sym (filter_all (has_count count) frame.placements.rows (all_counted count frame fine))))
-        (IsPermutation-filter (is_placement_of v s f) _ _ stands.placements)
+        (IsPermutation-filter (is_placement_of (key_of v s f)) _ _ stands.placements)
 
-    pub placements_told : (rows : List Row) (found : List Placement) → AreListed shows_placement (is_placement_of v s f) placements_cmp t.placements rows
+    pub placements_told : (rows : List Row) (found : List Placement) → AreListed shows_placement (is_placement_of (key_of v s f)) placements_cmp t.placements rows
         → set_of placement_order (λ q. q) found ≡ set_of placement_order (λ q. q) (map (placement_shown count) (reverse rows)) → set_of placement_order (λ q. q) found ≡ frame.placements
     unfolding set_of
     placements_told rows found listed read =
         read ∙ ap from_rows (map-map (λ q. (q, tt)) (placement_shown count) (reverse rows))
-        ∙ from_listed placement_order frame.placements (λ q u. has_count count (q, u)) placed shows_placement (is_placement_of v s f) placements_cmp t.placements (λ r. (placement_shown count r, tt)) same_placements (λ q is. placement_again count q (grind (arith, nat_tests, is))) rows listed
+        ∙ from_listed placement_order frame.placements (λ q u. has_count count (q, u)) placed shows_placement (is_placement_of (key_of v s f)) placements_cmp t.placements (λ r. (placement_shown count r, tt)) same_placements (λ q is. placement_again count q (grind (arith, nat_tests, is))) rows listed
         ∙ all_only count frame fine

@@ -35,6 +35,7 @@ pub mod ImportEdits
 pub mod CopiedLemmas
 pub mod NewVariants
 pub mod InsideLemmas
+pub mod CallLemmas
 pub mod EditLemmas
 pub mod OwningLemmas
 pub mod ClimbLemmas

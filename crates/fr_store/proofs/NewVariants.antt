@@ -19,7 +19,7 @@ use Rattle.fr_base.proofs.SoundRows.{same_text-is}
 use Rattle.fr_base.proofs.TableLaws.{equal, get-empty}
 use Rattle.fr_world.specs.BookEdits.{applied}
 use Rattle.fr_world.specs.declared.edit.Edit.TheVariants.{NewVariant}
-use Rattle.fr_tables.specs.Rows.{VariantRow, GrantRow, DroppedRow, flag}
+use Rattle.fr_tables.specs.Rows.{VariantRow, GrantRow, DroppedRow, flag, key_of}
 use Rattle.fr_tables.specs.Tables.{Tables}
 use Rattle.fr_tables.specs.Changes.{Changes, Copies, tables_of}
 use Rattle.fr_tables.specs.Statements.{with_variant, with_grants, grant_for, grants_for, is_dropped}
@@ -158,10 +158,10 @@ module _ (v : Name) (depth : ℕ) where
 -- ---- opened over a parent, with copies of its grants
 
 -- nothing is dropped in a variant that is not there
-none_dropped : (t : Tables) (b : Book) → All (λ d. IsTrue (contains b.variants d.variant)) t.dropped → (v : Name) → get b.variants v ≡ None → (k : Name × Name) → list_any (is_dropped v k.0 k.1) t.dropped ≡ false
-none_dropped t b known v none k = list_any_none (is_dropped v k.0 k.1) t.dropped (All-weaker _ _ (λ d there. by_test d there (is_dropped v k.0 k.1 d) refl) t.dropped known)
+none_dropped : (t : Tables) (b : Book) → All (λ d. IsTrue (contains b.variants d.variant)) t.dropped → (v : Name) → get b.variants v ≡ None → (k : Name × Name) → list_any (is_dropped (key_of v k.0 k.1)) t.dropped ≡ false
+none_dropped t b known v none k = list_any_none (is_dropped (key_of v k.0 k.1)) t.dropped (All-weaker _ _ (λ d there. by_test d there (is_dropped (key_of v k.0 k.1) d) refl) t.dropped known)
   where
-    by_test : (d : DroppedRow) → IsTrue (contains b.variants d.variant) → (is : Bool) → is_dropped v k.0 k.1 d ≡ is → is ≡ false
+    by_test : (d : DroppedRow) → IsTrue (contains b.variants d.variant) → (is : Bool) → is_dropped (key_of v k.0 k.1) d ≡ is → is ≡ false
     by_test d there false e = refl
     by_test d there true e =
         absurd (true≢false (sym there ∙ ap (λ w. contains b.variants w) (same_text-is d.variant v (and_parts _ _ e).0) ∙ ap is_some none))

@@ -19,7 +19,7 @@ use Rattle.fr_world.specs.Fits.{IsOpen}
 use Rattle.fr_store.specs.Owning.{is_own, with_frame_rows, CopiesFrame, IsOwner}
 use Rattle.fr_tables.specs.Changes.{tables_of}
 use Rattle.fr_store.specs.Reading.{Stands}
-use Rattle.fr_tables.specs.Rows.{FrameRow, PlacementRow, SignalRow}
+use Rattle.fr_tables.specs.Rows.{FrameRow, PlacementRow, SignalRow, key_of}
 use Rattle.fr_tables.specs.Statements.{is_frame, is_placement_of, is_signal_of, frame_for, placement_for, signal_for, placement_row, signal_row, frame_copies, placement_copies, signal_copies}
 use Rattle.fr_store.specs.StandsFor.{StandsFor, HoldsRows, Entry, of_frames, placement_rows, signal_rows, own_or, is_hidden, of_parent, seen}
 use Rattle.fr_tables.specs.Tables.{Tables, tables_in}
@@ -44,7 +44,7 @@ module _ (t : Tables) (count : ℕ) (b : Book) (stands : HoldsRows t count b) (s
   abbrev entry : Entry
   entry = ((s, f), frame)
 
-  module _ (v : Name) (x : Variant) (is : IsOpen b v x) (shown : get x.frames (s, f) ≡ Some frame) (not_own : is_own v s f t ≡ false) where
+  module _ (v : Name) (x : Variant) (is : IsOpen b v x) (shown : get x.frames (s, f) ≡ Some frame) (not_own : is_own (key_of v s f) t ≡ false) where
     own_none : get (stands.stored v).own (s, f) ≡ None
     own_none = none_there _ (sym (own_is v s f t count b stands x is.there) ∙ not_own)
 
@@ -81,30 +81,30 @@ module _ (t : Tables) (count : ℕ) (b : Book) (stands : HoldsRows t count b) (s
       had_none : {X : Type 0} (rows : Name → Entry → List X) → section rows v s f (get (stands.stored v).own (s, f)) ≡ []
       had_none rows = ap (section rows v s f) own_none
 
-      pub copied_stands : (fs : List FrameRow) (ps : List PlacementRow) (ss : List SignalRow) → IsPermutation (frame_copies w v s f t) fs → IsPermutation (placement_copies w v s f t) ps
-          → IsPermutation (signal_copies w v s f t) ss → HoldsRows (with_frame_rows fs ps ss t) count b
+      pub copied_stands : (fs : List FrameRow) (ps : List PlacementRow) (ss : List SignalRow) → IsPermutation (frame_copies w (key_of v s f) t) fs → IsPermutation (placement_copies w (key_of v s f) t) ps
+          → IsPermutation (signal_copies w (key_of v s f) t) ss → HoldsRows (with_frame_rows fs ps ss t) count b
       copied_stands fs ps ss frames placements signals =
           subst (HoldsRows (with_frame_rows fs ps ss t) count) (ap (λ variants. record b { variants = variants }) (same_variants b.variants v x is.there))
           (frame_changed t count b stands v s f x is with_own x.frames t.dropped (remove-settle owned (stands.stored v).own (s, f) (Becomes frame)) (as_dropped t count b stands v s f) shows_same
           (stands.each v x is.there).fine _ _ _
-          (turns_new one_row (is_frame v s f) v s f _ _ t.frames fs (had_none one_row)
-          (copies_are one_row (is_frame w s f) (λ u e. refl) (frame_for v) refl t.frames fs stands.frames frames))
-          (turns_new placement_rows (is_placement_of v s f) v s f _ _ t.placements ps (had_none placement_rows)
-          (copies_are placement_rows (is_placement_of w s f) (placements_test w s f) (placement_for v) (map-map (placement_for v) (placement_row w s f) (placements_in frame)) t.placements ps stands.placements placements))
-          (turns_new signal_rows (is_signal_of v s f) v s f _ _ t.signals ss (had_none signal_rows)
-          (copies_are signal_rows (is_signal_of w s f) (signals_test w s f) (signal_for v) (map-map (signal_for v) (signal_row w s f) frame.signals) t.signals ss stands.signals signals)))
+          (turns_new one_row (is_frame (key_of v s f)) v s f _ _ t.frames fs (had_none one_row)
+          (copies_are one_row (is_frame (key_of w s f)) (λ u e. refl) (frame_for v) refl t.frames fs stands.frames frames))
+          (turns_new placement_rows (is_placement_of (key_of v s f)) v s f _ _ t.placements ps (had_none placement_rows)
+          (copies_are placement_rows (is_placement_of (key_of w s f)) (placements_test w s f) (placement_for v) (map-map (placement_for v) (placement_row (key_of w s f)) (placements_in frame)) t.placements ps stands.placements placements))
+          (turns_new signal_rows (is_signal_of (key_of v s f)) v s f _ _ t.signals ss (had_none signal_rows)
+          (copies_are signal_rows (is_signal_of (key_of w s f)) (signals_test w s f) (signal_for v) (map-map (signal_for v) (signal_row (key_of w s f)) frame.signals) t.signals ss stands.signals signals)))
 
 -- ---- the frame is the variant's own then
 
 module _ (w v s f : Name) where
   -- it has a row among the copies, where the owner has one
-  any_copied : (rows : List FrameRow) → list_any (is_frame v s f) (map (frame_for v) (filter (is_frame w s f) rows)) ≡ list_any (is_frame w s f) rows
+  any_copied : (rows : List FrameRow) → list_any (is_frame (key_of v s f)) (map (frame_for v) (filter (is_frame (key_of w s f)) rows)) ≡ list_any (is_frame (key_of w s f)) rows
   any_copied [] = refl
-  any_copied (r ∷ rows) = by_test (is_frame w s f r) refl (any_copied rows)
+  any_copied (r ∷ rows) = by_test (is_frame (key_of w s f) r) refl (any_copied rows)
     where
-      by_test : (b : Bool) → is_frame w s f r ≡ b → list_any (is_frame v s f) (map (frame_for v) (filter (is_frame w s f) rows)) ≡ list_any (is_frame w s f) rows
-          → list_any (is_frame v s f) (map (frame_for v) (cond b (r ∷ filter (is_frame w s f) rows) (filter (is_frame w s f) rows))) ≡ b || list_any (is_frame w s f) rows
-      by_test true is more = ap (λ here. here || list_any (is_frame v s f) (map (frame_for v) (filter (is_frame w s f) rows))) (and_from _ _ (own_text v) (and_parts _ _ is).1)
+      by_test : (b : Bool) → is_frame (key_of w s f) r ≡ b → list_any (is_frame (key_of v s f)) (map (frame_for v) (filter (is_frame (key_of w s f)) rows)) ≡ list_any (is_frame (key_of w s f)) rows
+          → list_any (is_frame (key_of v s f)) (map (frame_for v) (cond b (r ∷ filter (is_frame (key_of w s f)) rows) (filter (is_frame (key_of w s f)) rows))) ≡ b || list_any (is_frame (key_of w s f)) rows
+      by_test true is more = ap (λ here. here || list_any (is_frame (key_of v s f)) (map (frame_for v) (filter (is_frame (key_of w s f)) rows))) (and_from _ _ (own_text v) (and_parts _ _ is).1)
       by_test false is more = more
 
   or_true : (b : Bool) → (b || true) ≡ true
@@ -112,31 +112,31 @@ module _ (w v s f : Name) where
   or_true false = refl
 
   -- where the owner is another, its rows are copied
-  pub copied_own : (old mid new : State) → IsOwner v s f w old mid → w ≢ v → CopiesFrame w v s f mid new → (c : Cluster) (b : Book) → Stands old c b → (x : Variant) (frame : Frame) → IsOpen b v x
-      → get x.frames (s, f) ≡ Some frame → Stands new c b × IsTrue (is_own v s f (tables_of new))
+  pub copied_own : (old mid new : State) → IsOwner (key_of v s f) w old mid → w ≢ v → CopiesFrame w (key_of v s f) mid new → (c : Cluster) (b : Book) → Stands old c b → (x : Variant) (frame : Frame) → IsOpen b v x
+      → get x.frames (s, f) ≡ Some frame → Stands new c b × IsTrue (is_own (key_of v s f) (tables_of new))
   copied_own old mid new found other copies c b stands x frame is shown =
       let owner = found.of c b stands x frame is.there shown in
       let same : tables_of mid ≡ tables_of old = ap (λ (d : Database). tables_in d.trees) found.now in
-      let not_own : is_own v s f (tables_of old) ≡ false = false_from_ne_true _ (λ own. other (owner.nearest own)) in
+      let not_own : is_own (key_of v s f) (tables_of old) ≡ false = false_from_ne_true _ (λ own. other (owner.nearest own)) in
       let its_own : get (stands.for.rows.stored w).own (s, f) ≡ Some frame = own_as_shown w s f (tables_of old) c.params.cycles b stands.for.rows owner.variant owner.there frame owner.shown owner.own in
       let rows : HoldsRows (with_frame_rows copies.frames copies.placements copies.signals (tables_of old)) c.params.cycles b =
       copied_stands (tables_of old) c.params.cycles b stands.for.rows s f frame v x is shown not_own w owner.variant owner.there its_own copies.frames copies.placements copies.signals
-      (subst (λ t. IsPermutation (frame_copies w v s f t) copies.frames) same copies.same_frames)
-      (subst (λ t. IsPermutation (placement_copies w v s f t) copies.placements) same copies.same_placements)
-      (subst (λ t. IsPermutation (signal_copies w v s f t) copies.signals) same copies.same_signals) in
+      (subst (λ t. IsPermutation (frame_copies w (key_of v s f) t) copies.frames) same copies.same_frames)
+      (subst (λ t. IsPermutation (placement_copies w (key_of v s f) t) copies.placements) same copies.same_placements)
+      (subst (λ t. IsPermutation (signal_copies w (key_of v s f) t) copies.signals) same copies.same_signals) in
       let now : tables_of new ≡ with_frame_rows copies.frames copies.placements copies.signals (tables_of old) =
       copies.added.now ∙ ap (with_frame_rows copies.frames copies.placements copies.signals) same in
-      let among : list_any (is_frame v s f) copies.frames ≡ true =
-      sym (list_any-IsPermutation (is_frame v s f) _ _ (subst (λ t. IsPermutation (frame_copies w v s f t) copies.frames) same copies.same_frames))
+      let among : list_any (is_frame (key_of v s f)) copies.frames ≡ true =
+      sym (list_any-IsPermutation (is_frame (key_of v s f)) _ _ (subst (λ t. IsPermutation (frame_copies w (key_of v s f) t) copies.frames) same copies.same_frames))
       ∙ any_copied (tables_of old).frames ∙ owner.own in (
         record { has = copies.added.has; for = subst (λ t. StandsFor t c b) (sym now) (record { heads = stands.for.heads; rows = rows }) },
-        ap (is_own v s f) now ∙ list_any-append (is_frame v s f) (tables_of old).frames copies.frames ∙ ap (λ is. list_any (is_frame v s f) (tables_of old).frames || is) among ∙ or_true _,
+        ap (is_own (key_of v s f)) now ∙ list_any-append (is_frame (key_of v s f)) (tables_of old).frames copies.frames ∙ ap (λ is. list_any (is_frame (key_of v s f)) (tables_of old).frames || is) among ∙ or_true _,
       )
 
   -- where it is the variant itself, nothing is to be done
-  pub already_own : (old new : State) → IsOwner v s f w old new → w ≡ v → (c : Cluster) (b : Book) → Stands old c b → (x : Variant) (frame : Frame) → IsOpen b v x
-      → get x.frames (s, f) ≡ Some frame → Stands new c b × IsTrue (is_own v s f (tables_of new))
+  pub already_own : (old new : State) → IsOwner (key_of v s f) w old new → w ≡ v → (c : Cluster) (b : Book) → Stands old c b → (x : Variant) (frame : Frame) → IsOpen b v x
+      → get x.frames (s, f) ≡ Some frame → Stands new c b × IsTrue (is_own (key_of v s f) (tables_of new))
   already_own old new found itself c b stands x frame is shown =
       let owner = found.of c b stands x frame is.there shown in
       let same : tables_of new ≡ tables_of old = ap (λ (d : Database). tables_in d.trees) found.now in
-      (still_stands old new c b found.now stands, ap (is_own v s f) same ∙ subst (λ u. is_own u s f (tables_of old) ≡ true) itself owner.own)
+      (still_stands old new c b found.now stands, ap (is_own (key_of v s f)) same ∙ subst (λ u. is_own (key_of u s f) (tables_of old) ≡ true) itself owner.own)

@@ -15,7 +15,7 @@ use Rattle.fr_base.specs.Keys.{names}
 use Rattle.fr_base.specs.Book.{Frame, Variant, Book}
 use Rattle.fr_base.specs.declared.name.Name.{Name}
 use Rattle.fr_base.proofs.SoundRows.{same_text-is}
-use Rattle.fr_tables.specs.Rows.{VariantRow, FrameRow, of_maybe, maybe_words, flag}
+use Rattle.fr_tables.specs.Rows.{VariantRow, FrameRow, of_maybe, maybe_words, flag, key_of}
 use Rattle.fr_tables.specs.Tables.{Tables}
 use Rattle.fr_tables.specs.Changes.{AreListed}
 use Rattle.fr_tables.specs.Statements.{is_variant, is_frame, shows_variant, shows_frame, any_order}
@@ -128,10 +128,10 @@ stored_so t count b stands v over so = any_stored v over stands.stored b.variant
 -- ---- whether a frame is the variant's own
 
 module _ (v s f : Name) (t : Tables) where
-  pub own_told : (rows : List Row) → AreListed shows_frame (is_frame v s f) any_order t.frames rows → not (length rows == 0) ≡ is_own v s f t
+  pub own_told : (rows : List Row) → AreListed shows_frame (is_frame (key_of v s f)) any_order t.frames rows → not (length rows == 0) ≡ is_own (key_of v s f) t
   own_told rows listed =
       ap (λ n. not (n == 0)) (ap length listed.shown ∙ length-map listed.found shows_frame) ∙ any_some listed.found
-      ∙ sym (any_left (is_frame v s f) t.frames ∙ list_any-IsPermutation each _ _ listed.same)
+      ∙ sym (any_left (is_frame (key_of v s f)) t.frames ∙ list_any-IsPermutation each _ _ listed.same)
 
   -- the variant is there, and shows the frame
   abbrev pub Shown : Table names Variant → Name → Frame → Type 0
@@ -149,10 +149,10 @@ module _ (v s f : Name) (t : Tables) where
     abbrev rest : List FrameRow
     rest = others one_row v s f stands.stored b.variants
 
-    none_of_rest : list_any (is_frame v s f) rest ≡ false
-    none_of_rest = any_left (is_frame v s f) rest ∙ ap (list_any each) (others_apart one_row v s f (is_frame v s f) (frame_apart v s f) stands.stored b.variants)
+    none_of_rest : list_any (is_frame (key_of v s f)) rest ≡ false
+    none_of_rest = any_left (is_frame (key_of v s f)) rest ∙ ap (list_any each) (others_apart one_row v s f (is_frame (key_of v s f)) (frame_apart v s f) stands.stored b.variants)
 
-    its_row : (o : Option Frame) → list_any (is_frame v s f) (section one_row v s f o) ≡ is_some o
+    its_row : (o : Option Frame) → list_any (is_frame (key_of v s f)) (section one_row v s f o) ≡ is_some o
     its_row None = refl
     its_row (Some frame) = ap (λ b. b || false) (and_from _ _ (own_text v) (and_from _ _ (own_text s) (own_text f)))
 
@@ -161,11 +161,11 @@ module _ (v s f : Name) (t : Tables) where
     or_none false = refl
 
     -- it is where it is one of those by which the tables stand for the book
-    pub own_is : is_own v s f t ≡ is_some own
+    pub own_is : is_own (key_of v s f) t ≡ is_some own
     own_is =
-        sym (list_any-IsPermutation (is_frame v s f) _ _ (IsPermutation-trans _ _ _ (parted one_row v s f stands.stored b.variants x there) stands.frames))
-        ∙ list_any-append (is_frame v s f) (section one_row v s f own) rest
-        ∙ ap (λ n. list_any (is_frame v s f) (section one_row v s f own) || n) none_of_rest ∙ or_none _ ∙ its_row own
+        sym (list_any-IsPermutation (is_frame (key_of v s f)) _ _ (IsPermutation-trans _ _ _ (parted one_row v s f stands.stored b.variants x there) stands.frames))
+        ∙ list_any-append (is_frame (key_of v s f)) (section one_row v s f own) rest
+        ∙ ap (λ n. list_any (is_frame (key_of v s f)) (section one_row v s f own) || n) none_of_rest ∙ or_none _ ∙ its_row own
 
     -- ---- which frame it shows then
 
@@ -179,7 +179,7 @@ module _ (v s f : Name) (t : Tables) where
 
     module _ (g : Frame) (shown : get x.frames (s, f) ≡ Some g) where
       -- its own frame is the one that it shows
-      pub own_as_shown : is_own v s f t ≡ true → own ≡ Some g
+      pub own_as_shown : is_own (key_of v s f) t ≡ true → own ≡ Some g
       own_as_shown is = by_own own refl (sym own_is ∙ is)
         where
           by_own : (o : Option Frame) → own ≡ o → is_some o ≡ true → o ≡ Some g
@@ -187,7 +187,7 @@ module _ (v s f : Name) (t : Tables) where
           by_own (Some k) e h = sym (own_shown k e) ∙ shown
 
       -- one that is not its own is the parent's
-      pub above_shows : is_own v s f t ≡ false → (parent : Name) → x.parent ≡ Some parent → Shown b.variants parent g
+      pub above_shows : is_own (key_of v s f) t ≡ false → (parent : Name) → x.parent ≡ Some parent → Shown b.variants parent g
       unfolding seen
       above_shows not_own parent is =
           let none : own ≡ None = none_there own (sym own_is ∙ not_own) in

@@ -19,7 +19,7 @@ use Rattle.fr_base.specs.declared.channel.Channels.TheVariants.{A, AB, B}
 use Rattle.fr_base.specs.declared.name.Name.{Name}
 use Rattle.fr_base.specs.declared.placement.Placement.{Placement}
 use Rattle.fr_base.proofs.TableLaws.{equal}
-use Rattle.fr_tables.specs.Rows.{PlacementRow}
+use Rattle.fr_tables.specs.Rows.{PlacementRow, key_of}
 use Rattle.fr_tables.specs.Statements.{is_placement, is_placement_of, placement_row}
 use Rattle.fr_store.specs.StandsFor.{placement_rows}
 use Rattle.fr_store.proofs.ApartLemmas.{insert_new}
@@ -55,7 +55,7 @@ same_tests false false to from = refl
 
 module _ (v s f : Name) where
   abbrev row_of : Placement → PlacementRow
-  row_of = placement_row v s f
+  row_of = placement_row (key_of v s f)
 
   row_to : (q r : Placement) → r.cycles.count ≡ q.cycles.count → is_placement (row_of q) (row_of r) ≡ true → eq_by_cmp placement_order.compare q r ≡ true
   row_to q r count h =
@@ -83,7 +83,7 @@ module _ (v s f : Name) where
   row_is : (q r : Placement) → r.cycles.count ≡ q.cycles.count → is_placement (row_of q) (row_of r) ≡ eq_by_cmp placement_order.compare q r
   row_is q r count = same_tests _ _ (row_to q r count) (row_from q r)
 
-  pub of_frame : (q r : PlacementRow) → q.variant ≡ v → q.supplier ≡ s → q.frame ≡ f → is_placement q r ≡ true → is_placement_of v s f r ≡ true
+  pub of_frame : (q r : PlacementRow) → q.variant ≡ v → q.supplier ≡ s → q.frame ≡ f → is_placement q r ≡ true → is_placement_of (key_of v s f) r ≡ true
   of_frame q r variant supplier frame h =
       let one = and_parts _ _ h in
       let two = and_parts _ _ one.1 in

@@ -25,6 +25,7 @@ use Rattle.fr_base.specs.declared.signal.Order.{Order}
 use Rattle.fr_base.specs.declared.signal.Order.TheVariants.{Little, Big}
 use Rattle.fr_tables.specs.Tables.{Tables}
 use Rattle.fr_tables.specs.Changes.{AreListed}
+use Rattle.fr_tables.specs.Rows.{key_of}
 use Rattle.fr_tables.specs.Statements.{signal_row, is_signal_of, shows_signal, signals_cmp, big_number}
 use Rattle.fr_store.specs.StandsFor.{HoldsRows, Entry, signal_rows, seen, own_or, is_hidden, of_parent}
 use Rattle.fr_store.specs.Paging.{signal_shown}
@@ -73,11 +74,11 @@ starts_rise (x ∷ xs) h = (
 )
 
 module _ (v s f : Name) where
-  pub signals_test : (w : Name) (e : Entry) → filter (is_signal_of v s f) (signal_rows w e) ≡ cond (is_it v s f w e.0) (signal_rows w e) []
+  pub signals_test : (w : Name) (e : Entry) → filter (is_signal_of (key_of v s f)) (signal_rows w e) ≡ cond (is_it v s f w e.0) (signal_rows w e) []
   signals_test w e =
-      filter-map (is_signal_of v s f) (signal_row w e.0.0 e.0.1) e.1.signals ∙ ap (map (signal_row w e.0.0 e.0.1)) (all_or_none (is_it v s f w e.0) e.1.signals) ∙ inside (is_it v s f w e.0)
+      filter-map (is_signal_of (key_of v s f)) (signal_row (key_of w e.0.0 e.0.1)) e.1.signals ∙ ap (map (signal_row (key_of w e.0.0 e.0.1))) (all_or_none (is_it v s f w e.0) e.1.signals) ∙ inside (is_it v s f w e.0)
     where
-      inside : (b : Bool) → map (signal_row w e.0.0 e.0.1) (cond b e.1.signals []) ≡ cond b (signal_rows w e) []
+      inside : (b : Bool) → map (signal_row (key_of w e.0.0 e.0.1)) (cond b e.1.signals []) ≡ cond b (signal_rows w e) []
       inside true = refl
       inside false = refl
 
@@ -85,28 +86,28 @@ module _ (v s f : Name) where
   order_again Little = refl
   order_again Big = refl
 
-  signal_again : (x : SignalData) → signal_shown (shows_signal (signal_row v s f x)) ≡ x
+  signal_again : (x : SignalData) → signal_shown (shows_signal (signal_row (key_of v s f) x)) ≡ x
   signal_again x i = record { name = x.name; start = x.start; length = x.length; order = order_again x.order i }
 
-  same_again : (xs : List SignalData) → map (λ x. signal_shown (shows_signal (signal_row v s f x))) xs ≡ xs
+  same_again : (xs : List SignalData) → map (λ x. signal_shown (shows_signal (signal_row (key_of v s f) x))) xs ≡ xs
   same_again [] = refl
   same_again (x ∷ xs) = λ i. signal_again x i ∷ same_again xs i
 
   module _ (t : Tables) (count : ℕ) (b : Book) (stands : HoldsRows t count b) (x : Variant) (frame : Frame) (there : get b.variants v ≡ Some x) (own : get (stands.stored v).own (s, f) ≡ Some frame) where
-    shown_rows : (rows : List Row) → AreListed shows_signal (is_signal_of v s f) signals_cmp t.signals rows → IsPermutation frame.signals (map signal_shown rows)
+    shown_rows : (rows : List Row) → AreListed shows_signal (is_signal_of (key_of v s f)) signals_cmp t.signals rows → IsPermutation frame.signals (map signal_shown rows)
     shown_rows rows h =
-        let stored : IsPermutation (map (signal_row v s f) frame.signals) h.found =
-        IsPermutation-trans _ _ _ (subst (λ xs. IsPermutation xs (filter (is_signal_of v s f) t.signals)) (of_one v s f signal_rows (is_signal_of v s f) signals_test stands.stored b.variants x frame there own)
-        (IsPermutation-filter (is_signal_of v s f) _ _ stands.signals)) h.same in
-        subst (λ xs. IsPermutation xs (map signal_shown rows)) (map-map signal_shown shows_signal _ ∙ map-map (λ r. signal_shown (shows_signal r)) (signal_row v s f) frame.signals ∙ same_again frame.signals)
-        (subst (λ rs. IsPermutation (map signal_shown (map shows_signal (map (signal_row v s f) frame.signals))) (map signal_shown rs)) (sym h.shown)
+        let stored : IsPermutation (map (signal_row (key_of v s f)) frame.signals) h.found =
+        IsPermutation-trans _ _ _ (subst (λ xs. IsPermutation xs (filter (is_signal_of (key_of v s f)) t.signals)) (of_one v s f signal_rows (is_signal_of (key_of v s f)) signals_test stands.stored b.variants x frame there own)
+        (IsPermutation-filter (is_signal_of (key_of v s f)) _ _ stands.signals)) h.same in
+        subst (λ xs. IsPermutation xs (map signal_shown rows)) (map-map signal_shown shows_signal _ ∙ map-map (λ r. signal_shown (shows_signal r)) (signal_row (key_of v s f)) frame.signals ∙ same_again frame.signals)
+        (subst (λ rs. IsPermutation (map signal_shown (map shows_signal (map (signal_row (key_of v s f)) frame.signals))) (map signal_shown rs)) (sym h.shown)
         (IsPermutation-map signal_shown _ _ (IsPermutation-map shows_signal _ _ stored)))
 
     pub is_frame : get x.frames (s, f) ≡ Some frame
     unfolding seen
     is_frame = (stands.each v x there).frames (s, f) ∙ ap (λ o. own_or o (is_hidden t.dropped v (stands.stored v) (s, f)) (of_parent b.variants x.parent (s, f))) own
 
-    pub layout_told : (p : Params) (rows : List Row) (found : LayoutData) → AreListed shows_signal (is_signal_of v s f) signals_cmp t.signals rows
+    pub layout_told : (p : Params) (rows : List Row) (found : LayoutData) → AreListed shows_signal (is_signal_of (key_of v s f)) signals_cmp t.signals rows
         → found.words ≡ p.payload_words → IsPermutation (map signal_shown rows) found.signals → IsLayout found → found ≡ layout_of p frame
     layout_told p rows found listed words signals sound =
         let same = sorted_unique (on (λ s. s.start) nat_cmp) (on_total (λ s. s.start) nat_cmp_total) found.signals frame.signals (starts_rise found.signals sound.rising)

@@ -12,7 +12,7 @@ use Rattle.fr_base.specs.Layouts.{with_signal, without_signal}
 use Rattle.fr_base.specs.Names.{same_text}
 use Rattle.fr_base.specs.Signals.{SignalData}
 use Rattle.fr_base.specs.declared.name.Name.{Name}
-use Rattle.fr_tables.specs.Rows.{SignalRow}
+use Rattle.fr_tables.specs.Rows.{SignalRow, key_of}
 use Rattle.fr_tables.specs.Statements.{is_signal, is_signal_of, signal_row}
 use Rattle.fr_store.specs.StandsFor.{signal_rows}
 use Rattle.fr_store.proofs.FrameSections.{section}
@@ -75,23 +75,23 @@ one_signal_more s (t ∷ xs) = by_test (nat_lt s.start t.start) (one_signal_more
 
 module _ (v s f : Name) (frame : Frame) where
   abbrev signal_of : SignalData → SignalRow
-  signal_of = signal_row v s f
+  signal_of = signal_row (key_of v s f)
 
   pub add_section : (signal : SignalData)
       → IsPermutation (signal_of signal ∷ section signal_rows v s f (Some frame)) (section signal_rows v s f (Some (record frame { signals = with_signal signal frame.signals })))
   add_section signal = IsPermutation-map signal_of _ _ (one_signal_more signal frame.signals)
 
-  pub of_signal : (name : List ℕ) (r : SignalRow) → is_signal v s f name r ≡ true → is_signal_of v s f r ≡ true
+  pub of_signal : (name : List ℕ) (r : SignalRow) → is_signal (key_of v s f) name r ≡ true → is_signal_of (key_of v s f) r ≡ true
   of_signal name r h =
       let one = and_parts (bytes_eq r.variant v) _ h in
       let two = and_parts (bytes_eq r.supplier s) _ one.1 in
       and_from _ _ one.0 (and_from _ _ two.0 (and_parts (bytes_eq r.frame f) _ two.1).0)
 
-  signal_is : (name : List ℕ) (y : SignalData) → is_signal v s f name (signal_of y) ≡ same_text y.name name
+  signal_is : (name : List ℕ) (y : SignalData) → is_signal (key_of v s f) name (signal_of y) ≡ same_text y.name name
   signal_is name y = ap₂ ◌&&◌ (own_text v) (ap₂ ◌&&◌ (own_text s) (ap (λ b. b && bytes_eq y.name name) (own_text f)))
 
-  pub drop_section : (name : List ℕ) → filter (λ r. not (is_signal v s f name r)) (section signal_rows v s f (Some frame))
+  pub drop_section : (name : List ℕ) → filter (λ r. not (is_signal (key_of v s f) name r)) (section signal_rows v s f (Some frame))
       ≡ section signal_rows v s f (Some (record frame { signals = without_signal name frame.signals }))
   drop_section name =
-      filter-map (λ r. not (is_signal v s f name r)) signal_of frame.signals
-      ∙ ap (map signal_of) (filter_same (λ y. not (is_signal v s f name (signal_of y))) (λ y. not (same_text y.name name)) (λ y. ap not (signal_is name y)) frame.signals)
+      filter-map (λ r. not (is_signal (key_of v s f) name r)) signal_of frame.signals
+      ∙ ap (map signal_of) (filter_same (λ y. not (is_signal (key_of v s f) name (signal_of y))) (λ y. not (same_text y.name name)) (λ y. ap not (signal_is name y)) frame.signals)

@@ -29,7 +29,7 @@ use Rattle.fr_world.specs.Pages.{frame_of, frames_data}
 use Rattle.fr_world.specs.declared.page.PageFrame.{PageFrame}
 use Rattle.fr_world.proofs.AmendLaws.{get_frame}
 use Rattle.fr_world.proofs.KeyLaws.{name_cmp}
-use Rattle.fr_tables.specs.Rows.{VariantRow, DroppedRow, maybe_words, of_maybe, flag}
+use Rattle.fr_tables.specs.Rows.{VariantRow, DroppedRow, maybe_words, of_maybe, flag, key_of}
 use Rattle.fr_tables.specs.Tables.{Tables}
 use Rattle.fr_tables.specs.Changes.{AreListed}
 use Rattle.fr_tables.specs.Statements.{any_order, is_variant, shows_variant, is_dropped, is_dropped_by, shows_dropped, dropped_cmp}
@@ -120,18 +120,18 @@ less_one rows at row m n old low is name =
 
 -- the rows of a variant's dropped frames have the names that were dropped in it
 module _ (t : Tables) (v s : Name) where
-  shown_names : (n : Name) (ds : List DroppedRow) → list_any (is_named n) (map shows_dropped (filter (is_dropped_by v s) ds)) ≡ list_any (is_dropped v s n) ds
+  shown_names : (n : Name) (ds : List DroppedRow) → list_any (is_named n) (map shows_dropped (filter (is_dropped_by v s) ds)) ≡ list_any (is_dropped (key_of v s n)) ds
   shown_names n [] = refl
   shown_names n (d ∷ ds) = by_tests (bytes_eq d.variant v) (bytes_eq d.supplier s) (shown_names n ds)
     where
-      by_tests : (of_variant of_supplier : Bool) → list_any (is_named n) (map shows_dropped (filter (is_dropped_by v s) ds)) ≡ list_any (is_dropped v s n) ds
+      by_tests : (of_variant of_supplier : Bool) → list_any (is_named n) (map shows_dropped (filter (is_dropped_by v s) ds)) ≡ list_any (is_dropped (key_of v s n)) ds
           → list_any (is_named n) (map shows_dropped (cond (of_variant && of_supplier) (d ∷ filter (is_dropped_by v s) ds) (filter (is_dropped_by v s) ds)))
-          ≡ ((of_variant && (of_supplier && bytes_eq d.frame n)) || list_any (is_dropped v s n) ds)
+          ≡ ((of_variant && (of_supplier && bytes_eq d.frame n)) || list_any (is_dropped (key_of v s n)) ds)
       by_tests true true more = ap (λ b. bytes_eq d.frame n || b) more
       by_tests true false more = more
       by_tests false of_supplier more = more
 
-  pub dropped_named : (rows : List Row) → AreListed shows_dropped (is_dropped_by v s) dropped_cmp t.dropped rows → (n : Name) → list_any (is_named n) rows ≡ list_any (is_dropped v s n) t.dropped
+  pub dropped_named : (rows : List Row) → AreListed shows_dropped (is_dropped_by v s) dropped_cmp t.dropped rows → (n : Name) → list_any (is_named n) rows ≡ list_any (is_dropped (key_of v s n)) t.dropped
   dropped_named rows listed n =
       ap (list_any (is_named n)) listed.shown ∙ sym (list_any-IsPermutation (is_named n) _ _ (IsPermutation-map shows_dropped _ _ listed.same)) ∙ shown_names n t.dropped
 
@@ -192,7 +192,7 @@ module _ (t : Tables) (count : ℕ) (b : Book) (stands : HoldsRows t count b) (v
   pub frames_alone : laid_over stored x ≡ None → stored.own ≡ x.frames
   unfolding seen
   frames_alone none =
-      same_table _ _ (λ k. sym ((stands.each v x there).frames k ∙ alone (get stored.own k) stored.overlay (list_any (is_dropped v k.0 k.1) t.dropped) x.parent k none))
+      same_table _ _ (λ k. sym ((stands.each v x there).frames k ∙ alone (get stored.own k) stored.overlay (list_any (is_dropped (key_of v k.0 k.1)) t.dropped) x.parent k none))
 
   -- laid over its parent, its own and then the parent's but for the dropped ones
   over : (p : Name) (y : Variant) → get b.variants p ≡ Some y → (o : Option Frame) (is hidden : Bool) (parent : Option Name) (k : Name × Name) → (if is then parent else None) ≡ Some p
@@ -207,9 +207,9 @@ module _ (t : Tables) (count : ℕ) (b : Book) (stands : HoldsRows t count b) (v
       rw found refl
 
   pub frames_over : (p : Name) (y : Variant) → get b.variants p ≡ Some y → laid_over stored x ≡ Some p → (k : Name × Name)
-      → get x.frames k ≡ option_or (get stored.own k) (if list_any (is_dropped v k.0 k.1) t.dropped then None else get y.frames k)
+      → get x.frames k ≡ option_or (get stored.own k) (if list_any (is_dropped (key_of v k.0 k.1)) t.dropped then None else get y.frames k)
   unfolding seen
-  frames_over p y is_there laid k = (stands.each v x there).frames k ∙ over p y is_there (get stored.own k) stored.overlay (list_any (is_dropped v k.0 k.1) t.dropped) x.parent k laid
+  frames_over p y is_there laid k = (stands.each v x there).frames k ∙ over p y is_there (get stored.own k) stored.overlay (list_any (is_dropped (key_of v k.0 k.1)) t.dropped) x.parent k laid
 
 -- ---- one level over the next
 

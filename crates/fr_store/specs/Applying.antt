@@ -1,8 +1,12 @@
 -- Edits: what edits of the register's rows make of the tables, and of the book for which these
--- stand. What a crash leaves of edits.
-use Rattle.std.specs.Prelude.{List, Result, OnOk, IsTrue}
-use Rattle.sqlite.specs.State.{State, HasCleanDisk, KeepsCommit}
+-- stand. What a crash leaves of edits. What a call inside a transaction says of itself.
+use Rattle.std.specs.Prelude.{◌≡◌, ℕ, List, Result, Ok, Err, MatchResult, OnOk, IfErr, IsTrue, ⊤}
+use Rattle.sqlite.specs.declared.error.Error.{Error}
+use Rattle.sqlite.specs.declared.transaction.Transaction.{Transaction}
+use Rattle.sqlite.specs.Held.{state}
+use Rattle.sqlite.specs.State.{State, HasCleanDisk, KeepsCommit, Survives}
 use Rattle.sqlite.specs.Tree.{Trees}
+use Rattle.sqlite_trees.specs.declared.store.Store.{Ghosts}
 use Rattle.fr_base.specs.Cluster.{Cluster}
 use Rattle.fr_base.specs.Book.{Book}
 use Rattle.fr_world.specs.BookEdits.{applied, all_applied}
@@ -12,6 +16,8 @@ use Rattle.fr_store.specs.Reading.{Stands}
 use Rattle.fr_store.specs.Store.{IsRegisterFor}
 use Rattle.fr_store.specs.StoreFiles.{database_of}
 use Rattle.fr_tables.specs.Tables.{HasTables}
+use Rattle.fr_store.specs.declared.fault.StoreFault.{StoreFault}
+use Rattle.fr_store.specs.declared.fault.StoreFault.TheVariants.{Unavailable}
 
 -- ---- what stays
 
@@ -23,6 +29,33 @@ pub record GoesOn (s : State) : Type 0 where
 -- Statements inside a transaction commit nothing. Where none fails the transaction is not over.
 abbrev pub StaysInside : {X E : Type 0} → State → State → Result X E → Type 0
 StaysInside old new r = HasCleanDisk new → IsTrue old.in_transaction → HasTables old.now → KeepsCommit old new × OnOk r (GoesOn new)
+
+-- ---- calls
+
+-- A call inside a transaction does this to what the connection shows. The only refusal is
+-- `Unavailable`. A crash leaves nothing of the call, and the transaction holds the same connection
+-- still.
+pub record Tries {S X : Type 0} (g : Ghosts S) (Does : State → State → Result X StoreFault → Type 0) (old new : Transaction S) (r : Result X StoreFault) : Type 0 where
+  pub same_reference : new.conn.ghost_name ≡ old.conn.ghost_name
+  pub does : Does (state g old.conn.now) (state g new.conn.now) r
+  pub refused : IfErr r (λ fault. fault ≡ Unavailable)
+  pub survives : Survives (state g old.conn.now) (state g new.conn.now) (λ _. ⊥)
+
+-- Such a call that commits nothing. Where it does not fail the transaction is not over.
+pub record Edits {S X : Type 0} (g : Ghosts S) (Does : State → State → Result X StoreFault → Type 0) (old new : Transaction S) (r : Result X StoreFault) : Type 0 where
+  pub same_reference : new.conn.ghost_name ≡ old.conn.ghost_name
+  pub does : Does (state g old.conn.now) (state g new.conn.now) r
+  pub stays : StaysInside (state g old.conn.now) (state g new.conn.now) r
+  pub refused : IfErr r (λ fault. fault ≡ Unavailable)
+  pub survives : Survives (state g old.conn.now) (state g new.conn.now) (λ _. ⊥)
+
+-- what else a call inside a transaction does
+abbrev pub Within : {S X E : Type 0} → Ghosts S → (State → State → Result X E → Type 0) → Transaction S → Transaction S → Result X E → Type 0
+Within g does old new r = does (state g old.conn.now) (state g new.conn.now) r
+
+-- The statement ran, or it failed and the answer is `Unavailable`.
+abbrev pub IsDone : Result ℕ Error → Result ⊤ StoreFault → Type 0
+IsDone ran r = MatchResult ran (λ _. r ≡ Ok tt) (λ _. r ≡ Err Unavailable)
 
 -- ---- edits
 

@@ -1,9 +1,9 @@
 -- Before: when tables of the schema before stand for a cluster of 64 cycles and a book. All rows
 -- but those of the number and the cluster are as in this schema. When files hold such a register.
 -- What a migration makes of it, and what a crash leaves of that.
-use Rattle.std.specs.Prelude.{◌≡◌, ◌++◌, List, [], ◌∷◌, Result, OnOk, IsTrue}
+use Rattle.std.specs.Prelude.{◌≡◌, ◌++◌, List, [], ◌∷◌, Result, MatchResult, OnOk, IsTrue}
 use Rattle.sqlite.specs.Effect.{Database}
-use Rattle.sqlite.specs.State.{State, HasCleanDisk, KeepsCommit}
+use Rattle.sqlite.specs.State.{State, HasCleanDisk, IsUnchanged, KeepsCommit}
 use Rattle.sqlite.specs.Tree.{Trees}
 use Rattle.sqlite_wal.specs.Recovery.{Image}
 use Rattle.fr_base.specs.Cluster.{Cluster}
@@ -13,9 +13,9 @@ use Rattle.fr_base.specs.declared.params.RawParams.{RawParams}
 use Rattle.fr_tables.specs.Schema.{IsOld, old_schema, layout_of}
 use Rattle.fr_tables.specs.Rows.{RegisterRow, ClusterRow}
 use Rattle.fr_tables.specs.Tables.{Tables, HasTables, HasOldTables, tables_in}
-use Rattle.fr_tables.specs.Changes.{tables_of}
+use Rattle.fr_tables.specs.Changes.{Stays, tables_of}
 use Rattle.fr_tables.specs.Statements.{cluster_row, cluster2_row}
-use Rattle.fr_tables.specs.Asking.{HasNumber, numbered, old_schema_number}
+use Rattle.fr_tables.specs.Asking.{HasNumber, numbered, old_schema_number, our_schema_number}
 use Rattle.fr_store.specs.StandsFor.{HoldsRows}
 use Rattle.fr_store.specs.Reading.{Stands}
 use Rattle.fr_store.specs.Store.{IsOpenable, IsRegisterFor}
@@ -62,6 +62,10 @@ MovesCluster old new r =
     HasCleanDisk new → IsTrue old.in_transaction → HasTables old.now → (p : RawParams) (integrator : Key) → (tables_of old).cluster ≡ cluster_row p integrator ∷ [] → p.cycles ≡ 64
     → OnOk r (tables_of new ≡ moved p integrator (tables_of old))
 
+-- The number of the schema is as it was, or one of the statements fails.
+abbrev pub KeepsNumber : {X E : Type 0} → State → State → Result X E → Type 0
+KeepsNumber old new r = HasCleanDisk new → IsTrue old.in_transaction → HasTables old.now → OnOk r ((tables_of new).register ≡ (tables_of old).register)
+
 -- Statements inside a transaction make tables of the schema before those of this schema, for the
 -- same cluster and book, or one of them fails.
 abbrev pub Migrates : {X E : Type 0} → State → State → Result X E → Type 0
@@ -88,6 +92,14 @@ abbrev pub MakesOpenable : {X E : Type 0} → State → State → Result X E →
 MakesOpenable old new r =
     HasCleanDisk new → IsTrue old.in_transaction → HasOldTables old.now → HasNumber old.now old_schema_number
     → OnOk r (IsOpenable new.now)
+
+-- Where tables say the number of this schema they are such as an open wants, or the call fails.
+abbrev pub ExpectsOpenable : {X E : Type 0} → State → State → Result X E → Type 0
+ExpectsOpenable old new r = HasCleanDisk new → HasTables old.now → (tables_of old).register ≡ numbered our_schema_number ∷ [] → OnOk r (IsOpenable new.now)
+
+-- the tables are left as they are
+abbrev pub LeavesTables : {X E : Type 0} → State → State → Result X E → Type 0
+LeavesTables old new r = HasCleanDisk new → HasTables old.now → MatchResult r (λ _. IsUnchanged old new) (λ _. Stays old new)
 
 -- the files hold a register that an open takes
 abbrev pub HoldsOpenable : Image → Type 0

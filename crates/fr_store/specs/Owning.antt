@@ -12,6 +12,7 @@ use Rattle.fr_base.specs.declared.name.Name.{Name}
 use Rattle.fr_world.specs.Fits.{IsOpen}
 use Rattle.fr_tables.specs.Changes.{Changes, tables_of}
 use Rattle.fr_store.specs.Reading.{Stands}
+use Rattle.fr_tables.specs.declared.frame_key.FrameKey.{FrameKey}
 use Rattle.fr_tables.specs.Rows.{VariantRow, FrameRow, PlacementRow, SignalRow, flag}
 use Rattle.fr_store.specs.StandsFor.{HoldsRows}
 use Rattle.fr_tables.specs.Statements.{is_variant, is_frame, frame_copies, placement_copies, signal_copies}
@@ -36,28 +37,29 @@ pub record TellsLevel (v : Name) (t : Tables) (level : Level) : Type 0 where
 -- ---- a variant's own frames
 
 -- whether the frame has a row of its own in the variant, and is not only shown from its parent
-abbrev pub is_own : Name → Name → Name → Tables → Bool
-is_own v s f t = list_any (is_frame v s f) t.frames
+abbrev pub is_own : FrameKey → Tables → Bool
+is_own key t = list_any (is_frame key) t.frames
 
 -- the frame that a variant shows is the owner's own; where it is the variant's own, the variant is
 -- its owner
-pub record IsOfOwner (b : Book) (t : Tables) (v s f : Name) (frame : Frame) (owner : Name) : Type 0 where
+pub record IsOfOwner (b : Book) (t : Tables) (key : FrameKey) (frame : Frame) (owner : Name) : Type 0 where
   pub variant : Variant
   pub there : get b.variants owner ≡ Some variant
-  pub shown : get variant.frames (s, f) ≡ Some frame
-  pub own : IsTrue (is_own owner s f t)
-  pub nearest : IsTrue (is_own v s f t) → owner ≡ v
+  pub shown : get variant.frames (key.supplier, key.frame) ≡ Some frame
+  pub own : IsTrue (is_own (record key { variant = owner }) t)
+  pub nearest : IsTrue (is_own key t) → owner ≡ key.variant
 
 -- the tables are as they were, and this is the owner of the frame that the variant shows, if it shows one
-pub record IsOwner (v s f owner : Name) (old new : State) : Type 0 where
+pub record IsOwner (key : FrameKey) (owner : Name) (old new : State) : Type 0 where
   pub now : new.now ≡ old.now
   pub inside : IsTrue new.in_transaction
-  pub of : (c : Cluster) (b : Book) → Stands old c b → (x : Variant) (frame : Frame) → get b.variants v ≡ Some x → get x.frames (s, f) ≡ Some frame → IsOfOwner b (tables_of old) v s f frame owner
+  pub of : (c : Cluster) (b : Book) → Stands old c b → (x : Variant) (frame : Frame) → get b.variants key.variant ≡ Some x → get x.frames (key.supplier, key.frame) ≡ Some frame
+      → IsOfOwner b (tables_of old) key frame owner
 
 -- Queries inside a transaction find the owner of the frame that the variant shows, or one of them
 -- fails.
-abbrev pub FindsOwner : {E : Type 0} → Name → Name → Name → State → State → Result Name E → Type 0
-FindsOwner v s f old new r = HasCleanDisk new → IsTrue old.in_transaction → HasTables old.now → KeepsCommit old new × IfOk r (λ owner. IsOwner v s f owner old new)
+abbrev pub FindsOwner : {E : Type 0} → FrameKey → State → State → Result Name E → Type 0
+FindsOwner key old new r = HasCleanDisk new → IsTrue old.in_transaction → HasTables old.now → KeepsCommit old new × IfOk r (λ owner. IsOwner key owner old new)
 
 -- ---- a frame's rows, copied for another variant
 
@@ -65,24 +67,24 @@ abbrev pub with_frame_rows : List FrameRow → List PlacementRow → List Signal
 with_frame_rows frames placements signals t =
     record t { frames = t.frames ++ frames; placements = t.placements ++ placements; signals = t.signals ++ signals }
 
--- copies of all rows of one variant's frame are put in for the other variant, in some order
-pub record CopiesFrame (from to s f : Name) (old new : State) : Type 0 where
+-- copies of all rows of the same frame in another variant are put in for this one, in some order
+pub record CopiesFrame (from : Name) (to : FrameKey) (old new : State) : Type 0 where
   pub frames : List FrameRow
   pub placements : List PlacementRow
   pub signals : List SignalRow
-  pub same_frames : IsPermutation (frame_copies from to s f (tables_of old)) frames
-  pub same_placements : IsPermutation (placement_copies from to s f (tables_of old)) placements
-  pub same_signals : IsPermutation (signal_copies from to s f (tables_of old)) signals
+  pub same_frames : IsPermutation (frame_copies from to (tables_of old)) frames
+  pub same_placements : IsPermutation (placement_copies from to (tables_of old)) placements
+  pub same_signals : IsPermutation (signal_copies from to (tables_of old)) signals
   pub added : Changes (with_frame_rows frames placements signals) old new
 
 -- Statements inside a transaction make such copies, or fail and commit nothing.
-abbrev pub MakesFrameCopies : {X E : Type 0} → Name → Name → Name → Name → State → State → Result X E → Type 0
-MakesFrameCopies from to s f old new r =
-    HasCleanDisk new → IsTrue old.in_transaction → HasTables old.now → MatchResult r (λ _. CopiesFrame from to s f old new) (λ _. KeepsCommit old new)
+abbrev pub MakesFrameCopies : {X E : Type 0} → Name → FrameKey → State → State → Result X E → Type 0
+MakesFrameCopies from to old new r =
+    HasCleanDisk new → IsTrue old.in_transaction → HasTables old.now → MatchResult r (λ _. CopiesFrame from to old new) (λ _. KeepsCommit old new)
 
 -- Statements inside a transaction make the frame that an open variant shows its own, and what each
 -- variant shows stays; or one of them fails.
-abbrev pub MakesOwn : {X E : Type 0} → Name → Name → Name → State → State → Result X E → Type 0
-MakesOwn v s f old new r =
-    HasCleanDisk new → IsTrue old.in_transaction → (c : Cluster) (b : Book) → Stands old c b → (x : Variant) (frame : Frame) → IsOpen b v x → get x.frames (s, f) ≡ Some frame
-    → OnOk r (Stands new c b × IsTrue (is_own v s f (tables_of new)))
+abbrev pub MakesOwn : {X E : Type 0} → FrameKey → State → State → Result X E → Type 0
+MakesOwn key old new r =
+    HasCleanDisk new → IsTrue old.in_transaction → (c : Cluster) (b : Book) → Stands old c b → (x : Variant) (frame : Frame) → IsOpen b key.variant x
+    → get x.frames (key.supplier, key.frame) ≡ Some frame → OnOk r (Stands new c b × IsTrue (is_own key (tables_of new)))

@@ -1,9 +1,11 @@
 -- Paging: what a call reads of a supplier's rows in a variant: its nodes, its grants, the frames
 -- that are the variant's own, the frames that the variant shows, and its page.
-use Rattle.std.specs.Prelude.{◌≡◌, ℕ, pos, List, option_map, Option, Some, None, Result, MatchResult, MatchOption, nat_abs, unwrap_or, if◌then◌else◌}
+use Rattle.std.specs.Prelude.{◌≡◌, ℕ, pos, List, option_map, Option, Some, None, Result, MatchResult, IfErr, MatchOption, nat_abs, unwrap_or, if◌then◌else◌}
 use Rattle.std.specs.Ordering.{int_eq}
 use Rattle.sqlite.specs.Order.{Row, column}
+use Rattle.sqlite.specs.Held.{Held, state}
 use Rattle.sqlite.specs.State.{State, HasCleanDisk, IsUnchanged}
+use Rattle.sqlite_trees.specs.declared.store.Store.{Ghosts}
 use Rattle.fr_base.specs.Tables.{get}
 use Rattle.fr_base.specs.Keys.{owned, channel_slots}
 use Rattle.fr_base.specs.Channels.{channel_of_text, channels_of_text}
@@ -21,9 +23,11 @@ use Rattle.fr_world.specs.Pages.{FrameData, PageData, frame_of, frames_data, hol
 use Rattle.fr_world.specs.declared.page.ChannelSlot.{ChannelSlot}
 use Rattle.fr_tables.specs.Rows.{words, maybe_words, number}
 use Rattle.fr_tables.specs.Tables.{Tables, HasTables}
-use Rattle.fr_tables.specs.Changes.{Stays, AreListed, tables_of}
+use Rattle.fr_tables.specs.Changes.{Stays, Spares, AreListed, tables_of}
 use Rattle.fr_tables.specs.Statements.{is_frame_of, shows_frame, frames_cmp, is_placed_by, shows_placement, placements_cmp, is_signalled_by, shows_signal, signals_cmp}
 use Rattle.fr_store.specs.StandsFor.{Stored, HoldsRows}
+use Rattle.fr_store.specs.declared.fault.StoreFault.{StoreFault}
+use Rattle.fr_store.specs.declared.fault.StoreFault.TheVariants.{Unavailable}
 use Rattle.fr_store.specs.declared.page.frames.FrameRows.{FrameRows}
 use Rattle.fr_store.specs.declared.page.view.Level.{Level}
 use Rattle.fr_store.specs.declared.page.view.View.{View}
@@ -31,6 +35,13 @@ use Rattle.fr_store.specs.declared.page.view.View.{View}
 -- A call that reads says this of the tables and leaves them as they are, or it fails.
 abbrev pub Reads : {X E : Type 0} → (Tables → X → Type 0) → State → State → Result X E → Type 0
 Reads says old new r = HasCleanDisk new → HasTables old.now → MatchResult r (λ x. says (tables_of old) x × IsUnchanged old new) (λ _. Stays old new)
+
+-- Such a call on a connection. The only refusal is `Unavailable`. A crash leaves nothing of the call,
+-- and no fault is forgotten.
+pub record OnlyReads {S X : Type 0} (g : Ghosts S) (says : Tables → X → Type 0) (old new : Held S) (r : Result X StoreFault) : Type 0 where
+  pub told : Reads says (state g old) (state g new) r
+  pub refused : IfErr r (λ fault. fault ≡ Unavailable)
+  pub spares : Spares (state g old) (state g new)
 
 -- ---- a variant's row
 

@@ -1,10 +1,12 @@
 -- Reading: what a call reads of the book for which the tables stand: the variants, a supplier's
 -- nodes, the holder of a slot, and an import that is kept. Which variants a register can have,
 -- whoever wrote its rows.
-use Rattle.std.specs.Prelude.{◌≡◌, ◌≤◌, ℕ, pos, List, length, map, All, Option, Some, None, Result, Ok, IfOk, nat_abs}
+use Rattle.std.specs.Prelude.{◌≡◌, ◌≤◌, ℕ, pos, List, length, map, All, Option, Some, None, Result, Ok, IfErr, IfOk, nat_abs}
 use Rattle.std.specs.Ordering.{int_eq}
 use Rattle.sqlite.specs.Order.{Row, column}
+use Rattle.sqlite.specs.Held.{state}
 use Rattle.sqlite.specs.State.{State, HasCleanDisk}
+use Rattle.sqlite_trees.specs.declared.store.Store.{Ghosts}
 use Rattle.fr_base.specs.Tables.{get}
 use Rattle.fr_base.specs.Cluster.{Cluster}
 use Rattle.fr_base.specs.Book as book
@@ -16,9 +18,12 @@ use Rattle.fr_world.specs.Common.{depth_after}
 use Rattle.fr_base.specs.declared.answer.VariantRow.{VariantRow}
 use Rattle.fr_tables.specs.Rows.{words, number, bytes, maybe_words}
 use Rattle.fr_tables.specs.Tables.{Tables, HasTables}
-use Rattle.fr_tables.specs.Changes.{Stays, AreListed, tables_of}
+use Rattle.fr_tables.specs.Changes.{Stays, Spares, AreListed, tables_of}
 use Rattle.fr_tables.specs.Statements.{shows_variant, every, variants_cmp}
 use Rattle.fr_store.specs.StandsFor.{StandsFor}
+use Rattle.fr_store.specs.declared.fault.StoreFault.{StoreFault}
+use Rattle.fr_store.specs.declared.fault.StoreFault.TheVariants.{Unavailable}
+use Rattle.fr_store.specs.declared.store.Store.{Store}
 use Rattle.fr_store.specs.declared.slot_holder.Holder.{Holder}
 
 -- the tables that the connection sees stand for a cluster and a book
@@ -33,6 +38,15 @@ Tells old new r says = HasCleanDisk new → (c : Cluster) (b : Book) → Stands 
 -- A call that reads leaves the tables as they are, or the transaction is undone.
 abbrev pub Leaves : State → State → Type 0
 Leaves old new = HasCleanDisk new → HasTables old.now → Stays old new
+
+-- A call only reads a store, and tells this of its book. The config stays. The only refusal is
+-- `Unavailable`. A crash leaves nothing of the call, and no fault is forgotten.
+pub record OnlyTells {S X : Type 0} (g : Ghosts S) (says : Cluster → Book → X → Type 0) (old new : Store S) (r : Result X StoreFault) : Type 0 where
+  pub told : Tells (state g old.conn) (state g new.conn) r says
+  pub config : new.config ≡ old.config
+  pub refused : IfErr r (λ fault. fault ≡ Unavailable)
+  pub stays : Leaves (state g old.conn) (state g new.conn)
+  pub spares : Spares (state g old.conn) (state g new.conn)
 
 -- ---- what a row says
 

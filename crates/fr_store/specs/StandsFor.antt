@@ -16,7 +16,7 @@ use Rattle.fr_base.specs.Book.{Frame, Variant, Kept, Book, listed}
 use Rattle.fr_base.specs.Queries.{placements_in}
 use Rattle.fr_base.specs.declared.name.Name.{Name}
 use Rattle.fr_base.specs.declared.placement.Placement.{Placement}
-use Rattle.fr_tables.specs.Rows.{flag, RegisterRow, ClusterRow, Cluster2Row, NodeRow, VariantRow, GrantRow, FrameRow, PlacementRow, SignalRow, ImportRow, DroppedRow}
+use Rattle.fr_tables.specs.Rows.{flag, RegisterRow, ClusterRow, Cluster2Row, NodeRow, VariantRow, GrantRow, FrameRow, PlacementRow, SignalRow, ImportRow, DroppedRow, key_of}
 use Rattle.fr_tables.specs.Tables.{Tables}
 use Rattle.fr_tables.specs.Statements.{cluster2_row, placement_row, signal_row, is_dropped}
 use Rattle.fr_tables.specs.Filling.{supplier_row}
@@ -53,10 +53,10 @@ abbrev pub frame_row : Name → Entry → FrameRow
 frame_row v f = record { variant = v; supplier = f.0.0; name = f.0.1; node = f.1.node }
 
 abbrev pub placement_rows : Name → Entry → List PlacementRow
-placement_rows v f = map (placement_row v f.0.0 f.0.1) (placements_in f.1)
+placement_rows v f = map (placement_row (key_of v f.0.0 f.0.1)) (placements_in f.1)
 
 abbrev pub signal_rows : Name → Entry → List SignalRow
-signal_rows v f = map (signal_row v f.0.0 f.0.1) f.1.signals
+signal_rows v f = map (signal_row (key_of v f.0.0 f.0.1)) f.1.signals
 
 -- what is said of each of the variants' own frames
 unfoldable pub of_frames : {X : Type 0} → (Name → Entry → List X) → (Name → Stored) → Table names Variant → List X
@@ -81,7 +81,7 @@ own_or None hidden inherited = if hidden then None else inherited
 -- whether the parent's frame is hidden: it was dropped in the variant, or the variant is not laid
 -- over its parent
 abbrev pub is_hidden : List DroppedRow → Name → Stored → Name × Name → Bool
-is_hidden dropped v stored k = not stored.overlay || list_any (is_dropped v k.0 k.1) dropped
+is_hidden dropped v stored k = not stored.overlay || list_any (is_dropped (key_of v k.0 k.1)) dropped
 
 -- the frame that the variant shows under a supplier and a name
 unfoldable pub seen : List DroppedRow → Table names Variant → Name → Option Name → Stored → Name × Name → Option Frame

@@ -6,7 +6,7 @@ ghost use Rattle.sqlite.specs.Held.{state};
 ghost use Rattle.fr_world.specs.BookEdits.{all_applied};
 ghost use Rattle.fr_world.specs.Fits.{AllFit};
 ghost use Rattle.fr_store.specs.Joined.{after_edits};
-ghost use Rattle.fr_store.specs.Applying.{CarriesOutAll, LeavesAll, StaysInside};
+ghost use Rattle.fr_store.specs.Applying.{CarriesOutAll, LeavesAll, Edits, Within};
 ghost use Rattle.fr_store.specs.Crashes.{LeavesOnly};
 ghost use Rattle.fr_tables.specs.Asking.{AreAsBefore};
 ghost use Rattle.fr_store.specs.Reading.{Stands};
@@ -25,16 +25,8 @@ use std::alloc::Global;
 
 /// Carries the edits out, one after another.
 fn carry_out_all<S: Alter>(tx: &mut Transaction<'_, S>, edits: &[Edit]) -> Result<(), StoreFault>
-    ensures same_reference { tx.new.conn.ghost_name ≡ tx.old.conn.ghost_name }
-    ensures carried { CarriesOutAll edits.now
-        (state S.Store tx.old.conn.now) (state S.Store tx.new.conn.now) result }
-    ensures spared { ChangeNoFrame edits.now
-        → SparesFrames (state S.Store tx.old.conn.now) (state S.Store tx.new.conn.now) result }
-    ensures stays { StaysInside (state S.Store tx.old.conn.now) (state S.Store tx.new.conn.now)
-        result }
-    ensures refused { IfErr result (λ fault. fault ≡ Unavailable) }
-    ensures survives { Survives (state S.Store tx.old.conn.now) (state S.Store tx.new.conn.now)
-        (λ _. ⊥) }
+    ensures carried { Edits S.Store (CarriesOutAll edits.now) tx.old tx.new result }
+    ensures spared { ChangeNoFrame edits.now → Within S.Store SparesFrames tx.old tx.new result }
 {
     for edit in edits {
         carry_out(tx, edit)?;

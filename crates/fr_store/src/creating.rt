@@ -13,6 +13,7 @@ ghost use Rattle.fr_store.specs.Reading.{Stands};
 ghost use Rattle.fr_tables.specs.Schema.{schema_of};
 ghost use Rattle.fr_store.specs.Store.{IsNewOf, IsRegisterFor, MakesNew, Forbids, is_ours, has_table};
 ghost use Rattle.fr_store.specs.StoreFiles.{database_of};
+ghost use Rattle.fr_tables.specs.Changes.{Runs};
 ghost use Rattle.fr_store.specs.declared.fault.StoreFault.TheVariants as fault;
 
 use crate::fault::StoreFault;
@@ -26,11 +27,7 @@ use std::alloc::Global;
 
 /// Makes the tables and the rows of a new register.
 fn make_and_fill<S: Alter>(tx: &mut Transaction<'_, S>, config: &Config) -> Result<(), Error>
-    ensures same_reference { tx.new.conn.ghost_name ≡ tx.old.conn.ghost_name }
-    ensures made { MakesNew config.now (state S.Store tx.old.conn.now)
-        (state S.Store tx.new.conn.now) result }
-    ensures survives { Survives (state S.Store tx.old.conn.now) (state S.Store tx.new.conn.now)
-        (λ _. ⊥) }
+    ensures { Runs S.Store (MakesNew config.now) tx.old tx.new result }
 {
     making::every_table(tx)?;
     filling::config(tx, config)

@@ -1,14 +1,13 @@
 //! Makes a register of the schema before one of this schema, in one transaction.
 
-ghost use Rattle.std.specs.Prelude.{◌≡◌, ◌≢◌, [], ◌∷◌, IfErr, IsTrue, MatchResult, OnErr, OnOk, false};
+ghost use Rattle.std.specs.Prelude.{◌≡◌, ◌≢◌, [], ◌∷◌, IfErr, OnErr, OnOk, false};
 ghost use Rattle.sqlite.specs.State.{HasCleanDisk, IsUnchanged, Survives};
 ghost use Rattle.sqlite.specs.Held.{state};
-ghost use Rattle.fr_tables.specs.Asking.{AreAsBefore, HasNumber, numbered, old_schema_number, our_schema_number};
-ghost use Rattle.fr_tables.specs.Changes.{Stays, tables_of};
+ghost use Rattle.fr_tables.specs.Asking.{AreAsBefore, HasNumber, numbered, old_schema_number};
 ghost use Rattle.fr_tables.specs.Schema.{IsOld};
-ghost use Rattle.fr_tables.specs.Tables.{HasOldTables, HasSomeTables, HasTables};
-ghost use Rattle.fr_store.specs.Applying.{StaysInside};
-ghost use Rattle.fr_store.specs.Before.{StandsBefore, MovesCluster, Migrates, MakesOpenable, KeepsBefore, LeavesMigrated, HasOldIfBefore};
+ghost use Rattle.fr_tables.specs.Tables.{HasOldTables, HasSomeTables};
+ghost use Rattle.fr_store.specs.Applying.{Tries, Edits, Within};
+ghost use Rattle.fr_store.specs.Before.{StandsBefore, MovesCluster, Migrates, MakesOpenable, KeepsBefore, LeavesMigrated, HasOldIfBefore, KeepsNumber, ExpectsOpenable, LeavesTables};
 ghost use Rattle.fr_store.specs.Opening.{Refuses};
 ghost use Rattle.fr_store.specs.Reading.{Stands};
 ghost use Rattle.fr_store.specs.Store.{IsOpenable};
@@ -27,17 +26,8 @@ use std::alloc::Global;
 
 /// Moves the cluster's row into its new table, with the count of cycles that each cluster had before.
 fn move_cluster<S: Alter>(tx: &mut Transaction<'_, S>) -> Result<(), StoreFault>
-    ensures same_reference { tx.new.conn.ghost_name ≡ tx.old.conn.ghost_name }
-    ensures moved { MovesCluster (state S.Store tx.old.conn.now) (state S.Store tx.new.conn.now)
-        result }
-    ensures number { let old = state S.Store tx.old.conn.now in
-        let new = state S.Store tx.new.conn.now in HasCleanDisk new → IsTrue old.in_transaction
-        → HasTables old.now → OnOk result ((tables_of new).register ≡ (tables_of old).register) }
-    ensures stays { StaysInside (state S.Store tx.old.conn.now) (state S.Store tx.new.conn.now)
-        result }
-    ensures refused { IfErr result (λ e. e ≡ fault.Unavailable) }
-    ensures survives { Survives (state S.Store tx.old.conn.now) (state S.Store tx.new.conn.now)
-        (λ _. ⊥) }
+    ensures moved { Edits S.Store MovesCluster tx.old tx.new result }
+    ensures number { Within S.Store KeepsNumber tx.old tx.new result }
 {
     let rows = tables::cluster::row_inside(tx)?;
     let Some((params, integrator)) = read_before(rows.as_slice()) else {
@@ -50,17 +40,8 @@ fn move_cluster<S: Alter>(tx: &mut Transaction<'_, S>) -> Result<(), StoreFault>
 
 /// Makes sure that the tables are such as an open wants. It leaves them as they are.
 fn expect_config<S: Alter>(alloc: Global, tx: &mut Transaction<'_, S>) -> Result<(), StoreFault>
-    ensures same_reference { tx.new.conn.ghost_name ≡ tx.old.conn.ghost_name }
-    ensures opens { let old = state S.Store tx.old.conn.now in
-        let new = state S.Store tx.new.conn.now in HasCleanDisk new → HasTables old.now
-        → (tables_of old).register ≡ numbered our_schema_number ∷ []
-        → OnOk result (IsOpenable new.now) }
-    ensures same { let old = state S.Store tx.old.conn.now in
-        let new = state S.Store tx.new.conn.now in HasCleanDisk new → HasTables old.now
-        → MatchResult result (λ _. IsUnchanged old new) (λ _. Stays old new) }
-    ensures refused { IfErr result (λ e. e ≡ fault.Unavailable) }
-    ensures survives { Survives (state S.Store tx.old.conn.now) (state S.Store tx.new.conn.now)
-        (λ _. ⊥) }
+    ensures opens { Tries S.Store ExpectsOpenable tx.old tx.new result }
+    ensures same { Within S.Store LeavesTables tx.old tx.new result }
 {
     let cluster = tables::cluster2::row_inside(tx)?;
     let suppliers = tables::suppliers::by_name_inside(tx)?;
@@ -82,16 +63,9 @@ const NUMBER: u32 = 2;
 /// Makes the cluster's new table, moves its row, and then gives the register its new number. It
 /// fails where no open would take the tables then.
 fn change_schema<S: Alter>(alloc: Global, tx: &mut Transaction<'_, S>) -> Result<(), StoreFault>
-    ensures same_reference { tx.new.conn.ghost_name ≡ tx.old.conn.ghost_name }
-    ensures migrated { Migrates (state S.Store tx.old.conn.now) (state S.Store tx.new.conn.now)
-        result }
-    ensures opens { MakesOpenable (state S.Store tx.old.conn.now) (state S.Store tx.new.conn.now)
-        result }
-    ensures stays { KeepsBefore (state S.Store tx.old.conn.now) (state S.Store tx.new.conn.now)
-        result }
-    ensures refused { IfErr result (λ e. e ≡ fault.Unavailable) }
-    ensures survives { Survives (state S.Store tx.old.conn.now) (state S.Store tx.new.conn.now)
-        (λ _. ⊥) }
+    ensures migrated { Tries S.Store Migrates tx.old tx.new result }
+    ensures opens { Within S.Store MakesOpenable tx.old tx.new result }
+    ensures stays { Within S.Store KeepsBefore tx.old tx.new result }
 {
     making::cluster2(tx)?;
     move_cluster(tx)?;

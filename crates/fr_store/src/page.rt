@@ -1,14 +1,11 @@
 //! Reads a supplier's rows in a variant from the tables. Its page is made of them.
 
-ghost use Rattle.std.specs.Prelude.{◌≡◌, map, option_map, reverse, IfErr, IfOk, IfSome};
-ghost use Rattle.sqlite.specs.Held.{state};
+ghost use Rattle.std.specs.Prelude.{◌≡◌, map, option_map, reverse, IfOk, IfSome};
 ghost use Rattle.fr_base.specs.Keys.{owned, channel_slots};
 ghost use Rattle.fr_world.specs.Maps.{set_of, table_of};
 ghost use Rattle.fr_world.specs.Pages.{holder_of, rows_data};
-ghost use Rattle.fr_tables.specs.Changes.{Spares};
-ghost use Rattle.fr_store.specs.Paging.{Reads, TellsNodes, TellsGrants, TellsRows, grant_shown};
+ghost use Rattle.fr_store.specs.Paging.{OnlyReads, TellsNodes, TellsGrants, TellsRows, grant_shown};
 ghost use Rattle.fr_store.specs.Reading.{name_shown};
-ghost use Rattle.fr_store.specs.declared.fault.StoreFault.TheVariants.{Unavailable};
 
 mod frames;
 mod view;
@@ -31,12 +28,10 @@ pub(crate) fn rows<S: Alter>(
     supplier: &Name,
     variant: &Name,
 ) -> Result<Option<PageRows>, StoreFault>
-    ensures told { Reads (λ t found.
+    ensures reads { OnlyReads S.Store (λ t found.
         TellsRows params.now supplier.now variant.now t (option_map rows_data found))
-        (state S.Store conn.old) (state S.Store conn.new) result }
+        conn.old conn.new result }
     ensures params { IfOk result (λ found. IfSome found (λ rows. rows.params ≡ params.now)) }
-    ensures refused { IfErr result (λ fault. fault ≡ Unavailable) }
-    ensures spares { Spares (state S.Store conn.old) (state S.Store conn.new) }
 {
     let Some(View { released, frames }) = view_of(
         alloc, conn, params, variant, supplier, MAX_DEPTH,
@@ -61,10 +56,8 @@ fn own_nodes<S: Alter>(
     conn: &mut Connection<S>,
     supplier: &Name,
 ) -> Result<BTreeSet<Name>, StoreFault>
-    ensures told { Reads (λ t nodes. TellsNodes supplier.now t nodes.keys) (state S.Store conn.old)
-        (state S.Store conn.new) result }
-    ensures refused { IfErr result (λ fault. fault ≡ Unavailable) }
-    ensures spares { Spares (state S.Store conn.old) (state S.Store conn.new) }
+    ensures { OnlyReads S.Store (λ t nodes. TellsNodes supplier.now t nodes.keys)
+        conn.old conn.new result }
 {
     let rows = tables::nodes::of_supplier(conn, supplier)?;
     nodes_of(alloc, rows.as_slice()).ok_or(StoreFault::Unavailable)
@@ -92,10 +85,8 @@ fn own_grants<S: Alter>(
     variant: &Name,
     supplier: &Name,
 ) -> Result<BTreeMap<ChannelSlot, Name>, StoreFault>
-    ensures told { Reads (λ t grants. TellsGrants variant.now supplier.now t grants.entries)
-        (state S.Store conn.old) (state S.Store conn.new) result }
-    ensures refused { IfErr result (λ fault. fault ≡ Unavailable) }
-    ensures spares { Spares (state S.Store conn.old) (state S.Store conn.new) }
+    ensures { OnlyReads S.Store (λ t grants. TellsGrants variant.now supplier.now t grants.entries)
+        conn.old conn.new result }
 {
     let rows = tables::grants::of_supplier(conn, variant, supplier)?;
     grants_of(alloc, rows.as_slice()).ok_or(StoreFault::Unavailable)

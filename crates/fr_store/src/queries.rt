@@ -1,17 +1,14 @@
 //! What a register tells of its rows: nodes, variants, whether one is there, the holder of a slot, imports, and a
 //! supplier's page.
 
-ghost use Rattle.std.specs.Prelude.{◌≡◌, IfErr, IfOk, IfSome, option_map};
-ghost use Rattle.sqlite.specs.Held.{state};
+ghost use Rattle.std.specs.Prelude.{◌≡◌, IfOk, IfSome, option_map};
 ghost use Rattle.fr_base.specs.Book.{own};
 ghost use Rattle.fr_base.specs.Tables.{contains, get, len};
 ghost use Rattle.fr_world.specs.BookEdits.{variants_in};
 ghost use Rattle.fr_world.specs.ImportLabels.{kept_of};
 ghost use Rattle.fr_world.specs.Pages.{nodes_in};
-ghost use Rattle.fr_tables.specs.Changes.{Spares};
 ghost use Rattle.fr_store.specs.Paging.{page_of};
-ghost use Rattle.fr_store.specs.Reading.{AreOpened, Leaves, Tells, as_holder, holder_in};
-ghost use Rattle.fr_store.specs.declared.fault.StoreFault.TheVariants.{Unavailable};
+ghost use Rattle.fr_store.specs.Reading.{AreOpened, OnlyTells, as_holder, holder_in};
 
 use crate::fault::StoreFault;
 use crate::page::rows;
@@ -27,12 +24,8 @@ use std::alloc::Global;
 impl<S: Alter> Store<S> {
     /// Whether the variant is there. The only refusal is `Unavailable`.
     pub fn has_variant(&mut self, variant: &Name) -> Result<bool, StoreFault>
-        ensures has { Tells (state S.Store self.old.conn) (state S.Store self.new.conn) result
-            (λ c b has. has ≡ contains b.variants variant.now) }
-        ensures config { self.new.config ≡ self.old.config }
-        ensures refused { IfErr result (λ fault. fault ≡ Unavailable) }
-        ensures stays { Leaves (state S.Store self.old.conn) (state S.Store self.new.conn) }
-        ensures spares { Spares (state S.Store self.old.conn) (state S.Store self.new.conn) }
+        ensures { OnlyTells S.Store
+            (λ c b has. has ≡ contains b.variants variant.now) self.old self.new result }
     {
         let rows = tables::variants::one(&mut self.conn, variant)?;
         Ok(!rows.is_empty())
@@ -47,15 +40,12 @@ impl<S: Alter> Store<S> {
         supplier: &Name,
         variant: &Name,
     ) -> Result<Option<Page>, StoreFault>
-        ensures page { Tells (state S.Store self.old.conn) (state S.Store self.new.conn) result
+        ensures tells { OnlyTells S.Store
             (λ c b found. c.params.cycles ≡ self.old.config.cluster.params.cycles
-            → found ≡ page_of self.old.config.cluster.params b supplier.now variant.now) }
+            → found ≡ page_of self.old.config.cluster.params b supplier.now variant.now)
+            self.old self.new result }
         ensures params { IfOk result
             (λ found. IfSome found (λ page. page.params ≡ self.old.config.cluster.params)) }
-        ensures config { self.new.config ≡ self.old.config }
-        ensures refused { IfErr result (λ fault. fault ≡ Unavailable) }
-        ensures stays { Leaves (state S.Store self.old.conn) (state S.Store self.new.conn) }
-        ensures spares { Spares (state S.Store self.old.conn) (state S.Store self.new.conn) }
     {
         let params = self.config.params();
         let Some(rows) = rows(alloc, &mut self.conn, &params, supplier, variant)? else {
@@ -74,12 +64,9 @@ impl<S: Alter> Store<S> {
         slot: Slot,
         channel: Channel,
     ) -> Result<Option<Holder>, StoreFault>
-        ensures holder { Tells (state S.Store self.old.conn) (state S.Store self.new.conn) result
-            (λ c b found. option_map as_holder found ≡ holder_in b variant.now (slot, channel)) }
-        ensures config { self.new.config ≡ self.old.config }
-        ensures refused { IfErr result (λ fault. fault ≡ Unavailable) }
-        ensures stays { Leaves (state S.Store self.old.conn) (state S.Store self.new.conn) }
-        ensures spares { Spares (state S.Store self.old.conn) (state S.Store self.new.conn) }
+        ensures { OnlyTells S.Store
+            (λ c b found. option_map as_holder found ≡ holder_in b variant.now (slot, channel))
+            self.old self.new result }
     {
         let rows = tables::grants::holder(&mut self.conn, variant, slot, channel)?;
         first_holder(rows.as_slice())
@@ -88,13 +75,9 @@ impl<S: Alter> Store<S> {
     /// The variants, by name. Each was opened empty or from one of them. The only refusal is
     /// `Unavailable`.
     pub fn variants(&mut self, alloc: Global) -> Result<Vec<VariantRow>, StoreFault>
-        ensures variants { Tells (state S.Store self.old.conn) (state S.Store self.new.conn) result
-            (λ c b rows. rows.items ≡ variants_in b) }
+        ensures tells { OnlyTells S.Store
+            (λ c b rows. rows.items ≡ variants_in b) self.old self.new result }
         ensures opened { IfOk result (λ rows. AreOpened rows.items) }
-        ensures config { self.new.config ≡ self.old.config }
-        ensures refused { IfErr result (λ fault. fault ≡ Unavailable) }
-        ensures stays { Leaves (state S.Store self.old.conn) (state S.Store self.new.conn) }
-        ensures spares { Spares (state S.Store self.old.conn) (state S.Store self.new.conn) }
     {
         let rows = tables::variants::by_name(&mut self.conn)?;
         opened_variants(alloc, rows.as_slice()).ok_or(StoreFault::Unavailable)
@@ -102,12 +85,8 @@ impl<S: Alter> Store<S> {
 
     /// The supplier's nodes, in byte order. The only refusal is `Unavailable`.
     pub fn nodes(&mut self, alloc: Global, supplier: &Name) -> Result<Vec<Name>, StoreFault>
-        ensures nodes { Tells (state S.Store self.old.conn) (state S.Store self.new.conn) result
-            (λ c b names. names.items ≡ nodes_in b supplier.now) }
-        ensures config { self.new.config ≡ self.old.config }
-        ensures refused { IfErr result (λ fault. fault ≡ Unavailable) }
-        ensures stays { Leaves (state S.Store self.old.conn) (state S.Store self.new.conn) }
-        ensures spares { Spares (state S.Store self.old.conn) (state S.Store self.new.conn) }
+        ensures { OnlyTells S.Store
+            (λ c b names. names.items ≡ nodes_in b supplier.now) self.old self.new result }
     {
         let rows = tables::nodes::of_supplier(&mut self.conn, supplier)?;
         names_of(alloc, rows.as_slice()).ok_or(StoreFault::Unavailable)
@@ -121,12 +100,9 @@ impl<S: Alter> Store<S> {
         supplier: &Name,
         label: &Name,
     ) -> Result<Option<KeptImport>, StoreFault>
-        ensures import { Tells (state S.Store self.old.conn) (state S.Store self.new.conn) result
-            (λ c b found. option_map kept_of found ≡ get b.imports (supplier.now, label.now)) }
-        ensures config { self.new.config ≡ self.old.config }
-        ensures refused { IfErr result (λ fault. fault ≡ Unavailable) }
-        ensures stays { Leaves (state S.Store self.old.conn) (state S.Store self.new.conn) }
-        ensures spares { Spares (state S.Store self.old.conn) (state S.Store self.new.conn) }
+        ensures { OnlyTells S.Store
+            (λ c b found. option_map kept_of found ≡ get b.imports (supplier.now, label.now))
+            self.old self.new result }
     {
         let rows = tables::imports::one(&mut self.conn, supplier, label)?;
         first_import(alloc, rows.as_slice())
@@ -134,12 +110,8 @@ impl<S: Alter> Store<S> {
 
     /// How many imports of the supplier are kept. The only refusal is `Unavailable`.
     pub fn imports(&mut self, supplier: &Name) -> Result<usize, StoreFault>
-        ensures imports { Tells (state S.Store self.old.conn) (state S.Store self.new.conn) result
-            (λ c b count. count ≡ len (own supplier.now b.imports)) }
-        ensures config { self.new.config ≡ self.old.config }
-        ensures refused { IfErr result (λ fault. fault ≡ Unavailable) }
-        ensures stays { Leaves (state S.Store self.old.conn) (state S.Store self.new.conn) }
-        ensures spares { Spares (state S.Store self.old.conn) (state S.Store self.new.conn) }
+        ensures { OnlyTells S.Store
+            (λ c b count. count ≡ len (own supplier.now b.imports)) self.old self.new result }
     {
         let rows = tables::imports::labels(&mut self.conn, supplier)?;
         Ok(rows.len())

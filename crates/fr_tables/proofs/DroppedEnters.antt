@@ -69,7 +69,7 @@ or_false false = refl
 
 module _ (l : Layout) (d : DroppedRow) where
   abbrev is_it : DroppedRow → Bool
-  is_it x = is_dropped d.variant d.supplier d.frame x
+  is_it x = is_dropped d x
 
   -- a row stands in the way where it has the key
   conflict : (index : Option ℕ) (id other : Value) (x : DroppedRow) → conflicts (Some key) (old_schema index None).indexes dropped (other ∷ of_dropped d) (id ∷ of_dropped x) ≡ is_it x

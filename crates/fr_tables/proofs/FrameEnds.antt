@@ -33,6 +33,7 @@ use Rattle.fr_tables.specs.Schema.{Layout, layout_of, register_schema, tables_at
 use Rattle.fr_tables.specs.Rows.{FrameRow, of_register, register_in, of_cluster, cluster_in, of_supplier, supplier_in, of_node, node_in, of_variant, variant_in, of_grant, grant_in, of_frame, frame_in, of_placement, placement_in, of_signal, signal_in, of_import, import_in, of_dropped, of_cluster2, dropped_in, cluster2_in}
 use Rattle.fr_tables.specs.Tables.{HasTables, AreKept}
 use Rattle.fr_tables.specs.Changes.{Changes, Stays, tables_of}
+use Rattle.fr_tables.specs.declared.frame_key.FrameKey.{FrameKey}
 use Rattle.fr_tables.specs.Statements.{is_frame, without_frame}
 use Rattle.fr_tables.proofs.Compared.{equal_texts}
 use Rattle.fr_tables.proofs.Written.{AreMade}
@@ -108,19 +109,19 @@ delete_is : (l : Layout) → Deletes (register_schema l) frames delete_text test
 unfolding understood everything
 delete_is l = record { at = 6; is = refl; plain = (refl, refl); place = refl; stored = λ db. refl }
 
-module _ (variant supplier name : List ℕ) where
+module _ (key : FrameKey) where
   abbrev params : Row
-  params = Text variant ∷ Text supplier ∷ Text name ∷ []
+  params = Text key.variant ∷ Text key.supplier ∷ Text key.frame ∷ []
 
   abbrev test : Row → Bool
   test r = list_all (holds (params ∷ r ∷ [])) tests
 
-  passes : (p : Value × FrameRow) → test (p.0 ∷ of_frame p.1) ≡ is_frame variant supplier name p.1
-  passes p = rw (equal_texts p.1.variant variant, equal_texts p.1.supplier supplier, equal_texts p.1.name name, and_true)
+  passes : (p : Value × FrameRow) → test (p.0 ∷ of_frame p.1) ≡ is_frame key p.1
+  passes p = rw (equal_texts p.1.variant key.variant, equal_texts p.1.supplier key.supplier, equal_texts p.1.name key.frame, and_true)
 
   module _ {X : Type 0} (columns : X → Row) (read : Row → X) (child : Table) (variant_of supplier_of frame_of : X → List ℕ) (refer : Children columns child variant_of supplier_of frame_of) where
     abbrev is_of : X → Bool
-    is_of x = bytes_eq (variant_of x) variant && (bytes_eq (supplier_of x) supplier && bytes_eq (frame_of x) name)
+    is_of x = bytes_eq (variant_of x) key.variant && (bytes_eq (supplier_of x) key.supplier && bytes_eq (frame_of x) key.frame)
 
     -- a child of one of the frames that are gone is of this frame
     child_is : (db : Trees) (found olds : List Row) (r : Row) → AreKept of_frame frame_in (db 11) → IsPermutation (filter test (db 11)) found
@@ -136,12 +137,12 @@ module _ (variant supplier name : List ℕ) where
         let written : frame ≡ rowid frame ∷ of_frame (frame_in frame) = all_has _ (db 11) frame kept.typed there.0 in
         let f = frame_in frame in
         let x = read r in
-        let named : is_frame variant supplier name f ≡ true = sym (ap test written ∙ passes (rowid frame, f)) ∙ there.1 in
+        let named : is_frame key f ≡ true = sym (ap test written ∙ passes (rowid frame, f)) ∙ there.1 in
         let agree_rows : agree plain frame_key r frame_key move.0.0 ≡ true = (and_parts _ _ move.2).1 in
         let agree_both : agree plain frame_key (rowid r ∷ columns x) frame_key (rowid frame ∷ of_frame f) ≡ true = subst₂ (λ a b. agree plain frame_key a frame_key b ≡ true) typed (is ∙ written) agree_rows in
-        let a = are_three f.variant f.supplier f.name variant supplier name named in
+        let a = are_three f.variant f.supplier f.name key.variant key.supplier key.frame named in
         let b = are_three (variant_of x) (supplier_of x) (frame_of x) f.variant f.supplier f.name (sym (refer.agrees_back (rowid frame) (rowid r) f x) ∙ agree_both) in
-        three_are (variant_of x) (supplier_of x) (frame_of x) variant supplier name (record { first = b.first ∙ a.first; second = b.second ∙ a.second; third = b.third ∙ a.third })
+        three_are (variant_of x) (supplier_of x) (frame_of x) key.variant key.supplier key.frame (record { first = b.first ∙ a.first; second = b.second ∙ a.second; third = b.third ∙ a.third })
 
     -- no frame that is left has such a row
     orphan_not : (db : Trees) (left : List Row) (r : Row) → left ≡ filter (λ r. not (test r)) (db 11) → AreKept of_frame frame_in (db 11)
@@ -154,8 +155,8 @@ module _ (variant supplier name : List ℕ) where
         let x = read r in
         let b = are_three f.variant f.supplier f.name (variant_of x) (supplier_of x) (frame_of x)
         (sym (refer.agrees (rowid parent.0) (rowid r) f x) ∙ subst (λ p. agree plain frame_key p frame_key (rowid r ∷ columns x) ≡ true) written parent.2) in
-        let a = are_three (variant_of x) (supplier_of x) (frame_of x) variant supplier name placed in
-        let named = three_are f.variant f.supplier f.name variant supplier name (record { first = b.first ∙ a.first; second = b.second ∙ a.second; third = b.third ∙ a.third }) in
+        let a = are_three (variant_of x) (supplier_of x) (frame_of x) key.variant key.supplier key.frame placed in
+        let named = three_are f.variant f.supplier f.name key.variant key.supplier key.frame (record { first = b.first ∙ a.first; second = b.second ∙ a.second; third = b.third ∙ a.third }) in
         let tested : test parent.0 ≡ true = ap test written ∙ passes (rowid parent.0, f) ∙ named in
         let e = rw tested at there.1 in
         cc
@@ -190,7 +191,7 @@ module _ (variant supplier name : List ℕ) where
   unless : (l : Layout) (tree : ℕ) {P : Type 0} → 20 < l.cluster2 → tree ≤ 20 → MatchBool (l.cluster2 == tree) ⊤ P → P
   unless l tree after low h = rw (apart l.cluster2 tree after low) at h
 
-  ends : (old new : State) (count : ℕ) → HasTables old.now → Executes delete_text params old new (Ok count) → Changes (without_frame variant supplier name) old new
+  ends : (old new : State) (count : ℕ) → HasTables old.now → Executes delete_text params old new (Ok count) → Changes (without_frame key) old new
   ends old new count was h =
       let db = old.now.trees in
       let next = new.now.trees in
@@ -205,14 +206,14 @@ module _ (variant supplier name : List ℕ) where
       let k = others 11 db mid (tables_at l) c.others in
       let n = others 15 mid between (tables_at l) s.others in
       let m = others 13 between next (tables_at l) p.others in
-      let frames_left = erased_rows of_frame frame_in test (is_frame variant supplier name) (db 11) did.found passes was.frames did.same in
+      let frames_left = erased_rows of_frame frame_in test (is_frame key) (db 11) did.found passes was.frames did.same in
       let next_frames : next 11 ≡ mid 11 = m.1.1.1.1.1.1.0 ∙ n.1.1.1.1.1.1.0 in
       let frames_are : next 11 ≡ filter (λ r. not (test r)) (db 11) = next_frames ∙ c.frames_left ∙ erased test (db 11) did.found was.frames.rise was.frames.numbered did.same in
       let before13 : between 13 ≡ db 13 = n.1.1.1.1.1.1.1.0 ∙ k.1.1.1.1.1.1.1.0 in
       let before15 : mid 15 ≡ db 15 = k.1.1.1.1.1.1.1.1.0 in
       let left13 : next 13 ≡ filter (λ r. not (list_any (λ id. has_rowid id r) p.ids)) (db 13) = p.left ∙ ap (λ rows. without_all rows p.ids) before13 ∙ left_of p.ids (db 13) in
       let left15 : next 15 ≡ filter (λ r. not (list_any (λ id. has_rowid id r) s.ids)) (db 15) = m.1.1.1.1.1.1.1.1.0 ∙ s.left ∙ ap (λ rows. without_all rows s.ids) before15 ∙ left_of s.ids (db 15) in
-      whole old new (without_frame variant supplier name (tables_of old)) was did.still did.shown
+      whole old new (without_frame key (tables_of old)) was did.still did.shown
       (same of_register register_in (db 0) (next 0) (m.0 ∙ n.0 ∙ k.0) was.register)
       (same of_cluster cluster_in (db 1) (next 1) (m.1.0 ∙ n.1.0 ∙ k.1.0) was.cluster)
       (same of_supplier supplier_in (db 2) (next 2) (m.1.1.0 ∙ n.1.1.0 ∙ k.1.1.0) was.suppliers)
@@ -227,9 +228,9 @@ module _ (variant supplier name : List ℕ) where
       (same of_import import_in (db 17) (next 17) (m.1.1.1.1.1.1.1.1.1.0 ∙ n.1.1.1.1.1.1.1.1.1.0 ∙ k.1.1.1.1.1.1.1.1.1.0) was.imports)
       (same of_dropped dropped_in (db 19) (next 19) (m.1.1.1.1.1.1.1.1.1.1.0 ∙ n.1.1.1.1.1.1.1.1.1.1.0 ∙ k.1.1.1.1.1.1.1.1.1.1.0) was.dropped)
       (same of_cluster2 cluster2_in (db l.cluster2) (next l.cluster2) (unless l 13 was.behind.0.0 (lit≤ tt) (last_of _ l m.1.1.1.1.1.1.1.1.1.1.1) ∙ unless l 15 was.behind.0.0 (lit≤ tt) (last_of _ l n.1.1.1.1.1.1.1.1.1.1.1) ∙ unless l 11 was.behind.0.0 (lit≤ tt) (last_of _ l k.1.1.1.1.1.1.1.1.1.1.1)) was.cluster2)
-      (without_frame variant supplier name) refl
+      (without_frame key) refl
 
   pub deletes : (old new : State) (r : Result ℕ Error) → HasTables old.now → ExecutesInside 0 delete_text params old new r
-      → MatchResult r (λ _. Changes (without_frame variant supplier name) old new) (λ _. Stays old new)
+      → MatchResult r (λ _. Changes (without_frame key) old new) (λ _. Stays old new)
   deletes old new (Err e) was h = stays_inside delete_text params old new e h
   deletes old new (Ok count) was h = ends old new count was h.0

@@ -20,6 +20,7 @@ use Rattle.fr_tables.specs.Schema.{Layout, layout_of, register_schema, old_schem
 use Rattle.fr_tables.specs.Rows.{FrameRow, of_frame, frame_in}
 use Rattle.fr_tables.specs.Tables.{HasTables}
 use Rattle.fr_tables.specs.Changes.{Changes, Stays, Copies}
+use Rattle.fr_tables.specs.declared.frame_key.FrameKey.{FrameKey}
 use Rattle.fr_tables.specs.Statements.{with_frame, with_frames, frame_for, frame_copies, is_frame, is_frame_of, shows_frame, frames_cmp, any_order}
 use Rattle.fr_tables.proofs.Compared.{equal_texts, cast_null}
 use Rattle.fr_tables.proofs.InsertLemmas.{Adds, adds, added}
@@ -68,22 +69,22 @@ copy_idle l news = works_same l 0 11 [] news ∙ copy_idle_alone news
 abbrev copy_one_text : List ℕ
 copy_one_text = codes "INSERT INTO frames (variant, supplier, name, node) SELECT ?2, supplier, name, node FROM frames WHERE variant = ?1 AND supplier = ?3 AND name = ?4"
 
-copy_one_is : (from to supplier name : List ℕ)
-    → CopiesBy of_frame frame_in (is_frame from supplier name) (frame_for to) frames.name frames.tree frames.columns frames.key frames.primary frames.uniques frames.checks frames.references copy_one_text (Text from ∷ Text to ∷ Text supplier ∷ Text name ∷ [])
+copy_one_is : (from : List ℕ) (to : FrameKey)
+    → CopiesBy of_frame frame_in (is_frame (record to { variant = from })) (frame_for to.variant) frames.name frames.tree frames.columns frames.key frames.primary frames.uniques frames.checks frames.references copy_one_text (Text from ∷ Text to.variant ∷ Text to.supplier ∷ Text to.frame ∷ [])
 unfolding understood everything
-copy_one_is from to supplier name = record {
+copy_one_is from to = record {
   tests = op2 (Compare Eq Binary) (col 1 1) (col 0 0) ∷ op2 (Compare Eq Binary) (col 1 2) (col 0 2) ∷ op2 (Compare Eq Binary) (col 1 3) (col 0 3) ∷ [];
   project = lit Null ∷ col 0 1 ∷ col 1 2 ∷ col 1 3 ∷ col 1 4 ∷ [];
   is = λ l. record { at = 6; by = Binary ∷ Binary ∷ Binary ∷ Binary ∷ Binary ∷ []; is = refl; plain = (refl, refl); place = refl; bare = refl; stored = λ db. refl; idle = copy_idle l };
-  tested = λ p. rw (equal_texts p.1.variant from, equal_texts p.1.supplier supplier, equal_texts p.1.name name, and_true);
+  tested = λ p. rw (equal_texts p.1.variant from, equal_texts p.1.supplier to.supplier, equal_texts p.1.name to.frame, and_true);
   gives = λ p. rw cast_null;
 }
 
-pub copies_one : (from to supplier name : List ℕ) (old new : State) (r : Result ℕ Error) → HasTables old.now → ExecutesInside 0 copy_one_text (Text from ∷ Text to ∷ Text supplier ∷ Text name ∷ []) old new r
-    → MatchResult r (λ _. Copies (frame_copies from to supplier name) with_frames old new) (λ _. Stays old new)
-copies_one from to supplier name old new (Err e) was h = stays_inside copy_one_text _ old new e h
-copies_one from to supplier name old new (Ok count) was h =
-    let did = makes_copies of_frame frame_in _ _ frames.name frames.tree frames.columns frames.key frames.primary frames.uniques frames.checks frames.references copy_one_text _ (copy_one_is from to supplier name) (λ id x. refl) (layout_of old.now.trees) old new count was.schema was.frames h.0 in
+pub copies_one : (from : List ℕ) (to : FrameKey) (old new : State) (r : Result ℕ Error) → HasTables old.now → ExecutesInside 0 copy_one_text (Text from ∷ Text to.variant ∷ Text to.supplier ∷ Text to.frame ∷ []) old new r
+    → MatchResult r (λ _. Copies (frame_copies from to) with_frames old new) (λ _. Stays old new)
+copies_one from to old new (Err e) was h = stays_inside copy_one_text _ old new e h
+copies_one from to old new (Ok count) was h =
+    let did = makes_copies of_frame frame_in _ _ frames.name frames.tree frames.columns frames.key frames.primary frames.uniques frames.checks frames.references copy_one_text _ (copy_one_is from to) (λ id x. refl) (layout_of old.now.trees) old new count was.schema was.frames h.0 in
     record { copies = did.copied; same = did.same; added = frames_made old new was _ did.wrote did.made }
 
 abbrev pub select_text : List ℕ
@@ -104,14 +105,14 @@ by_supplier variant supplier l = record {
 abbrev pub one_text : List ℕ
 one_text = codes "SELECT name, node FROM frames WHERE variant = ?1 AND supplier = ?2 AND name = ?3"
 
-pub by_key : (variant : List ℕ) (supplier : List ℕ) (name : List ℕ) (l : Layout) → Queries (register_schema l) of_frame shows_frame (is_frame variant supplier name) any_order 11 one_text (Text variant ∷ Text supplier ∷ Text name ∷ [])
+pub by_key : (key : FrameKey) (l : Layout) → Queries (register_schema l) of_frame shows_frame (is_frame key) any_order 11 one_text (Text key.variant ∷ Text key.supplier ∷ Text key.frame ∷ [])
 unfolding understood everything
-by_key variant supplier name l = record {
+by_key key l = record {
   tests = op2 (Compare Eq Binary) (col 1 1) (col 0 0) ∷ op2 (Compare Eq Binary) (col 1 2) (col 0 1) ∷ op2 (Compare Eq Binary) (col 1 3) (col 0 2) ∷ [];
   order = [];
   project = col 1 3 ∷ col 1 4 ∷ [];
   is = record { names = codes "name" ∷ codes "node" ∷ []; is = refl; unlisted = refl; plain = (refl, refl); stored = λ db. refl };
-  tested = λ p. rw (equal_texts p.1.variant variant, equal_texts p.1.supplier supplier, equal_texts p.1.name name, and_true);
+  tested = λ p. rw (equal_texts p.1.variant key.variant, equal_texts p.1.supplier key.supplier, equal_texts p.1.name key.frame, and_true);
   compared = λ a b. refl;
   projected = λ p. refl;
 }

@@ -20,6 +20,7 @@ use Rattle.fr_tables.specs.Schema.{Layout, layout_of, register_schema, old_schem
 use Rattle.fr_tables.specs.Rows.{PlacementRow, of_placement, placement_in}
 use Rattle.fr_tables.specs.Tables.{HasTables}
 use Rattle.fr_tables.specs.Changes.{Changes, Stays, Copies}
+use Rattle.fr_tables.specs.declared.frame_key.FrameKey.{FrameKey}
 use Rattle.fr_tables.specs.Statements.{with_placement, without_placement, with_placements, placement_for, placement_copies, is_placement, is_placement_of, is_placed_by, shows_placement, placements_cmp}
 use Rattle.fr_tables.proofs.Compared.{equal_texts, equal_integers, cast_null, cast_integer}
 use Rattle.fr_tables.proofs.InsertLemmas.{Adds, adds, added}
@@ -87,22 +88,22 @@ copy_idle l news = works_same l 0 13 [] news ∙ copy_idle_alone news
 abbrev copy_one_text : List ℕ
 copy_one_text = codes "INSERT INTO placements (variant, supplier, frame, slot, channels, base, repetition) SELECT ?2, supplier, frame, slot, channels, base, repetition FROM placements WHERE variant = ?1 AND supplier = ?3 AND frame = ?4"
 
-copy_one_is : (from to supplier frame : List ℕ)
-    → CopiesBy of_placement placement_in (is_placement_of from supplier frame) (placement_for to) placements.name placements.tree placements.columns placements.key placements.primary placements.uniques placements.checks placements.references copy_one_text (Text from ∷ Text to ∷ Text supplier ∷ Text frame ∷ [])
+copy_one_is : (from : List ℕ) (to : FrameKey)
+    → CopiesBy of_placement placement_in (is_placement_of (record to { variant = from })) (placement_for to.variant) placements.name placements.tree placements.columns placements.key placements.primary placements.uniques placements.checks placements.references copy_one_text (Text from ∷ Text to.variant ∷ Text to.supplier ∷ Text to.frame ∷ [])
 unfolding understood everything
-copy_one_is from to supplier frame = record {
+copy_one_is from to = record {
   tests = op2 (Compare Eq Binary) (col 1 1) (col 0 0) ∷ op2 (Compare Eq Binary) (col 1 2) (col 0 2) ∷ op2 (Compare Eq Binary) (col 1 3) (col 0 3) ∷ [];
   project = lit Null ∷ col 0 1 ∷ col 1 2 ∷ col 1 3 ∷ col 1 4 ∷ col 1 5 ∷ col 1 6 ∷ col 1 7 ∷ [];
   is = λ l. record { at = 7; by = Binary ∷ Binary ∷ Binary ∷ Binary ∷ Binary ∷ Binary ∷ Binary ∷ Binary ∷ []; is = refl; plain = (refl, refl); place = refl; bare = refl; stored = λ db. refl; idle = copy_idle l };
-  tested = λ p. rw (equal_texts p.1.variant from, equal_texts p.1.supplier supplier, equal_texts p.1.frame frame, and_true);
+  tested = λ p. rw (equal_texts p.1.variant from, equal_texts p.1.supplier to.supplier, equal_texts p.1.frame to.frame, and_true);
   gives = λ p. rw (cast_null, cast_integer p.1.slot, cast_integer p.1.base, cast_integer p.1.repetition);
 }
 
-pub copies_one : (from to supplier frame : List ℕ) (old new : State) (r : Result ℕ Error) → HasTables old.now → ExecutesInside 0 copy_one_text (Text from ∷ Text to ∷ Text supplier ∷ Text frame ∷ []) old new r
-    → MatchResult r (λ _. Copies (placement_copies from to supplier frame) with_placements old new) (λ _. Stays old new)
-copies_one from to supplier frame old new (Err e) was h = stays_inside copy_one_text _ old new e h
-copies_one from to supplier frame old new (Ok count) was h =
-    let did = makes_copies of_placement placement_in _ _ placements.name placements.tree placements.columns placements.key placements.primary placements.uniques placements.checks placements.references copy_one_text _ (copy_one_is from to supplier frame) (λ id x. refl) (layout_of old.now.trees) old new count was.schema was.placements h.0 in
+pub copies_one : (from : List ℕ) (to : FrameKey) (old new : State) (r : Result ℕ Error) → HasTables old.now → ExecutesInside 0 copy_one_text (Text from ∷ Text to.variant ∷ Text to.supplier ∷ Text to.frame ∷ []) old new r
+    → MatchResult r (λ _. Copies (placement_copies from to) with_placements old new) (λ _. Stays old new)
+copies_one from to old new (Err e) was h = stays_inside copy_one_text _ old new e h
+copies_one from to old new (Ok count) was h =
+    let did = makes_copies of_placement placement_in _ _ placements.name placements.tree placements.columns placements.key placements.primary placements.uniques placements.checks placements.references copy_one_text _ (copy_one_is from to) (λ id x. refl) (layout_of old.now.trees) old new count was.schema was.placements h.0 in
     record { copies = did.copied; same = did.same; added = placements_made old new was _ did.wrote did.made }
 
 abbrev pub select_text : List ℕ

@@ -20,6 +20,7 @@ use Rattle.fr_tables.specs.Schema.{Layout, layout_of, register_schema, old_schem
 use Rattle.fr_tables.specs.Rows.{SignalRow, of_signal, signal_in}
 use Rattle.fr_tables.specs.Tables.{HasTables}
 use Rattle.fr_tables.specs.Changes.{Changes, Stays, Copies}
+use Rattle.fr_tables.specs.declared.frame_key.FrameKey.{FrameKey}
 use Rattle.fr_tables.specs.Statements.{with_signal, without_signal, with_signals, signal_for, signal_copies, is_signal, is_signal_of, is_signalled_by, shows_signal, signals_cmp}
 use Rattle.fr_tables.proofs.Compared.{equal_texts, cast_null, cast_integer}
 use Rattle.fr_tables.proofs.InsertLemmas.{Adds, adds, added}
@@ -62,20 +63,20 @@ inserts s old new (Ok count) was h =
 abbrev delete_text : List ℕ
 delete_text = codes "DELETE FROM signals WHERE variant = ?1 AND supplier = ?2 AND frame = ?3 AND name = ?4"
 
-delete_is : (variant : List ℕ) (supplier : List ℕ) (frame : List ℕ) (name : List ℕ) → Removes of_signal (is_signal variant supplier frame name) signals delete_text (Text variant ∷ Text supplier ∷ Text frame ∷ Text name ∷ [])
+delete_is : (key : FrameKey) (name : List ℕ) → Removes of_signal (is_signal key name) signals delete_text (Text key.variant ∷ Text key.supplier ∷ Text key.frame ∷ Text name ∷ [])
 unfolding understood everything
-delete_is variant supplier frame name = record {
+delete_is key name = record {
   tests = op2 (Compare Eq Binary) (col 1 1) (col 0 0) ∷ op2 (Compare Eq Binary) (col 1 2) (col 0 1) ∷ op2 (Compare Eq Binary) (col 1 3) (col 0 2) ∷ op2 (Compare Eq Binary) (col 1 4) (col 0 3) ∷ [];
   is = λ l. record { at = 8; is = refl; plain = (refl, refl); place = refl; stored = λ db. refl };
   idle = λ l olds. works_same l 0 15 olds [];
-  tested = λ p. rw (equal_texts p.1.variant variant, equal_texts p.1.supplier supplier, equal_texts p.1.frame frame, equal_texts p.1.name name, and_true);
+  tested = λ p. rw (equal_texts p.1.variant key.variant, equal_texts p.1.supplier key.supplier, equal_texts p.1.frame key.frame, equal_texts p.1.name name, and_true);
 }
 
-pub deletes : (variant : List ℕ) (supplier : List ℕ) (frame : List ℕ) (name : List ℕ) (old new : State) (r : Result ℕ Error) → HasTables old.now → ExecutesInside 0 delete_text (Text variant ∷ Text supplier ∷ Text frame ∷ Text name ∷ []) old new r
-    → MatchResult r (λ _. Changes (without_signal variant supplier frame name) old new) (λ _. Stays old new)
-deletes variant supplier frame name old new (Err e) was h = stays_inside delete_text _ old new e h
-deletes variant supplier frame name old new (Ok count) was h =
-    let did = removes of_signal signal_in _ signals delete_text _ (delete_is variant supplier frame name) (layout_of old.now.trees) old new count was.schema was.signals h.0 in signals_made old new was _ did.0 did.1
+pub deletes : (key : FrameKey) (name : List ℕ) (old new : State) (r : Result ℕ Error) → HasTables old.now → ExecutesInside 0 delete_text (Text key.variant ∷ Text key.supplier ∷ Text key.frame ∷ Text name ∷ []) old new r
+    → MatchResult r (λ _. Changes (without_signal key name) old new) (λ _. Stays old new)
+deletes key name old new (Err e) was h = stays_inside delete_text _ old new e h
+deletes key name old new (Ok count) was h =
+    let did = removes of_signal signal_in _ signals delete_text _ (delete_is key name) (layout_of old.now.trees) old new count was.schema was.signals h.0 in signals_made old new was _ did.0 did.1
 
 copy_idle_alone : (news : List Row) → works (old_schema None None) Enforced 0 15 [] news ≡ []
 unfolding everything
@@ -87,22 +88,22 @@ copy_idle l news = works_same l 0 15 [] news ∙ copy_idle_alone news
 abbrev copy_one_text : List ℕ
 copy_one_text = codes "INSERT INTO signals (variant, supplier, frame, name, start, length, big) SELECT ?2, supplier, frame, name, start, length, big FROM signals WHERE variant = ?1 AND supplier = ?3 AND frame = ?4"
 
-copy_one_is : (from to supplier frame : List ℕ)
-    → CopiesBy of_signal signal_in (is_signal_of from supplier frame) (signal_for to) signals.name signals.tree signals.columns signals.key signals.primary signals.uniques signals.checks signals.references copy_one_text (Text from ∷ Text to ∷ Text supplier ∷ Text frame ∷ [])
+copy_one_is : (from : List ℕ) (to : FrameKey)
+    → CopiesBy of_signal signal_in (is_signal_of (record to { variant = from })) (signal_for to.variant) signals.name signals.tree signals.columns signals.key signals.primary signals.uniques signals.checks signals.references copy_one_text (Text from ∷ Text to.variant ∷ Text to.supplier ∷ Text to.frame ∷ [])
 unfolding understood everything
-copy_one_is from to supplier frame = record {
+copy_one_is from to = record {
   tests = op2 (Compare Eq Binary) (col 1 1) (col 0 0) ∷ op2 (Compare Eq Binary) (col 1 2) (col 0 2) ∷ op2 (Compare Eq Binary) (col 1 3) (col 0 3) ∷ [];
   project = lit Null ∷ col 0 1 ∷ col 1 2 ∷ col 1 3 ∷ col 1 4 ∷ col 1 5 ∷ col 1 6 ∷ col 1 7 ∷ [];
   is = λ l. record { at = 8; by = Binary ∷ Binary ∷ Binary ∷ Binary ∷ Binary ∷ Binary ∷ Binary ∷ Binary ∷ []; is = refl; plain = (refl, refl); place = refl; bare = refl; stored = λ db. refl; idle = copy_idle l };
-  tested = λ p. rw (equal_texts p.1.variant from, equal_texts p.1.supplier supplier, equal_texts p.1.frame frame, and_true);
+  tested = λ p. rw (equal_texts p.1.variant from, equal_texts p.1.supplier to.supplier, equal_texts p.1.frame to.frame, and_true);
   gives = λ p. rw (cast_null, cast_integer p.1.start, cast_integer p.1.length, cast_integer p.1.big);
 }
 
-pub copies_one : (from to supplier frame : List ℕ) (old new : State) (r : Result ℕ Error) → HasTables old.now → ExecutesInside 0 copy_one_text (Text from ∷ Text to ∷ Text supplier ∷ Text frame ∷ []) old new r
-    → MatchResult r (λ _. Copies (signal_copies from to supplier frame) with_signals old new) (λ _. Stays old new)
-copies_one from to supplier frame old new (Err e) was h = stays_inside copy_one_text _ old new e h
-copies_one from to supplier frame old new (Ok count) was h =
-    let did = makes_copies of_signal signal_in _ _ signals.name signals.tree signals.columns signals.key signals.primary signals.uniques signals.checks signals.references copy_one_text _ (copy_one_is from to supplier frame) (λ id x. refl) (layout_of old.now.trees) old new count was.schema was.signals h.0 in
+pub copies_one : (from : List ℕ) (to : FrameKey) (old new : State) (r : Result ℕ Error) → HasTables old.now → ExecutesInside 0 copy_one_text (Text from ∷ Text to.variant ∷ Text to.supplier ∷ Text to.frame ∷ []) old new r
+    → MatchResult r (λ _. Copies (signal_copies from to) with_signals old new) (λ _. Stays old new)
+copies_one from to old new (Err e) was h = stays_inside copy_one_text _ old new e h
+copies_one from to old new (Ok count) was h =
+    let did = makes_copies of_signal signal_in _ _ signals.name signals.tree signals.columns signals.key signals.primary signals.uniques signals.checks signals.references copy_one_text _ (copy_one_is from to) (λ id x. refl) (layout_of old.now.trees) old new count was.schema was.signals h.0 in
     record { copies = did.copied; same = did.same; added = signals_made old new was _ did.wrote did.made }
 
 abbrev pub select_text : List ℕ

@@ -3,8 +3,11 @@
 use Rattle.std.specs.Prelude.{◌≡◌, ◌⊎◌, List, Result, MatchResult, IsTrue, if◌then◌else◌, IsPermutation, IsSorted, Bool, filter, map, Vec}
 use Rattle.std.specs.declared.alloc.Global.{Global}
 use Rattle.std.specs.declared.cmp.Ordering.{Ordering}
+use Rattle.sqlite.specs.declared.transaction.Transaction.{Transaction}
 use Rattle.sqlite.specs.Order.{Row}
+use Rattle.sqlite.specs.Held.{Held, state}
 use Rattle.sqlite.specs.State.{State, Shows, HasCleanDisk, IsUnchanged, IsRolledBack, Survives}
+use Rattle.sqlite_trees.specs.declared.store.Store.{Ghosts}
 use Rattle.fr_tables.specs.Tables.{Tables, HasTables, tables_in}
 
 -- the tables that the connection sees
@@ -51,3 +54,17 @@ pub record Copies {X : Type 0} (rows : Tables → List X) (put : List X → Tabl
 -- A statement inside a transaction puts such copies into a table, or fails and puts none.
 abbrev pub MakesCopies : {X Y E : Type 0} → (Tables → List X) → (List X → Tables → Tables) → State → State → Result Y E → Type 0
 MakesCopies rows put old new r = HasCleanDisk new → IsTrue old.in_transaction → HasTables old.now → MatchResult r (λ _. Copies rows put old new) (λ _. Stays old new)
+
+-- ---- calls
+
+-- A call inside a transaction does this to what the connection shows. A crash leaves nothing of the
+-- call, and the transaction holds the same connection still.
+pub record Runs {S X E : Type 0} (g : Ghosts S) (Does : State → State → Result X E → Type 0) (old new : Transaction S) (r : Result X E) : Type 0 where
+  pub same_reference : new.conn.ghost_name ≡ old.conn.ghost_name
+  pub does : Does (state g old.conn.now) (state g new.conn.now) r
+  pub survives : Survives (state g old.conn.now) (state g new.conn.now) (λ _. ⊥)
+
+-- A query of a connection does this to what it shows. A crash leaves nothing of it.
+pub record Asks {S X E : Type 0} (g : Ghosts S) (Does : State → State → Result X E → Type 0) (old new : Held S) (r : Result X E) : Type 0 where
+  pub does : Does (state g old) (state g new) r
+  pub spares : Spares (state g old) (state g new)

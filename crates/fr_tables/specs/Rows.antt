@@ -3,6 +3,7 @@ use Rattle.std.specs.Prelude.{ℕ, ℤ, pos, Bool, List, [], ◌∷◌, Option, 
 use Rattle.sqlite.specs.declared.types.Value.{Value}
 use Rattle.sqlite.specs.declared.types.Value.TheVariants.{Null, Int, Text, Blob}
 use Rattle.sqlite.specs.Order.{Row, column}
+use Rattle.fr_tables.specs.declared.frame_key.FrameKey.{FrameKey}
 
 abbrev pub words : Value → List ℕ
 words (Text t) = t
@@ -111,10 +112,13 @@ pub record ImportRow : Type 0 where
   pub body : List ℕ
   pub rows : ℤ
 
-pub record DroppedRow : Type 0 where
-  pub variant : List ℕ
-  pub supplier : List ℕ
-  pub frame : List ℕ
+-- the row of a dropped frame names it
+abbrev pub DroppedRow : Type 0
+DroppedRow = FrameKey
+
+-- which frame this is
+abbrev pub key_of : List ℕ → List ℕ → List ℕ → FrameKey
+key_of variant supplier frame = record { variant = variant; supplier = supplier; frame = frame }
 
 -- ---- the columns of each row, and what they say
 

@@ -15,6 +15,7 @@ use Rattle.fr_base.specs.declared.signal.Order.TheVariants.{Little, Big}
 use Rattle.fr_base.specs.Signals.{SignalData}
 use Rattle.fr_base.specs.Channels.{text_of_channels}
 use Rattle.fr_tables.specs.Rows.{RegisterRow, ClusterRow, Cluster2Row, SupplierRow, NodeRow, VariantRow, GrantRow, FrameRow, PlacementRow, SignalRow, ImportRow, DroppedRow, of_maybe}
+use Rattle.fr_tables.specs.declared.frame_key.FrameKey.{FrameKey}
 use Rattle.fr_tables.specs.Tables.{Tables}
 
 -- byte order
@@ -177,24 +178,27 @@ grants_for parent child t = map (grant_for child) (filter (λ g. bytes_eq g.vari
 abbrev pub with_frame : FrameRow → Tables → Tables
 with_frame f t = record t { frames = t.frames ++ f ∷ [] }
 
+abbrev pub row_of_frame : FrameKey → List ℕ → FrameRow
+row_of_frame key node = record { variant = key.variant; supplier = key.supplier; name = key.frame; node = node }
+
 abbrev pub with_frames : List FrameRow → Tables → Tables
 with_frames fs t = record t { frames = t.frames ++ fs }
 
-abbrev pub is_frame : List ℕ → List ℕ → List ℕ → FrameRow → Bool
-is_frame variant supplier name f = bytes_eq f.variant variant && (bytes_eq f.supplier supplier && bytes_eq f.name name)
+abbrev pub is_frame : FrameKey → FrameRow → Bool
+is_frame key f = bytes_eq f.variant key.variant && (bytes_eq f.supplier key.supplier && bytes_eq f.name key.frame)
 
-abbrev pub is_placement_of : List ℕ → List ℕ → List ℕ → PlacementRow → Bool
-is_placement_of variant supplier frame p = bytes_eq p.variant variant && (bytes_eq p.supplier supplier && bytes_eq p.frame frame)
+abbrev pub is_placement_of : FrameKey → PlacementRow → Bool
+is_placement_of key p = bytes_eq p.variant key.variant && (bytes_eq p.supplier key.supplier && bytes_eq p.frame key.frame)
 
-abbrev pub is_signal_of : List ℕ → List ℕ → List ℕ → SignalRow → Bool
-is_signal_of variant supplier frame s = bytes_eq s.variant variant && (bytes_eq s.supplier supplier && bytes_eq s.frame frame)
+abbrev pub is_signal_of : FrameKey → SignalRow → Bool
+is_signal_of key s = bytes_eq s.variant key.variant && (bytes_eq s.supplier key.supplier && bytes_eq s.frame key.frame)
 
 -- the tables without the frame, its placements and its signals
-abbrev pub without_frame : List ℕ → List ℕ → List ℕ → Tables → Tables
-without_frame variant supplier name t = record t {
-  frames = filter (λ f. not (is_frame variant supplier name f)) t.frames;
-  placements = filter (λ p. not (is_placement_of variant supplier name p)) t.placements;
-  signals = filter (λ s. not (is_signal_of variant supplier name s)) t.signals;
+abbrev pub without_frame : FrameKey → Tables → Tables
+without_frame key t = record t {
+  frames = filter (λ f. not (is_frame key f)) t.frames;
+  placements = filter (λ p. not (is_placement_of key p)) t.placements;
+  signals = filter (λ s. not (is_signal_of key s)) t.signals;
 }
 
 abbrev pub is_frame_of : List ℕ → List ℕ → FrameRow → Bool
@@ -209,17 +213,17 @@ frames_cmp = on (λ f. f.name) text_cmp
 abbrev pub frame_for : List ℕ → FrameRow → FrameRow
 frame_for variant f = record f { variant = variant }
 
--- the row of one frame of the first variant, as a row of the second
-abbrev pub frame_copies : List ℕ → List ℕ → List ℕ → List ℕ → Tables → List FrameRow
-frame_copies from to supplier name t = map (frame_for to) (filter (is_frame from supplier name) t.frames)
+-- the row of the same frame in another variant, as a row of this one
+abbrev pub frame_copies : List ℕ → FrameKey → Tables → List FrameRow
+frame_copies from to t = map (frame_for to.variant) (filter (is_frame (record to { variant = from })) t.frames)
 
 -- ---- placements
 
-abbrev pub placement_row : List ℕ → List ℕ → List ℕ → Placement → PlacementRow
-placement_row variant supplier frame q = record {
-  variant = variant;
-  supplier = supplier;
-  frame = frame;
+abbrev pub placement_row : FrameKey → Placement → PlacementRow
+placement_row key q = record {
+  variant = key.variant;
+  supplier = key.supplier;
+  frame = key.frame;
   slot = pos q.slot;
   channels = text_of_channels q.channels;
   base = pos q.cycles.base;
@@ -254,9 +258,9 @@ placements_cmp =
 abbrev pub placement_for : List ℕ → PlacementRow → PlacementRow
 placement_for variant p = record p { variant = variant }
 
--- the placements of one frame of the first variant, as placements in the second
-abbrev pub placement_copies : List ℕ → List ℕ → List ℕ → List ℕ → Tables → List PlacementRow
-placement_copies from to supplier frame t = map (placement_for to) (filter (is_placement_of from supplier frame) t.placements)
+-- the placements of the same frame in another variant, as placements in this one
+abbrev pub placement_copies : List ℕ → FrameKey → Tables → List PlacementRow
+placement_copies from to t = map (placement_for to.variant) (filter (is_placement_of (record to { variant = from })) t.placements)
 
 -- ---- signals
 
@@ -264,11 +268,11 @@ abbrev pub big_number : Order → ℤ
 big_number Little = pos 0
 big_number Big = pos 1
 
-abbrev pub signal_row : List ℕ → List ℕ → List ℕ → SignalData → SignalRow
-signal_row variant supplier frame s = record {
-  variant = variant;
-  supplier = supplier;
-  frame = frame;
+abbrev pub signal_row : FrameKey → SignalData → SignalRow
+signal_row key s = record {
+  variant = key.variant;
+  supplier = key.supplier;
+  frame = key.frame;
   name = s.name;
   start = pos s.start;
   length = pos s.length;
@@ -281,11 +285,11 @@ with_signal s t = record t { signals = t.signals ++ s ∷ [] }
 abbrev pub with_signals : List SignalRow → Tables → Tables
 with_signals ss t = record t { signals = t.signals ++ ss }
 
-abbrev pub is_signal : List ℕ → List ℕ → List ℕ → List ℕ → SignalRow → Bool
-is_signal variant supplier frame name s = bytes_eq s.variant variant && (bytes_eq s.supplier supplier && (bytes_eq s.frame frame && bytes_eq s.name name))
+abbrev pub is_signal : FrameKey → List ℕ → SignalRow → Bool
+is_signal key name s = bytes_eq s.variant key.variant && (bytes_eq s.supplier key.supplier && (bytes_eq s.frame key.frame && bytes_eq s.name name))
 
-abbrev pub without_signal : List ℕ → List ℕ → List ℕ → List ℕ → Tables → Tables
-without_signal variant supplier frame name t = record t { signals = filter (λ s. not (is_signal variant supplier frame name s)) t.signals }
+abbrev pub without_signal : FrameKey → List ℕ → Tables → Tables
+without_signal key name t = record t { signals = filter (λ s. not (is_signal key name s)) t.signals }
 
 abbrev pub is_signalled_by : List ℕ → List ℕ → SignalRow → Bool
 is_signalled_by variant supplier s = bytes_eq s.variant variant && bytes_eq s.supplier supplier
@@ -300,9 +304,9 @@ signals_cmp = then_cmp (on (λ s. s.frame) text_cmp) (on (λ s. s.name) text_cmp
 abbrev pub signal_for : List ℕ → SignalRow → SignalRow
 signal_for variant s = record s { variant = variant }
 
--- the signals of one frame of the first variant, as signals in the second
-abbrev pub signal_copies : List ℕ → List ℕ → List ℕ → List ℕ → Tables → List SignalRow
-signal_copies from to supplier frame t = map (signal_for to) (filter (is_signal_of from supplier frame) t.signals)
+-- the signals of the same frame in another variant, as signals in this one
+abbrev pub signal_copies : List ℕ → FrameKey → Tables → List SignalRow
+signal_copies from to t = map (signal_for to.variant) (filter (is_signal_of (record to { variant = from })) t.signals)
 
 -- ---- imports
 
@@ -326,12 +330,12 @@ labels_cmp = on (λ i. i.label) text_cmp
 
 -- ---- dropped
 
-abbrev pub is_dropped : List ℕ → List ℕ → List ℕ → DroppedRow → Bool
-is_dropped variant supplier frame d = bytes_eq d.variant variant && (bytes_eq d.supplier supplier && bytes_eq d.frame frame)
+abbrev pub is_dropped : FrameKey → DroppedRow → Bool
+is_dropped key d = bytes_eq d.variant key.variant && (bytes_eq d.supplier key.supplier && bytes_eq d.frame key.frame)
 
 -- the tables with the row, which is added unless it is there
 abbrev pub with_dropped : DroppedRow → Tables → Tables
-with_dropped d t = record t { dropped = if list_any (is_dropped d.variant d.supplier d.frame) t.dropped then t.dropped else t.dropped ++ d ∷ [] }
+with_dropped d t = record t { dropped = if list_any (is_dropped d) t.dropped then t.dropped else t.dropped ++ d ∷ [] }
 
 abbrev pub is_dropped_by : List ℕ → List ℕ → DroppedRow → Bool
 is_dropped_by variant supplier d = bytes_eq d.variant variant && bytes_eq d.supplier supplier

@@ -4,6 +4,7 @@
 pub mod asking;
 pub mod cluster;
 pub mod filling;
+pub mod frame_key;
 pub mod making;
 pub mod reopen;
 pub mod schema;

@@ -1,7 +1,6 @@
 //! The integrator's commands on all suppliers.
 ghost use Rattle.fr_base.specs.Step.{common};
-ghost use Rattle.fr_office.specs.Carried.{Does, MayLeave};
-ghost use Rattle.std.specs.Prelude.{OnOk};
+ghost use Rattle.fr_office.specs.Carried.{CarriesStep};
 
 use fr_base::{CommonCommand, Refusal};
 use fr_world::{Records, decide_common};
@@ -13,13 +12,7 @@ pub(crate) fn change_common<R: Records>(
     records: &mut R,
     command: &CommonCommand,
 ) -> Result<(), Refusal>
-    ensures falls { R.clean records.new → R.clean records.old }
-    ensures open { R.clean records.new → OnOk result (R.serves records.new) }
-    ensures leaves { R.clean records.new
-        → MayLeave (R.stands records.old) (R.leaves records.old) (R.leaves records.new)
-        (λ c b. common b command.now) }
-    ensures does { R.clean records.new
-        → Does (R.stands records.old) (R.stands records.new) result (λ c b. common b command.now) }
+    ensures { CarriesStep R.Records (λ c b. common b command.now) records.old records.new result }
 {
     let variants = records.variants(alloc)?;
     let edit = decide_common(&variants, command)?;

@@ -1,7 +1,6 @@
 //! The integrator's command that gives a supplier a node.
 ghost use Rattle.fr_base.specs.Step.{add_node};
-ghost use Rattle.fr_office.specs.Carried.{Does, MayLeave};
-ghost use Rattle.std.specs.Prelude.{OnOk};
+ghost use Rattle.fr_office.specs.Carried.{CarriesStep};
 
 use crate::answering::has_supplier;
 use fr_base::{Name, Refusal};
@@ -15,14 +14,8 @@ pub(crate) fn add_node<R: Records>(
     supplier: Name,
     node: Name,
 ) -> Result<(), Refusal>
-    ensures falls { R.clean records.new → R.clean records.old }
-    ensures open { R.clean records.new → OnOk result (R.serves records.new) }
-    ensures leaves { R.clean records.new
-        → MayLeave (R.stands records.old) (R.leaves records.old) (R.leaves records.new)
-        (λ c b. add_node b supplier node) }
-    ensures does { R.clean records.new
-        → Does (R.stands records.old) (R.stands records.new) result
-        (λ c b. add_node b supplier node) }
+    ensures { CarriesStep R.Records (λ c b. add_node b supplier node)
+        records.old records.new result }
 {
     if !has_supplier(records.config(), supplier) {
         return Err(Refusal::NoSupplier);

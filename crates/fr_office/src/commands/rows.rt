@@ -1,11 +1,10 @@
 //! Changes of a supplier's rows in a variant.
 #![tactic(auto, using(fr_world::proofs::ReadLaws::reads_none, fr_world::proofs::ReadLaws::reads_then))]
 
-ghost use Rattle.std.specs.Prelude.{◌≡◌, OnOk};
 ghost use Rattle.fr_base.specs.Step.{change_rows};
-ghost use Rattle.fr_office.specs.Carried.{Does, MayLeave};
+ghost use Rattle.fr_office.specs.Carried.{CarriesStep, OnlyReads};
 ghost use Rattle.fr_office.specs.Decided.{IsBeside, IsOfKnown};
-ghost use Rattle.fr_world.specs.Held.{Reads, Tells};
+ghost use Rattle.fr_world.specs.Held.{Tells};
 ghost use Rattle.fr_world.specs.Decisions.{IsChecked};
 
 use crate::answering::has_supplier;
@@ -35,14 +34,8 @@ pub(crate) fn change_rows<R: Lender>(
 ) -> Result<(), Refusal>
     requires checked { IsChecked (R.params records.old) change.now }
     requires known { (c : _) (b : _) → R.stands records.old c b → IsOfKnown b supplier change.now }
-    ensures falls { R.clean records.new → R.clean records.old }
-    ensures open { R.clean records.new → OnOk result (R.serves records.new) }
-    ensures leaves { R.clean records.new
-        → MayLeave (R.stands records.old) (R.leaves records.old) (R.leaves records.new)
-        (λ c b. change_rows c.params b supplier variant change.now) }
-    ensures does { R.clean records.new
-        → Does (R.stands records.old) (R.stands records.new) result
-        (λ c b. change_rows c.params b supplier variant change.now) }
+    ensures { CarriesStep R.Records (λ c b. change_rows c.params b supplier variant change.now)
+        records.old records.new result }
 {
     let beside = look_beside(records, supplier, variant, change)?;
     open_page(alloc, records, supplier, variant)?;
@@ -66,10 +59,9 @@ fn look_beside<R: Records>(
     change: &Change,
 ) -> Result<BesidePage, Refusal>
     requires known { (c : _) (b : _) → R.stands records.old c b → IsOfKnown b supplier change.now }
-    ensures reads { Reads R.clean R.params R.leaves records.old records.new }
-    ensures told { R.clean records.new
-        → Tells (R.stands records.old) (R.stands records.new) result
-        (λ c b. IsBeside b supplier variant change.now) }
+    ensures { OnlyReads R.Records
+        (λ old new r. Tells old new r (λ c b. IsBeside b supplier variant change.now))
+        records.old records.new result }
 {
     match change {
         Change::Grant { slot, channel, .. } => {

@@ -4,10 +4,10 @@
 
 ghost use Rattle.std.specs.Prelude.{◌≡◌, ◌++◌, OnOk};
 ghost use Rattle.std.specs.List.{flat_map};
+ghost use Rattle.fr_office.specs.Carried.{OnlyReads};
 ghost use Rattle.fr_office.specs.Compared.{frames_rows};
 ghost use Rattle.fr_office.specs.Shown.{Gathers};
 ghost use Rattle.fr_world.specs.Pages.{own_rows_of};
-ghost use Rattle.fr_world.specs.Held.{Reads};
 
 use crate::lender::Lender;
 use crate::queries::find_page;
@@ -94,10 +94,9 @@ pub(crate) fn gather_rows<T: ComparedRow + Drop, R: Lender>(
     suppliers: &[Name],
     variant: Name,
 ) -> Result<Rows<T>, Refusal>
-    ensures reads { Reads R.clean R.params R.leaves records.old records.new }
-    ensures gathers { R.clean records.new
-        → Gathers (R.stands records.old) (R.stands records.new) result variant
-        (λ p x rows. rows ≡ frames_rows (T.compared p) suppliers.now x) }
+    ensures { OnlyReads R.Records
+        (Gathers variant (λ p x rows. rows ≡ frames_rows (T.compared p) suppliers.now x))
+        records.old records.new result }
 {
     let mut rows = Rows::new(alloc);
     for supplier in suppliers {

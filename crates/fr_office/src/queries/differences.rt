@@ -4,9 +4,8 @@
 ghost use Rattle.std.specs.Prelude.{◌≡◌, ◌++◌};
 ghost use Rattle.fr_base.specs.Queries.{found};
 ghost use Rattle.fr_base.specs.declared.query.Query.TheVariants.{Difference};
-ghost use Rattle.fr_office.specs.Carried.{Replies};
+ghost use Rattle.fr_office.specs.Carried.{OnlyReads, Replies};
 ghost use Rattle.fr_office.specs.Compared.{Compares, SeesDifferences, frames_told, grants_told, rows_among};
-ghost use Rattle.fr_world.specs.Held.{Reads};
 
 use crate::lender::Lender;
 use crate::queries::compared::{ComparedRow, gather_rows};
@@ -28,10 +27,9 @@ pub(crate) fn differences<R: Lender>(
     variant: Name,
     from: Name,
 ) -> Result<ReportRows, Refusal>
-    ensures reads { Reads R.clean R.params R.leaves records.old records.new }
-    ensures replies { R.clean records.new
-        → Replies (R.stands records.old) (R.stands records.new) result
-        (λ c b. found c.params b actor.now (Difference variant from)) }
+    ensures { OnlyReads R.Records
+        (Replies (λ c b. found c.params b actor.now (Difference variant from)))
+        records.old records.new result }
 {
     if !records.has_variant(variant)? {
         return Err(Refusal::NoVariant);
@@ -51,10 +49,8 @@ fn gather_seen<R: Lender>(
     variant: Name,
     from: Name,
 ) -> Result<Rows<DifferenceRow>, Refusal>
-    ensures reads { Reads R.clean R.params R.leaves records.old records.new }
-    ensures sees { R.clean records.new
-        → SeesDifferences (R.stands records.old) (R.stands records.new) result actor.now variant
-        from }
+    ensures { OnlyReads R.Records (SeesDifferences actor.now variant from)
+        records.old records.new result }
 {
     match actor {
         Actor::Supplier(supplier) => gather(alloc, records, &[*supplier], variant, from),
@@ -73,10 +69,9 @@ fn gather<R: Lender>(
     variant: Name,
     from: Name,
 ) -> Result<Rows<DifferenceRow>, Refusal>
-    ensures reads { Reads R.clean R.params R.leaves records.old records.new }
-    ensures gathers { R.clean records.new
-        → Compares (R.stands records.old) (R.stands records.new) result variant from
-        (λ p new old rows. rows ≡ rows_among p suppliers.now old new) }
+    ensures { OnlyReads R.Records
+        (Compares variant from (λ p new old rows. rows ≡ rows_among p suppliers.now old new))
+        records.old records.new result }
 {
     let mut rows = compare_grants(alloc, records, suppliers, variant, from)?;
     push_compared::<FrameRecord, R>(alloc, records, suppliers, variant, from, &mut rows)?;
@@ -94,10 +89,9 @@ fn compare_grants<R: Lender>(
     variant: Name,
     from: Name,
 ) -> Result<Rows<DifferenceRow>, Refusal>
-    ensures reads { Reads R.clean R.params R.leaves records.old records.new }
-    ensures gathers { R.clean records.new
-        → Compares (R.stands records.old) (R.stands records.new) result variant from
-        (λ p new old rows. rows ≡ grants_told suppliers.now old new) }
+    ensures { OnlyReads R.Records
+        (Compares variant from (λ p new old rows. rows ≡ grants_told suppliers.now old new))
+        records.old records.new result }
 {
     let old = gather_grants(alloc, records, suppliers, from)?;
     let new = gather_grants(alloc, records, suppliers, variant)?;
@@ -116,11 +110,10 @@ fn push_compared<T: ComparedRow + Drop, R: Lender>(
     from: Name,
     rows: &mut Rows<DifferenceRow>,
 ) -> Result<(), Refusal>
-    ensures reads { Reads R.clean R.params R.leaves records.old records.new }
-    ensures gathers { R.clean records.new
-        → Compares (R.stands records.old) (R.stands records.new) result variant from
-        (λ p new old _. rows.new ≡ rows.old
-        ++ frames_told T.compare T.same T.told (T.compared p) suppliers.now old new) }
+    ensures { OnlyReads R.Records
+        (Compares variant from (λ p new old _. rows.new
+        ≡ rows.old ++ frames_told T.compare T.same T.told (T.compared p) suppliers.now old new))
+        records.old records.new result }
 {
     let old = gather_rows::<T, R>(alloc, records, suppliers, from)?;
     let new = gather_rows::<T, R>(alloc, records, suppliers, variant)?;

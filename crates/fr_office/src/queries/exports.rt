@@ -5,10 +5,10 @@ ghost use Rattle.std.specs.Prelude.{◌≡◌, ◌++◌, List, map, IfOk, OnOk};
 ghost use Rattle.std.specs.List.{flat_map};
 ghost use Rattle.fr_base.specs.Book.{own};
 ghost use Rattle.fr_base.specs.Exports.{exported, part_of};
+ghost use Rattle.fr_office.specs.Carried.{OnlyReads};
 ghost use Rattle.fr_office.specs.Shown.{Gathers};
 ghost use Rattle.fr_world.specs.Pages.{own_rows_of};
 ghost use Rattle.fr_world.specs.Parts.{in_part};
-ghost use Rattle.fr_world.specs.Held.{Reads};
 
 use crate::lender::Lender;
 use crate::queries::find_page;
@@ -43,11 +43,10 @@ pub(crate) fn gather_export<R: Lender>(
     header: Header,
     number: u32,
 ) -> Result<ReportRows, Refusal>
-    ensures reads { Reads R.clean R.params R.leaves records.old records.new }
-    ensures gathers { R.clean records.new
-        → Gathers (R.stands records.old) (R.stands records.new) result variant
-        (λ p x rows. rows ≡ exported header number
-        (flat_map (λ s. (own s x.frames).rows) suppliers.now)) }
+    ensures { OnlyReads R.Records
+        (Gathers variant (λ p x rows. rows
+        ≡ exported header number (flat_map (λ s. (own s x.frames).rows) suppliers.now)))
+        records.old records.new result }
 {
     match header {
         Header::Frames => {
@@ -88,11 +87,10 @@ fn gather_part<T: FileRecord + Drop, R: Lender>(
     variant: Name,
     number: u32,
 ) -> Result<Rows<T>, Refusal>
-    ensures reads { Reads R.clean R.params R.leaves records.old records.new }
-    ensures gathers { R.clean records.new
-        → Gathers (R.stands records.old) (R.stands records.new) result variant
-        (λ p x rows. rows ≡ part_of number
-        (map T.records (flat_map (λ s. (own s x.frames).rows) suppliers.now))) }
+    ensures { OnlyReads R.Records
+        (Gathers variant (λ p x rows. rows
+        ≡ part_of number (map T.records (flat_map (λ s. (own s x.frames).rows) suppliers.now))))
+        records.old records.new result }
 {
     let mut part = Part::new(number);
     let mut rows = Rows::new(alloc);

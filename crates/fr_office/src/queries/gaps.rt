@@ -5,9 +5,9 @@ ghost use Rattle.std.specs.Prelude.{◌≡◌, ◌++◌, OnOk};
 ghost use Rattle.std.specs.List.{flat_map};
 ghost use Rattle.fr_base.specs.Book.{own};
 ghost use Rattle.fr_base.specs.Queries.{gaps_of};
+ghost use Rattle.fr_office.specs.Carried.{OnlyReads};
 ghost use Rattle.fr_office.specs.Shown.{Gathers};
 ghost use Rattle.fr_world.specs.Pages.{own_rows_of};
-ghost use Rattle.fr_world.specs.Held.{Reads};
 
 use crate::lender::Lender;
 use crate::queries::find_page;
@@ -36,10 +36,10 @@ pub(crate) fn gather_gaps<R: Lender>(
     suppliers: &[Name],
     variant: Name,
 ) -> Result<Rows<GapRow>, Refusal>
-    ensures reads { Reads R.clean R.params R.leaves records.old records.new }
-    ensures gathers { R.clean records.new
-        → Gathers (R.stands records.old) (R.stands records.new) result variant
-        (λ p x rows. rows ≡ flat_map (λ s. gaps_of p (own s x.frames)) suppliers.now) }
+    ensures { OnlyReads R.Records
+        (Gathers variant (λ p x rows. rows
+        ≡ flat_map (λ s. gaps_of p (own s x.frames)) suppliers.now))
+        records.old records.new result }
 {
     let mut rows = Rows::new(alloc);
     for supplier in suppliers {

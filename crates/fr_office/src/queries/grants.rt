@@ -3,10 +3,10 @@
 
 ghost use Rattle.std.specs.Prelude.{◌≡◌, IfOk, OnOk};
 ghost use Rattle.fr_base.specs.Queries.{grants_of};
+ghost use Rattle.fr_office.specs.Carried.{OnlyReads};
 ghost use Rattle.fr_office.specs.Shared.{grants_among, with_rows};
 ghost use Rattle.fr_office.specs.Shown.{Gathers};
 ghost use Rattle.fr_world.specs.Pages.{own_rows_of};
-ghost use Rattle.fr_world.specs.Held.{Reads};
 ghost use Rattle.fr_world.specs.Loads.{grants_in_lanes};
 
 use crate::lender::Lender;
@@ -40,10 +40,9 @@ pub(crate) fn gather_grants<R: Lender>(
     suppliers: &[Name],
     variant: Name,
 ) -> Result<Rows<GrantRow>, Refusal>
-    ensures reads { Reads R.clean R.params R.leaves records.old records.new }
-    ensures gathers { R.clean records.new
-        → Gathers (R.stands records.old) (R.stands records.new) result variant
-        (λ p x rows. rows ≡ grants_of (grants_among suppliers.now x.grants)) }
+    ensures { OnlyReads R.Records
+        (Gathers variant (λ p x rows. rows ≡ grants_of (grants_among suppliers.now x.grants)))
+        records.old records.new result }
 {
     let held = gather_holders(alloc, records, suppliers, variant)?;
     Ok(grant_rows(alloc, &held)?)
@@ -56,10 +55,10 @@ pub(crate) fn gather_holders<R: Lender>(
     suppliers: &[Name],
     variant: Name,
 ) -> Result<BTreeMap<ChannelSlot, LaneHolder>, Refusal>
-    ensures reads { Reads R.clean R.params R.leaves records.old records.new }
-    ensures gathers { R.clean records.new
-        → Gathers (R.stands records.old) (R.stands records.new) result variant
-        (λ p x held. grants_in_lanes held.entries ≡ grants_among suppliers.now x.grants) }
+    ensures { OnlyReads R.Records
+        (Gathers variant (λ p x held. grants_in_lanes held.entries
+        ≡ grants_among suppliers.now x.grants))
+        records.old records.new result }
 {
     let mut held = BTreeMap::new(alloc);
     for supplier in suppliers {

@@ -4,9 +4,9 @@
 ghost use Rattle.std.specs.Prelude.{◌≡◌, ◌==◌, ◌++◌, not, IfOk, OnOk};
 ghost use Rattle.fr_base.specs.Queries.{named, signals_of};
 ghost use Rattle.fr_base.specs.Tables.{len};
+ghost use Rattle.fr_office.specs.Carried.{OnlyReads};
 ghost use Rattle.fr_office.specs.Shown.{AreSignals, Gathers};
 ghost use Rattle.fr_world.specs.Pages.{own_rows_of};
-ghost use Rattle.fr_world.specs.Held.{Reads};
 
 use crate::lender::Lender;
 use crate::queries::find_page;
@@ -44,10 +44,9 @@ pub(crate) fn gather_signals<R: Lender>(
     variant: Name,
     name: Name,
 ) -> Result<Option<Rows<SignalRow>>, Refusal>
-    ensures reads { Reads R.clean R.params R.leaves records.old records.new }
-    ensures gathers { R.clean records.new
-        → Gathers (R.stands records.old) (R.stands records.new) result variant
-        (λ p x found. AreSignals name suppliers.now x found) }
+    ensures { OnlyReads R.Records
+        (Gathers variant (λ p x found. AreSignals name suppliers.now x found))
+        records.old records.new result }
 {
     let mut rows = Rows::new(alloc);
     let mut found = false;

@@ -2,10 +2,10 @@
 #![tactic(auto, using(fr_world::proofs::ReadLaws::reads_none, fr_world::proofs::ReadLaws::reads_then))]
 
 ghost use Rattle.std.specs.Prelude.{◌≡◌};
+ghost use Rattle.fr_office.specs.Carried.{OnlyReads};
 ghost use Rattle.fr_office.specs.Shared.{grants_among, placements_among};
 ghost use Rattle.fr_office.specs.Shown.{Gathers};
 ghost use Rattle.fr_world.specs.Loads.{filled_load};
-ghost use Rattle.fr_world.specs.Held.{Reads};
 
 use crate::lender::Lender;
 use crate::queries::grants::gather_holders;
@@ -22,11 +22,11 @@ pub(crate) fn gather_load<R: Lender>(
     suppliers: &[Name],
     variant: Name,
 ) -> Result<Rows<LoadRow>, Refusal>
-    ensures reads { Reads R.clean R.params R.leaves records.old records.new }
-    ensures gathers { R.clean records.new
-        → Gathers (R.stands records.old) (R.stands records.new) result variant
-        (λ p x rows. rows ≡ filled_load params.now (grants_among suppliers.now x.grants)
-        (placements_among suppliers.now x)) }
+    ensures { OnlyReads R.Records
+        (Gathers variant (λ p x rows. rows
+        ≡ filled_load params.now (grants_among suppliers.now x.grants)
+        (placements_among suppliers.now x)))
+        records.old records.new result }
 {
     let holders = gather_holders(alloc, records, suppliers, variant)?;
     let triggerings = gather_triggerings(alloc, records, suppliers, variant)?;

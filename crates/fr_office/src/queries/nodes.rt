@@ -6,8 +6,9 @@ ghost use Rattle.std.specs.List.{flat_map};
 ghost use Rattle.fr_base.specs.Book.{own};
 ghost use Rattle.fr_base.specs.Queries.{nodes_of};
 ghost use Rattle.fr_base.specs.Seen.{seen_nodes};
+ghost use Rattle.fr_office.specs.Carried.{OnlyReads};
 ghost use Rattle.fr_office.specs.Shown.{node_of, Sees};
-ghost use Rattle.fr_world.specs.Held.{Reads, Tells};
+ghost use Rattle.fr_world.specs.Held.{Tells};
 
 use crate::queries::suppliers::supplier_names;
 use fr_base::{Actor, Name, NoMemory, NodeRow, Refusal, Rows};
@@ -20,10 +21,9 @@ pub(crate) fn node_rows<R: Records>(
     records: &mut R,
     actor: &Actor,
 ) -> Result<Rows<NodeRow>, Refusal>
-    ensures reads { Reads R.clean R.params R.leaves records.old records.new }
-    ensures nodes { R.clean records.new
-        → Sees (R.stands records.old) (R.stands records.new) result
-        (λ c b rows. rows ≡ nodes_of (seen_nodes actor.now b.nodes)) }
+    ensures { OnlyReads R.Records
+        (Sees (λ c b rows. rows ≡ nodes_of (seen_nodes actor.now b.nodes)))
+        records.old records.new result }
 {
     match actor {
         Actor::Supplier(supplier) => gather_nodes(alloc, records, &[*supplier]),
@@ -40,10 +40,10 @@ fn gather_nodes<R: Records>(
     records: &mut R,
     suppliers: &[Name],
 ) -> Result<Rows<NodeRow>, Refusal>
-    ensures reads { Reads R.clean R.params R.leaves records.old records.new }
-    ensures nodes { R.clean records.new
-        → Tells (R.stands records.old) (R.stands records.new) result
-        (λ c b rows. rows ≡ flat_map (λ s. nodes_of (own s b.nodes)) suppliers.now) }
+    ensures { OnlyReads R.Records
+        (λ old new r. Tells old new r (λ c b rows. rows
+        ≡ flat_map (λ s. nodes_of (own s b.nodes)) suppliers.now))
+        records.old records.new result }
 {
     let mut rows = Rows::new(alloc);
     for supplier in suppliers {

@@ -3,12 +3,12 @@
 
 ghost use Rattle.std.specs.Prelude.{◌≡◌, IfOk};
 ghost use Rattle.fr_base.specs.Cells.{cluster_cells};
+ghost use Rattle.fr_office.specs.Carried.{OnlyReads};
 ghost use Rattle.fr_office.specs.Shared.{placements_among};
 ghost use Rattle.fr_office.specs.Shown.{Gathers};
 ghost use Rattle.fr_base.specs.Queries.{sendings_of};
 ghost use Rattle.fr_world.specs.Pages.{own_rows_of};
 ghost use Rattle.fr_world.specs.Sendings.{sent_in};
-ghost use Rattle.fr_world.specs.Held.{Reads};
 
 use crate::lender::Lender;
 use crate::queries::find_page;
@@ -35,10 +35,10 @@ pub(crate) fn gather_schedule<R: Lender>(
     suppliers: &[Name],
     variant: Name,
 ) -> Result<Rows<Sending>, Refusal>
-    ensures reads { Reads R.clean R.params R.leaves records.old records.new }
-    ensures gathers { R.clean records.new
-        → Gathers (R.stands records.old) (R.stands records.new) result variant
-        (λ p x rows. rows ≡ sent_in (placements_among suppliers.now x) (cluster_cells params.now)) }
+    ensures { OnlyReads R.Records
+        (Gathers variant (λ p x rows. rows
+        ≡ sent_in (placements_among suppliers.now x) (cluster_cells params.now)))
+        records.old records.new result }
 {
     let triggerings = gather_triggerings(alloc, records, suppliers, variant)?;
     Ok(triggerings.schedule(alloc, params)?)
@@ -51,10 +51,9 @@ pub(crate) fn gather_triggerings<R: Lender>(
     suppliers: &[Name],
     variant: Name,
 ) -> Result<Triggerings, Refusal>
-    ensures reads { Reads R.clean R.params R.leaves records.old records.new }
-    ensures gathers { R.clean records.new
-        → Gathers (R.stands records.old) (R.stands records.new) result variant
-        (λ p x triggerings. triggerings ≡ placements_among suppliers.now x) }
+    ensures { OnlyReads R.Records
+        (Gathers variant (λ p x triggerings. triggerings ≡ placements_among suppliers.now x))
+        records.old records.new result }
 {
     let mut triggerings = Triggerings::new(alloc);
     for supplier in suppliers {

@@ -1,13 +1,12 @@
 //! How a variant is stored, read inside a transaction.
 
-ghost use Rattle.std.specs.Prelude.{◌≡◌, IfErr, IfSome};
+ghost use Rattle.std.specs.Prelude.{◌≡◌, IfSome};
 ghost use Rattle.sqlite.specs.Order.{column};
-ghost use Rattle.sqlite.specs.State.{Survives};
-ghost use Rattle.sqlite.specs.Held.{state};
 ghost use Rattle.sqlite.specs.declared.types.Value.TheVariants.{Int};
 ghost use Rattle.fr_store.specs.Owning.{TellsLevel};
 ghost use Rattle.fr_store.specs.Paging.{Reads};
 ghost use Rattle.fr_tables.specs.Rows.{of_maybe, flag};
+ghost use Rattle.fr_store.specs.Applying.{Tries};
 ghost use Rattle.fr_store.specs.declared.fault.StoreFault.TheVariants.{Unavailable};
 
 use crate::fault::StoreFault;
@@ -39,12 +38,7 @@ pub fn read_level<S: Alter>(
     tx: &mut Transaction<'_, S>,
     variant: &Name,
 ) -> Result<Level, StoreFault>
-    ensures same_reference { tx.new.conn.ghost_name ≡ tx.old.conn.ghost_name }
-    ensures told { Reads (TellsLevel variant.now) (state S.Store tx.old.conn.now)
-        (state S.Store tx.new.conn.now) result }
-    ensures refused { IfErr result (λ fault. fault ≡ Unavailable) }
-    ensures survives { Survives (state S.Store tx.old.conn.now) (state S.Store tx.new.conn.now)
-        (λ _. ⊥) }
+    ensures { Tries S.Store (Reads (TellsLevel variant.now)) tx.old tx.new result }
 {
     let rows = tables::variants::one_inside(tx, variant)?;
     let Some(row) = rows.as_slice().first() else {

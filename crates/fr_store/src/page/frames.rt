@@ -1,19 +1,16 @@
 //! The supplier's frames that are a variant's own, from their rows in the tables.
 
 ghost use Rattle.fr_base.specs.Layouts.{IsLayout};
-ghost use Rattle.std.specs.Prelude.{IsPermutation, IsSorted, IsTrue, ◌≤◌, ◌≡◌, bytes_eq, filter, map, reverse, IfErr, IfSome};
+ghost use Rattle.std.specs.Prelude.{IsPermutation, IsSorted, IsTrue, ◌≤◌, ◌≡◌, bytes_eq, filter, map, reverse, IfSome};
 ghost use Rattle.std.specs.Ordering.{is_le, is_lt, on};
-ghost use Rattle.sqlite.specs.Held.{state};
 ghost use Rattle.fr_base.specs.Cycles.{is_cycle_count};
 ghost use Rattle.fr_base.specs.Keys.{placement_order};
 ghost use Rattle.fr_world.specs.Maps.{set_of};
 ghost use Rattle.fr_world.specs.Pages.{frame_data, frames_data};
-ghost use Rattle.fr_tables.specs.Changes.{Spares};
-ghost use Rattle.fr_store.specs.Paging.{Reads, AreFrameRows, TellsFrame, TellsFrames, node_shown, placement_shown, signal_shown};
+ghost use Rattle.fr_store.specs.Paging.{OnlyReads, AreFrameRows, TellsFrame, TellsFrames, node_shown, placement_shown, signal_shown};
 ghost use Rattle.fr_store.specs.Reading.{name_shown};
 ghost use Rattle.fr_tables.specs.Statements.{text_cmp};
 ghost use Rattle.fr_tables.specs.Tables.{Tables};
-ghost use Rattle.fr_store.specs.declared.fault.StoreFault.TheVariants.{Unavailable};
 
 use crate::fault::StoreFault;
 use fr_base::{CycleSet, Name, Order, Params, Placement, Signal};
@@ -35,11 +32,9 @@ pub(super) fn own_frames<S: Alter>(
     variant: &Name,
     supplier: &Name,
 ) -> Result<BTreeMap<Name, PageFrame>, StoreFault>
-    ensures told { Reads (λ t frames.
+    ensures { OnlyReads S.Store (λ t frames.
         TellsFrames params.now.cycles variant.now supplier.now t (frames_data frames.entries))
-        (state S.Store conn.old) (state S.Store conn.new) result }
-    ensures refused { IfErr result (λ fault. fault ≡ Unavailable) }
-    ensures spares { Spares (state S.Store conn.old) (state S.Store conn.new) }
+        conn.old conn.new result }
 {
     let rows = frame_rows(conn, variant, supplier)?;
     frames_of(alloc, params, &rows).ok_or(StoreFault::Unavailable)
@@ -61,10 +56,8 @@ fn frame_rows<S: Alter>(
     variant: &Name,
     supplier: &Name,
 ) -> Result<FrameRows, StoreFault>
-    ensures told { Reads (λ t rows. AreFrameRows variant.now supplier.now t rows)
-        (state S.Store conn.old) (state S.Store conn.new) result }
-    ensures refused { IfErr result (λ fault. fault ≡ Unavailable) }
-    ensures spares { Spares (state S.Store conn.old) (state S.Store conn.new) }
+    ensures { OnlyReads S.Store (λ t rows. AreFrameRows variant.now supplier.now t rows)
+        conn.old conn.new result }
 {
     let frames = tables::frames::of_supplier(conn, variant, supplier)?;
     let placements = tables::placements::of_supplier(conn, variant, supplier)?;

@@ -4,11 +4,9 @@
 ghost use Rattle.std.specs.Prelude.{◌≡◌, bytes_eq, option_map, slice_get, None, IfErr, IfOk, IfSome, if◌then◌else◌};
 ghost use Rattle.std.specs.List.{list_any};
 ghost use Rattle.std.specs.Option.{option_or};
-ghost use Rattle.sqlite.specs.Held.{state};
 ghost use Rattle.fr_world.specs.Amends.{frame_at};
 ghost use Rattle.fr_world.specs.Pages.{frames_data};
-ghost use Rattle.fr_tables.specs.Changes.{Spares};
-ghost use Rattle.fr_store.specs.Paging.{Reads, TellsLevel, TellsOver, TellsView, level_shown};
+ghost use Rattle.fr_store.specs.Paging.{OnlyReads, TellsLevel, TellsOver, TellsView, level_shown};
 ghost use Rattle.fr_store.specs.Reading.{name_shown};
 ghost use Rattle.fr_store.specs.declared.fault.StoreFault.TheVariants.{Unavailable};
 
@@ -42,10 +40,8 @@ pub(super) fn view_of<S: Alter>(
     supplier: &Name,
     levels: u32,
 ) -> Result<Option<View>, StoreFault>
-    ensures told { Reads (TellsView params.now.cycles variant.now supplier.now)
-        (state S.Store conn.old) (state S.Store conn.new) result }
-    ensures refused { IfErr result (λ fault. fault ≡ Unavailable) }
-    ensures spares { Spares (state S.Store conn.old) (state S.Store conn.new) }
+    ensures { OnlyReads S.Store (TellsView params.now.cycles variant.now supplier.now)
+        conn.old conn.new result }
 {
     let Some(Level { released, parent }) = level_of(conn, variant)? else {
         return Ok(None);
@@ -72,10 +68,7 @@ struct Level {
 
 // What the variant's row says, if the variant is there.
 fn level_of<S: Alter>(conn: &mut Connection<S>, variant: &Name) -> Result<Option<Level>, StoreFault>
-    ensures told { Reads (TellsLevel variant.now) (state S.Store conn.old) (state S.Store conn.new)
-        result }
-    ensures refused { IfErr result (λ fault. fault ≡ Unavailable) }
-    ensures spares { Spares (state S.Store conn.old) (state S.Store conn.new) }
+    ensures { OnlyReads S.Store (TellsLevel variant.now) conn.old conn.new result }
 {
     let rows = tables::variants::one(conn, variant)?;
     first_level(rows.as_slice())
@@ -112,12 +105,9 @@ fn lay_over<S: Alter>(
     supplier: &Name,
     inherited: BTreeMap<Name, PageFrame>,
 ) -> Result<BTreeMap<Name, PageFrame>, StoreFault>
-    ensures told { Reads (λ t frames. (parent : _)
+    ensures { OnlyReads S.Store (λ t frames. (parent : _)
         → TellsOver params.now.cycles variant.now supplier.now parent
-        (frames_data inherited.entries) t (frames_data frames.entries)) (state S.Store conn.old)
-        (state S.Store conn.new) result }
-    ensures refused { IfErr result (λ fault. fault ≡ Unavailable) }
-    ensures spares { Spares (state S.Store conn.old) (state S.Store conn.new) }
+        (frames_data inherited.entries) t (frames_data frames.entries)) conn.old conn.new result }
 {
     let dropped = tables::dropped::of_supplier(conn, variant, supplier)?;
     let own = own_frames(alloc, conn, params, variant, supplier)?;

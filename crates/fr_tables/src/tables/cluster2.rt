@@ -1,9 +1,6 @@
 //! The one row that says what the cluster is.
 
-ghost use Rattle.std.specs.Prelude.{◌≡◌};
-ghost use Rattle.sqlite.specs.State.{Survives};
-ghost use Rattle.sqlite.specs.Held.{state};
-ghost use Rattle.fr_tables.specs.Changes.{Makes, Finds};
+ghost use Rattle.fr_tables.specs.Changes.{Makes, Finds, Runs};
 ghost use Rattle.fr_tables.specs.Statements.{with_cluster2, cluster2_row, shows_cluster2, every, any_order};
 
 use fr_base::{Key, Params};
@@ -15,11 +12,8 @@ pub fn insert<S: Alter>(
     of: &Params,
     integrator: &Key,
 ) -> Result<usize, Error>
-    ensures same_reference { tx.new.conn.ghost_name ≡ tx.old.conn.ghost_name }
-    ensures added { Makes (with_cluster2 (cluster2_row of.now integrator.now))
-        (state S.Store tx.old.conn.now) (state S.Store tx.new.conn.now) result }
-    ensures survives { Survives (state S.Store tx.old.conn.now) (state S.Store tx.new.conn.now)
-        (λ _. ⊥) }
+    ensures { Runs S.Store (Makes (with_cluster2 (cluster2_row of.now integrator.now)))
+        tx.old tx.new result }
 {
     tx.execute(
         "INSERT INTO cluster2 (static_slots, slot_macroticks, dynamic_macroticks, symbol_macroticks, idle_macroticks, macroticks_per_cycle, payload_words, channels, integrator, cycles) VALUES (?1, ?2, ?3, ?4, ?5, ?6, ?7, ?8, ?9, ?10)",
@@ -40,11 +34,8 @@ pub fn insert<S: Alter>(
 
 /// The row, read inside a transaction.
 pub fn row_inside<S: Alter>(tx: &mut Transaction<'_, S>) -> Result<Vec<Row>, Error>
-    ensures same_reference { tx.new.conn.ghost_name ≡ tx.old.conn.ghost_name }
-    ensures listed { Finds shows_cluster2 every any_order (λ t. t.cluster2)
-        (state S.Store tx.old.conn.now) (state S.Store tx.new.conn.now) result }
-    ensures survives { Survives (state S.Store tx.old.conn.now) (state S.Store tx.new.conn.now)
-        (λ _. ⊥) }
+    ensures { Runs S.Store (Finds shows_cluster2 every any_order (λ t. t.cluster2))
+        tx.old tx.new result }
 {
     tx.query_all(
         "SELECT static_slots, slot_macroticks, dynamic_macroticks, symbol_macroticks, idle_macroticks, macroticks_per_cycle, payload_words, channels, integrator, cycles FROM cluster2",

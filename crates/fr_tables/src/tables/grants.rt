@@ -1,10 +1,8 @@
 //! Who holds which slot on which channel, in each variant.
 
-ghost use Rattle.std.specs.Prelude.{◌≡◌, pos};
+ghost use Rattle.std.specs.Prelude.{pos};
 ghost use Rattle.fr_base.specs.Channels.{text_of_channel};
-ghost use Rattle.sqlite.specs.State.{Survives};
-ghost use Rattle.sqlite.specs.Held.{state};
-ghost use Rattle.fr_tables.specs.Changes.{Makes, MakesCopies, Finds, Spares};
+ghost use Rattle.fr_tables.specs.Changes.{Makes, MakesCopies, Finds, Asks, Runs};
 ghost use Rattle.fr_tables.specs.Statements.{with_grant, without_grant, with_grants, grants_for, is_grant_of, is_grant_at, shows_grant, shows_holder, any_order};
 
 use fr_base::{Channel, Name, Slot};
@@ -19,18 +17,14 @@ pub fn insert<S: Alter>(
     supplier: &Name,
     node: &Name,
 ) -> Result<usize, Error>
-    ensures same_reference { tx.new.conn.ghost_name ≡ tx.old.conn.ghost_name }
-    ensures added { Makes (with_grant
+    ensures { Runs S.Store (Makes (with_grant
         (record {
           variant = variant.now;
           slot = pos slot;
           channel = text_of_channel channel;
           supplier = supplier.now;
           node = node.now;
-        })) (state S.Store tx.old.conn.now)
-        (state S.Store tx.new.conn.now) result }
-    ensures survives { Survives (state S.Store tx.old.conn.now) (state S.Store tx.new.conn.now)
-        (λ _. ⊥) }
+        }))) tx.old tx.new result }
 {
     tx.execute(
         "INSERT INTO grants (variant, slot, channel, supplier, node) VALUES (?1, ?2, ?3, ?4, ?5)",
@@ -51,11 +45,8 @@ pub fn delete<S: Alter>(
     slot: Slot,
     channel: Channel,
 ) -> Result<usize, Error>
-    ensures same_reference { tx.new.conn.ghost_name ≡ tx.old.conn.ghost_name }
-    ensures ended { Makes (without_grant variant.now (pos slot) (text_of_channel channel))
-        (state S.Store tx.old.conn.now) (state S.Store tx.new.conn.now) result }
-    ensures survives { Survives (state S.Store tx.old.conn.now) (state S.Store tx.new.conn.now)
-        (λ _. ⊥) }
+    ensures { Runs S.Store (Makes (without_grant variant.now (pos slot) (text_of_channel channel)))
+        tx.old tx.new result }
 {
     tx.execute(
         "DELETE FROM grants WHERE variant = ?1 AND slot = ?2 AND channel = ?3",
@@ -69,11 +60,8 @@ pub fn copy<S: Alter>(
     parent: &Name,
     child: &Name,
 ) -> Result<usize, Error>
-    ensures same_reference { tx.new.conn.ghost_name ≡ tx.old.conn.ghost_name }
-    ensures copied { MakesCopies (grants_for parent.now child.now) with_grants
-        (state S.Store tx.old.conn.now) (state S.Store tx.new.conn.now) result }
-    ensures survives { Survives (state S.Store tx.old.conn.now) (state S.Store tx.new.conn.now)
-        (λ _. ⊥) }
+    ensures { Runs S.Store (MakesCopies (grants_for parent.now child.now) with_grants)
+        tx.old tx.new result }
 {
     tx.execute(
         "INSERT INTO grants (variant, slot, channel, supplier, node) SELECT ?2, slot, channel, supplier, node FROM grants WHERE variant = ?1",
@@ -87,9 +75,8 @@ pub fn of_supplier<S: Alter>(
     variant: &Name,
     supplier: &Name,
 ) -> Result<Vec<Row>, Error>
-    ensures listed { Finds shows_grant (is_grant_of variant.now supplier.now) any_order
-        (λ t. t.grants) (state S.Store conn.old) (state S.Store conn.new) result }
-    ensures spares { Spares (state S.Store conn.old) (state S.Store conn.new) }
+    ensures { Asks S.Store (Finds shows_grant (is_grant_of variant.now supplier.now) any_order
+        (λ t. t.grants)) conn.old conn.new result }
 {
     conn.query_all(
         "SELECT slot, channel, node FROM grants WHERE variant = ?1 AND supplier = ?2",
@@ -104,10 +91,9 @@ pub fn holder<S: Alter>(
     slot: Slot,
     channel: Channel,
 ) -> Result<Vec<Row>, Error>
-    ensures listed { Finds shows_holder
-        (is_grant_at variant.now (pos slot) (text_of_channel channel)) any_order (λ t. t.grants)
-        (state S.Store conn.old) (state S.Store conn.new) result }
-    ensures spares { Spares (state S.Store conn.old) (state S.Store conn.new) }
+    ensures { Asks S.Store (Finds shows_holder
+        (is_grant_at variant.now (pos slot) (text_of_channel channel)) any_order (λ t. t.grants))
+        conn.old conn.new result }
 {
     conn.query_all(
         "SELECT supplier, node FROM grants WHERE variant = ?1 AND slot = ?2 AND channel = ?3",

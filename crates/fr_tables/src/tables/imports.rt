@@ -1,9 +1,7 @@
 //! The imports that are kept.
 
-ghost use Rattle.std.specs.Prelude.{◌≡◌, pos};
-ghost use Rattle.sqlite.specs.State.{Survives};
-ghost use Rattle.sqlite.specs.Held.{state};
-ghost use Rattle.fr_tables.specs.Changes.{Makes, Finds, Spares};
+ghost use Rattle.std.specs.Prelude.{pos};
+ghost use Rattle.fr_tables.specs.Changes.{Makes, Finds, Asks, Runs};
 ghost use Rattle.fr_tables.specs.Statements.{with_import, is_import, is_import_of, shows_import, shows_label, labels_cmp, any_order};
 
 use fr_base::{Body, Name};
@@ -18,18 +16,14 @@ pub fn insert<S: Alter>(
     body: &Body,
     rows: u32,
 ) -> Result<usize, Error>
-    ensures same_reference { tx.new.conn.ghost_name ≡ tx.old.conn.ghost_name }
-    ensures added { Makes (with_import
+    ensures { Runs S.Store (Makes (with_import
         (record {
           supplier = supplier.now;
           label = label.now;
           variant = variant.now;
           body = body.now;
           rows = pos rows;
-        })) (state S.Store tx.old.conn.now)
-        (state S.Store tx.new.conn.now) result }
-    ensures survives { Survives (state S.Store tx.old.conn.now) (state S.Store tx.new.conn.now)
-        (λ _. ⊥) }
+        }))) tx.old tx.new result }
 {
     tx.execute(
         "INSERT INTO imports (supplier, label, variant, body, rows) VALUES (?1, ?2, ?3, ?4, ?5)",
@@ -49,9 +43,8 @@ pub fn one<S: Alter>(
     supplier: &Name,
     label: &Name,
 ) -> Result<Vec<Row>, Error>
-    ensures listed { Finds shows_import (is_import supplier.now label.now) any_order
-        (λ t. t.imports) (state S.Store conn.old) (state S.Store conn.new) result }
-    ensures spares { Spares (state S.Store conn.old) (state S.Store conn.new) }
+    ensures { Asks S.Store (Finds shows_import (is_import supplier.now label.now) any_order
+        (λ t. t.imports)) conn.old conn.new result }
 {
     conn.query_all(
         "SELECT variant, body, rows FROM imports WHERE supplier = ?1 AND label = ?2",
@@ -61,9 +54,8 @@ pub fn one<S: Alter>(
 
 /// The supplier's labels, in byte order.
 pub fn labels<S: Alter>(conn: &mut Connection<S>, supplier: &Name) -> Result<Vec<Row>, Error>
-    ensures listed { Finds shows_label (is_import_of supplier.now) labels_cmp (λ t. t.imports)
-        (state S.Store conn.old) (state S.Store conn.new) result }
-    ensures spares { Spares (state S.Store conn.old) (state S.Store conn.new) }
+    ensures { Asks S.Store (Finds shows_label (is_import_of supplier.now) labels_cmp
+        (λ t. t.imports)) conn.old conn.new result }
 {
     conn.query_all(
         "SELECT label FROM imports WHERE supplier = ?1 ORDER BY label",

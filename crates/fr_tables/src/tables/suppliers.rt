@@ -1,9 +1,6 @@
 //! The suppliers and their keys.
 
-ghost use Rattle.std.specs.Prelude.{◌≡◌};
-ghost use Rattle.sqlite.specs.State.{Survives};
-ghost use Rattle.sqlite.specs.Held.{state};
-ghost use Rattle.fr_tables.specs.Changes.{Makes, Finds};
+ghost use Rattle.fr_tables.specs.Changes.{Makes, Finds, Runs};
 ghost use Rattle.fr_tables.specs.Statements.{with_supplier, with_key, shows_supplier, suppliers_cmp, every};
 
 use fr_base::{Key, Name};
@@ -11,11 +8,8 @@ use sqlite::{Alter, Error, Row, Transaction, params};
 
 /// Adds a supplier.
 pub fn insert<S: Alter>(tx: &mut Transaction<'_, S>, name: &Name, key: &Key) -> Result<usize, Error>
-    ensures same_reference { tx.new.conn.ghost_name ≡ tx.old.conn.ghost_name }
-    ensures added { Makes (with_supplier (record { name = name.now; key = key.now }))
-        (state S.Store tx.old.conn.now) (state S.Store tx.new.conn.now) result }
-    ensures survives { Survives (state S.Store tx.old.conn.now) (state S.Store tx.new.conn.now)
-        (λ _. ⊥) }
+    ensures { Runs S.Store (Makes (with_supplier (record { name = name.now; key = key.now })))
+        tx.old tx.new result }
 {
     tx.execute(
         "INSERT INTO suppliers (name, key) VALUES (?1, ?2)",
@@ -29,11 +23,7 @@ pub fn set_key<S: Alter>(
     name: &Name,
     key: &Key,
 ) -> Result<usize, Error>
-    ensures same_reference { tx.new.conn.ghost_name ≡ tx.old.conn.ghost_name }
-    ensures keyed { Makes (with_key name.now key.now) (state S.Store tx.old.conn.now)
-        (state S.Store tx.new.conn.now) result }
-    ensures survives { Survives (state S.Store tx.old.conn.now) (state S.Store tx.new.conn.now)
-        (λ _. ⊥) }
+    ensures { Runs S.Store (Makes (with_key name.now key.now)) tx.old tx.new result }
 {
     tx.execute(
         "UPDATE suppliers SET key = ?2 WHERE name = ?1",
@@ -43,11 +33,8 @@ pub fn set_key<S: Alter>(
 
 /// All suppliers, by name, asked inside a transaction.
 pub fn by_name_inside<S: Alter>(tx: &mut Transaction<'_, S>) -> Result<Vec<Row>, Error>
-    ensures same_reference { tx.new.conn.ghost_name ≡ tx.old.conn.ghost_name }
-    ensures listed { Finds shows_supplier every suppliers_cmp (λ t. t.suppliers)
-        (state S.Store tx.old.conn.now) (state S.Store tx.new.conn.now) result }
-    ensures survives { Survives (state S.Store tx.old.conn.now) (state S.Store tx.new.conn.now)
-        (λ _. ⊥) }
+    ensures { Runs S.Store (Finds shows_supplier every suppliers_cmp (λ t. t.suppliers))
+        tx.old tx.new result }
 {
     tx.query_all("SELECT name, key FROM suppliers ORDER BY name", &[])
 }

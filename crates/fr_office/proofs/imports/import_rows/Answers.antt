@@ -1,8 +1,8 @@
-use Rattle.std.proofs.Common.{rules, arith, ◌≡◌, ◌≤◌, length, subst, Ok, false}
+use Rattle.std.proofs.Common.{rules, arith, ◌≡◌, ◌≤◌, length, subst, inl, Ok, false}
 use Rattle.fr_base.specs.declared.limits.TheConstants.{MAX_ROWS}
 use Rattle.fr_base.specs.declared.answer.Answer.TheVariants.{Imported, RefusedRow}
 use Rattle.fr_office.specs.Decided.{LeadsTo}
-use Rattle.fr_office.specs.Imports.{GivesRows, LeavesRows, kept_edits}
+use Rattle.fr_office.specs.Imports.{CarriesRows, kept_edits}
 use Rattle.fr_office.proofs.CrashLaws.{AddsTo}
 use Rattle.fr_office.proofs.ImportLaws.{few_made, page_leads, rows_refused, rows_kept, rows_lacked}
 use Rattle.fr_office.proofs.RowsLaws.{has_some, some_has}
@@ -27,63 +27,54 @@ keep-requires g c =
     (page_leads i count copy draft.page draft.edits.items c.in-Ok.ensures.leads c.in-Ok.ensures.page c.in-Ok.ensures.still) in
     record { lent = c.requires.lent; leads = has_some (λ page. LeadsTo page (kept_edits draft.edits.items i count) draft.page) lent page c.lent-page.ensures leads }
 
-pub returns-in-Ok-clause-gives : goal.returns-in-Ok-clause-gives
-returns-in-Ok-clause-gives g c = λ clean.
+pub returns-in-Ok : goal.returns-in-Ok
+returns-in-Ok g c =
     let records = g.R.Records in
-    let old = records.stands c.args.records.now in
-    let new = records.stands c.keep.new.records in
-    let lent = g.R.Lender.lent c.args.records.now in
+    let old = c.args.records.now in
+    let new = c.keep.new.records in
+    let lent = g.R.Lender.lent old in
     let page = c.lent-page.result.now in
     let i = c.args.import.now in
     let unreleased : page.released ≡ false = some_has (λ page. page.released ≡ false) lent page c.lent-page.ensures c.requires.open in
-    has_some (GivesRows old new (Ok (Imported c.len-count.result)) i) lent page c.lent-page.ensures
-    (rows_kept i page c.in_ok-rows.rows (search rules) old new c.in-Ok.draft.edits.items (search rules) unreleased c.len-count.result (search rules) c.keep.result (search rules) (c.keep.ensures.applies clean))
+    has_some (CarriesRows records i old new (Ok (Imported c.len-count.result))) lent page c.lent-page.ensures (record {
+      falls = c.keep.ensures.falls;
+      serves = search rules;
+      leaves = λ clean cl b books stood sound known free opened left.
+          (rows_kept i page c.in_ok-rows.rows (search rules) (records.stands old) (AddsTo books (records.leaves old) (records.leaves new)) c.in-Ok.draft.edits.items (search rules) unreleased c.len-count.result (search rules) (Ok tt) (search rules)
+          (λ k d there fit before. c.keep.ensures.leaves clean k d books there fit before) cl b stood sound known free opened).1 left;
+      gives = λ clean.
+          rows_kept i page c.in_ok-rows.rows (search rules) (records.stands old) (records.stands new) c.in-Ok.draft.edits.items (search rules) unreleased c.len-count.result (search rules) c.keep.result (search rules) (c.keep.ensures.applies clean);
+    })
 
-pub returns-in_err-keep-in-Ok-clause-gives : goal.returns-in_err-keep-in-Ok-clause-gives
-returns-in_err-keep-in-Ok-clause-gives g c = λ clean.
+pub returns-in_err-keep-in-Ok : goal.returns-in_err-keep-in-Ok
+returns-in_err-keep-in-Ok g c =
     let records = g.R.Records in
-    let old = records.stands c.args.records.now in
-    let new = records.stands c.keep.new.records in
-    let lent = g.R.Lender.lent c.args.records.now in
+    let old = c.args.records.now in
+    let new = c.keep.new.records in
+    let lent = g.R.Lender.lent old in
     let page = c.lent-page.result.now in
     let i = c.args.import.now in
     let unreleased : page.released ≡ false = some_has (λ page. page.released ≡ false) lent page c.lent-page.ensures c.requires.open in
-    has_some (GivesRows old new c.from_residual-in_err-keep-in-Ok.result i) lent page c.lent-page.ensures
-    (rows_lacked i page c.in_ok-rows.rows (search rules) old new c.in-Ok.draft.edits.items (search rules) unreleased c.len-count.result (search rules) c.from_residual-in_err-keep-in-Ok.result c.keep.result
-    c.in_err-keep-in-Ok.field-0.0 (search rules) (search rules) (c.keep.ensures.applies clean))
+    has_some (CarriesRows records i old new c.from_residual-in_err-keep-in-Ok.result) lent page c.lent-page.ensures (record {
+      falls = c.keep.ensures.falls;
+      serves = search rules;
+      leaves = λ clean cl b books stood sound known free opened left.
+          (rows_kept i page c.in_ok-rows.rows (search rules) (records.stands old) (AddsTo books (records.leaves old) (records.leaves new)) c.in-Ok.draft.edits.items (search rules) unreleased c.len-count.result (search rules) (Ok tt) (search rules)
+          (λ k d there fit before. c.keep.ensures.leaves clean k d books there fit before) cl b stood sound known free opened).1 left;
+      gives = λ clean.
+          rows_lacked i page c.in_ok-rows.rows (search rules) (records.stands old) (records.stands new) c.in-Ok.draft.edits.items (search rules) unreleased c.len-count.result (search rules) c.from_residual-in_err-keep-in-Ok.result c.keep.result
+          c.in_err-keep-in-Ok.field-0.0 (search rules) (search rules) (c.keep.ensures.applies clean);
+    })
 
-pub returns-in-Err-Row-clause-gives : goal.returns-in-Err-Row-clause-gives
-returns-in-Err-Row-clause-gives g c = λ clean.
-    let old = g.R.Records.stands c.args.records.now in
-    let lent = g.R.Lender.lent c.args.records.now in
-    let page = c.lent-page.result.now in
-    let i = c.args.import.now in
-    has_some (GivesRows old old (Ok (RefusedRow _ _)) i) lent page c.lent-page.ensures (rows_refused i page c.in_ok-rows.rows (search rules) old _ _ (search rules))
-
-pub returns-in-Ok-clause-leaves : goal.returns-in-Ok-clause-leaves
-returns-in-Ok-clause-leaves g c = λ clean.
+pub returns-in-Err-Row : goal.returns-in-Err-Row
+returns-in-Err-Row g c =
     let records = g.R.Records in
-    let stands = records.stands c.args.records.now in
-    let old = records.leaves c.args.records.now in
-    let new = records.leaves c.keep.new.records in
-    let lent = g.R.Lender.lent c.args.records.now in
+    let old = c.args.records.now in
     let page = c.lent-page.result.now in
     let i = c.args.import.now in
-    let unreleased : page.released ≡ false = some_has (λ page. page.released ≡ false) lent page c.lent-page.ensures c.requires.open in
-    has_some (LeavesRows stands old new i) lent page c.lent-page.ensures (λ cl b books stood sound known free opened left.
-    (rows_kept i page c.in_ok-rows.rows (search rules) stands (AddsTo books old new) c.in-Ok.draft.edits.items (search rules) unreleased c.len-count.result (search rules) (Ok tt) (search rules)
-    (λ k d there fit before. c.keep.ensures.leaves clean k d books there fit before) cl b stood sound known free opened).1 left)
-
-pub returns-in_err-keep-in-Ok-clause-leaves : goal.returns-in_err-keep-in-Ok-clause-leaves
-returns-in_err-keep-in-Ok-clause-leaves g c = λ clean.
-    let records = g.R.Records in
-    let stands = records.stands c.args.records.now in
-    let old = records.leaves c.args.records.now in
-    let new = records.leaves c.keep.new.records in
-    let lent = g.R.Lender.lent c.args.records.now in
-    let page = c.lent-page.result.now in
-    let i = c.args.import.now in
-    let unreleased : page.released ≡ false = some_has (λ page. page.released ≡ false) lent page c.lent-page.ensures c.requires.open in
-    has_some (LeavesRows stands old new i) lent page c.lent-page.ensures (λ cl b books stood sound known free opened left.
-    (rows_kept i page c.in_ok-rows.rows (search rules) stands (AddsTo books old new) c.in-Ok.draft.edits.items (search rules) unreleased c.len-count.result (search rules) (Ok tt) (search rules)
-    (λ k d there fit before. c.keep.ensures.leaves clean k d books there fit before) cl b stood sound known free opened).1 left)
+    has_some (CarriesRows records i old old (Ok (RefusedRow _ _))) (g.R.Lender.lent old) page c.lent-page.ensures (record {
+      falls = λ clean. clean;
+      serves = λ clean. tt;
+      leaves = λ clean cl b books stood sound known free opened left. inl left;
+      gives = λ clean. rows_refused i page c.in_ok-rows.rows (search rules) (records.stands old) _ _ (search rules);
+    })

@@ -36,7 +36,7 @@ loop-ask-preserved g c =
             answers = c.answer-answer.ensures.answers now;
             left = c.answer-answer.ensures.leaves now;
             keeps = keeps_change (it.stands old) (it.stands new) (it.leaves new) (it.serves new) c.ask-item.result answer (λ k b serves stood. it.settled new k b now serves stood)
-                (c.answer-answer.ensures.answers now) (c.answer-answer.ensures.open now);
+                (c.answer-answer.ensures.answers now) (c.answer-answer.ensures.serves now);
           } in
           rw items (rw more (asked_more it.stands it.leaves _ old new _ c.ask-item.result _ answer (c.loop-ask.invariant.asked (c.answer-answer.ensures.falls now)) turn));
     }

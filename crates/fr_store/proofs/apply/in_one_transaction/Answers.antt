@@ -19,7 +19,7 @@ returns-in_err-commit-clause-survives g c =
     let inside = begun_inside g.S.Store c.args.conn.now c.transaction-tx.result.conn.now c.transaction-tx.ensures.begun in
     subst (λ h. Survives (state g.S.Store c.args.conn.now) (state g.S.Store h) (LeavesAll c.args.edits.now (state g.S.Store c.args.conn.now))) same
     (crash_leaves g.S.Store c.args.conn.now c.transaction-tx.result.conn.now c.transaction-tx.ensures.begun c.args.edits.now (state g.S.Store c.carry_out_all.new.tx.conn.now) (state g.S.Store end)
-    (λ clean cluster b stands fit. c.in_ok-carry_out_all.ensures.carried clean inside cluster b stands fit) c.carry_out_all.ensures.survives c.commit.ensures.survives)
+    (λ clean cluster b stands fit. c.in_ok-carry_out_all.ensures.carried.does clean inside cluster b stands fit) c.carry_out_all.ensures.carried.survives c.commit.ensures.survives)
 
 pub returns-clause-survives : goal.returns-clause-survives
 returns-clause-survives g c =
@@ -28,7 +28,7 @@ returns-clause-survives g c =
     let inside = begun_inside g.S.Store c.args.conn.now c.transaction-tx.result.conn.now c.transaction-tx.ensures.begun in
     subst (λ h. Survives (state g.S.Store c.args.conn.now) (state g.S.Store h) (LeavesAll c.args.edits.now (state g.S.Store c.args.conn.now))) same
     (crash_leaves g.S.Store c.args.conn.now c.transaction-tx.result.conn.now c.transaction-tx.ensures.begun c.args.edits.now (state g.S.Store c.carry_out_all.new.tx.conn.now) (state g.S.Store end)
-    (λ clean cluster b stands fit. c.in_ok-carry_out_all.ensures.carried clean inside cluster b stands fit) c.carry_out_all.ensures.survives c.commit.ensures.survives)
+    (λ clean cluster b stands fit. c.in_ok-carry_out_all.ensures.carried.does clean inside cluster b stands fit) c.carry_out_all.ensures.carried.survives c.commit.ensures.survives)
 
 pub returns-clause-stands : goal.returns-clause-stands
 returns-clause-stands g c clean cluster b stands fit =
@@ -38,7 +38,7 @@ returns-clause-stands g c clean cluster b stands fit =
     let mid = state g.S.Store c.carry_out_all.new.tx.conn.now in
     let clean_mid : HasCleanDisk mid = omega (arith, c.commit.ensures.survives.clean) in
     let inside = begun_inside g.S.Store c.args.conn.now c.transaction-tx.result.conn.now c.transaction-tx.ensures.begun in
-    let carried = c.in_ok-carry_out_all.ensures.carried clean_mid inside cluster b (begun_stands g.S.Store c.args.conn.now c.transaction-tx.result.conn.now c.transaction-tx.ensures.begun cluster b stands) fit in
+    let carried = c.in_ok-carry_out_all.ensures.carried.does clean_mid inside cluster b (begun_stands g.S.Store c.args.conn.now c.transaction-tx.result.conn.now c.transaction-tx.ensures.begun cluster b stands) fit in
     subst (λ h. Stands (state g.S.Store h) cluster (all_applied b c.args.edits.now)) same
     (still_stands mid (state g.S.Store end) cluster (all_applied b c.args.edits.now) (c.in_ok-commit.ensures.ok late).1.now_is carried)
 

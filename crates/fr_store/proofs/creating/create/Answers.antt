@@ -18,4 +18,4 @@ returns-clause-survives g c fresh =
     let before : IsFresh 0 0 (state g.S.Store c.transaction-tx.result.conn.now).now = subst (λ (d : Database). IsFresh 0 0 d) (sym (ap (λ h. (state g.S.Store h).now) begun)) fresh in
     subst (λ h. Survives (state g.S.Store c.args.conn.now) (state g.S.Store h) (λ db. IsNewOf c.args.config.now (database_of db))) same
     (leaves g.S.Store c.args.conn.now c.transaction-tx.result.conn.now begun (λ db. IsNewOf c.args.config.now (database_of db)) (state g.S.Store c.make_and_fill.new.tx.conn.now) (state g.S.Store end)
-    (λ clean db is. new_at c.args.config.now (state g.S.Store c.make_and_fill.new.tx.conn.now) db is (c.in_ok-make_and_fill.ensures.made clean inside before).0) c.make_and_fill.ensures.survives c.commit.ensures.survives)
+    (λ clean db is. new_at c.args.config.now (state g.S.Store c.make_and_fill.new.tx.conn.now) db is (c.in_ok-make_and_fill.ensures.does clean inside before).0) c.make_and_fill.ensures.survives c.commit.ensures.survives)

@@ -23,7 +23,7 @@ returns-in_err-commit-clause-survives g c =
     let first : begun.now ≡ old.now = ap (λ h. (state g.S.Store h).now) c.transaction-tx.ensures.begun in
     subst (λ h. Survives old (state g.S.Store h) (LeavesMigrated old)) same
     (leaves g.S.Store c.args.conn.now c.transaction-tx.result.conn.now c.transaction-tx.ensures.begun (LeavesMigrated old) mid (state g.S.Store end)
-    (λ clean db is cluster b stands. is_left mid cluster b db is (c.in_ok-change_schema.ensures.migrated clean inside cluster b (still_before old begun cluster b first stands))) c.change_schema.ensures.survives c.commit.ensures.survives)
+    (λ clean db is cluster b stands. is_left mid cluster b db is (c.in_ok-change_schema.ensures.migrated.does clean inside cluster b (still_before old begun cluster b first stands))) c.change_schema.ensures.migrated.survives c.commit.ensures.survives)
 
 pub returns-clause-survives : goal.returns-clause-survives
 returns-clause-survives g c =
@@ -36,7 +36,7 @@ returns-clause-survives g c =
     let first : begun.now ≡ old.now = ap (λ h. (state g.S.Store h).now) c.transaction-tx.ensures.begun in
     subst (λ h. Survives old (state g.S.Store h) (LeavesMigrated old)) same
     (leaves g.S.Store c.args.conn.now c.transaction-tx.result.conn.now c.transaction-tx.ensures.begun (LeavesMigrated old) mid (state g.S.Store end)
-    (λ clean db is cluster b stands. is_left mid cluster b db is (c.in_ok-change_schema.ensures.migrated clean inside cluster b (still_before old begun cluster b first stands))) c.change_schema.ensures.survives c.commit.ensures.survives)
+    (λ clean db is cluster b stands. is_left mid cluster b db is (c.in_ok-change_schema.ensures.migrated.does clean inside cluster b (still_before old begun cluster b first stands))) c.change_schema.ensures.migrated.survives c.commit.ensures.survives)
 
 pub returns-clause-migrated : goal.returns-clause-migrated
 returns-clause-migrated g c clean cluster b stands =
@@ -49,7 +49,7 @@ returns-clause-migrated g c clean cluster b stands =
     let clean_mid : HasCleanDisk mid = omega (arith, c.commit.ensures.survives.clean) in
     let inside = begun_inside g.S.Store c.args.conn.now c.transaction-tx.result.conn.now c.transaction-tx.ensures.begun in
     let first : begun.now ≡ old.now = ap (λ h. (state g.S.Store h).now) c.transaction-tx.ensures.begun in
-    let done = c.in_ok-change_schema.ensures.migrated clean_mid inside cluster b (still_before old begun cluster b first stands) in
+    let done = c.in_ok-change_schema.ensures.migrated.does clean_mid inside cluster b (still_before old begun cluster b first stands) in
     subst (λ h. Stands (state g.S.Store h) cluster b) same (still_stands mid (state g.S.Store end) cluster b (c.in_ok-commit.ensures.ok late).1.now_is done)
 
 pub returns-clause-opens : goal.returns-clause-opens

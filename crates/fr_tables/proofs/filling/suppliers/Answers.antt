@@ -19,7 +19,7 @@ loop-supplier-preserved g c =
       c.insert.ensures.same_reference ∙ c.loop-supplier.invariant.0,
       λ clean up inside was.
           let before = c.loop-supplier.invariant.1 (omega (arith, c.insert.ensures.survives.clean, clean)) up inside was in
-          let step : Changes (with_supplier (supplier_row item)) mid new = c.in_ok-insert.ensures.added clean (before.shown.mode ∙ inside) before.has in
+          let step : Changes (with_supplier (supplier_row item)) mid new = c.in_ok-insert.ensures.does clean (before.shown.mode ∙ inside) before.has in
           and_then (with_suppliers (take at list)) (with_supplier (supplier_row item)) (with_suppliers (take (at + 1) list))
           (λ t. one_more (take at list) item t ∙ ap (λ xs. with_suppliers xs t) (sym more)) old mid new inside before step,
       survives_both old mid new c.loop-supplier.invariant.2 c.insert.ensures.survives,

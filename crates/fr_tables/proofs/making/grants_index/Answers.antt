@@ -2,5 +2,10 @@ use Rattle.sqlite.specs.Held.{state}
 use Rattle.fr_tables.proofs.MakingLemmas.{makes_old}
 use Rattle.fr_tables.proofs.making.grants_index.Goals as goal
 
-pub returns-clause-made : goal.returns-clause-made
-returns-clause-made g c clean inside was = makes_old (state g.S.Store c.args.tx.now.conn.now) (state g.S.Store c.execute.new.self.conn.now) c.execute.result inside was (c.execute.ensures.runs clean inside)
+pub returns : goal.returns
+returns g c = record {
+  same_reference = c.execute.ensures.same_reference;
+  does = λ clean inside was.
+      makes_old (state g.S.Store c.args.tx.now.conn.now) (state g.S.Store c.execute.new.self.conn.now) c.execute.result inside was (c.execute.ensures.runs clean inside);
+  survives = c.execute.ensures.survives;
+}

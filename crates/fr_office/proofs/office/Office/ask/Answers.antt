@@ -18,7 +18,7 @@ returns-clause-durable g c = λ clean k b stands sound.
     let inside = subst (λ w. StandsWarm g.R.Records.stands w k b) (sym c.self.view_is) stands in
     let records = c.answer.new.records.records in
     keeps_change _ _ (g.R.Records.leaves records) (g.R.Records.serves records) c.args.ask.now c.answer.result (λ cl book serves stood. g.R.Records.settled records cl book clean serves stood.0)
-    (c.answer.ensures.answers clean) (c.answer.ensures.open clean) k b inside sound
+    (c.answer.ensures.answers clean) (c.answer.ensures.serves clean) k b inside sound
 
 pub returns-clause-kept : goal.returns-clause-kept
 returns-clause-kept g c = λ clean.

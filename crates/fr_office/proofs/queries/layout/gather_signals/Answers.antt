@@ -1,4 +1,4 @@
-use Rattle.std.proofs.Common.{◌≡◌, ◌+◌, ◌∙◌, ◌++◌, ◌||◌, [], ◌∷◌, take, sym, ap, subst}
+use Rattle.std.proofs.Common.{rules, ◌≡◌, ◌+◌, ◌∙◌, ◌++◌, ◌||◌, [], ◌∷◌, take, sym, ap, subst}
 use Rattle.std.proofs.lemmas.List.{take_more}
 use Rattle.fr_office.proofs.GatherLaws.{IsFound, IsSoFar, found-more, gathered-more, or_with, or_without, signals-gathered, signals-none, signals_named}
 use Rattle.fr_office.proofs.OwnReplies.{finds-lent}
@@ -23,32 +23,35 @@ loop-supplier-preserved g c =
       | else-branch w ↦ w.found-is ∙ sym (or_without c.loop-supplier.found has w.if-branch.false)
     ] in
     record {
-      reads = reads_then _ _ _ _ _ _ c.loop-supplier.invariant.reads c.find_page.ensures.reads;
+      reads = reads_then _ _ _ _ _ _ c.loop-supplier.invariant.reads c.find_page.ensures.finds.reads;
       gathered = λ now.
           gathered-more (signals_named c.args.name) old c.args.variant mid new s (take i suppliers) (take (i + 1) suppliers) c.lent.result.now c.loop-supplier.rows c.push_signals.new.rows
-          (c.loop-supplier.invariant.gathered (c.find_page.ensures.reads.falls now)) (finds-lent _ _ _ _ _ _ c.lent.ensures (c.in_ok-find_page.ensures.page now)) c.in_ok-push_signals.ensures.rows more;
+          (c.loop-supplier.invariant.gathered (c.find_page.ensures.finds.reads.falls now)) (finds-lent _ _ _ _ _ _ c.lent.ensures (c.in_ok-find_page.ensures.finds.told now)) c.in_ok-push_signals.ensures.rows more;
       found = λ now.
           subst (λ found. IsSoFar old new c.args.variant (λ p x. IsFound c.args.name (take (i + 1) suppliers) found x)) (sym now_found)
           (found-more old mid new c.args.name s c.args.variant (take i suppliers) (take (i + 1) suppliers) c.lent.result.now c.loop-supplier.found has
-          (c.loop-supplier.invariant.found (c.find_page.ensures.reads.falls now)) (finds-lent _ _ _ _ _ _ c.lent.ensures (c.in_ok-find_page.ensures.page now)) c.in_ok-push_signals.ensures.found more);
+          (c.loop-supplier.invariant.found (c.find_page.ensures.finds.reads.falls now)) (finds-lent _ _ _ _ _ _ c.lent.ensures (c.in_ok-find_page.ensures.finds.told now)) c.in_ok-push_signals.ensures.found more);
     }
 
-pub returns-clause-gathers : goal.returns-clause-gathers
-returns-clause-gathers g c = λ now.
-    let records = g.R.Records in
-    let old = records.stands c.args.records.now in
-    let new = records.stands c.loop-supplier.records in
-    let i = c.loop-supplier.supplier-index in
-    let suppliers = c.args.suppliers.now in
-    let last = c.loop-supplier-test.false in
-    let rows = c.loop-supplier.rows in
-    let gathered = c.loop-supplier.invariant.gathered now in
-    let found = c.loop-supplier.invariant.found now in
-    elim c.if-found.branch [
-      | then-found w ↦ rw w.result-is
-          (signals-gathered old new c.args.name c.args.variant i suppliers rows last gathered
-          (subst (λ is. IsSoFar old new c.args.variant (λ p x. IsFound c.args.name (take i suppliers) is x)) w.if-found.true found))
-      | else-found w ↦ rw w.result-is
-          (signals-none old new c.args.name c.args.variant i suppliers rows last gathered
-          (subst (λ is. IsSoFar old new c.args.variant (λ p x. IsFound c.args.name (take i suppliers) is x)) w.if-found.false found))
-    ]
+pub returns : goal.returns
+returns g c = record {
+  reads = search (rules, reads_then);
+  told = λ now.
+      let records = g.R.Records in
+      let old = records.stands c.args.records.now in
+      let new = records.stands c.loop-supplier.records in
+      let i = c.loop-supplier.supplier-index in
+      let suppliers = c.args.suppliers.now in
+      let last = c.loop-supplier-test.false in
+      let rows = c.loop-supplier.rows in
+      let gathered = c.loop-supplier.invariant.gathered now in
+      let found = c.loop-supplier.invariant.found now in
+      elim c.if-found.branch [
+        | then-found w ↦ rw w.result-is
+            (signals-gathered old new c.args.name c.args.variant i suppliers rows last gathered
+            (subst (λ is. IsSoFar old new c.args.variant (λ p x. IsFound c.args.name (take i suppliers) is x)) w.if-found.true found))
+        | else-found w ↦ rw w.result-is
+            (signals-none old new c.args.name c.args.variant i suppliers rows last gathered
+            (subst (λ is. IsSoFar old new c.args.variant (λ p x. IsFound c.args.name (take i suppliers) is x)) w.if-found.false found))
+      ];
+}

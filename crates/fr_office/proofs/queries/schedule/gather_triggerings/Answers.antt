@@ -1,4 +1,4 @@
-use Rattle.std.proofs.Common.{◌+◌, ◌∙◌, ◌++◌, [], ◌∷◌, take, sym, ap}
+use Rattle.std.proofs.Common.{rules, ◌+◌, ◌∙◌, ◌++◌, [], ◌∷◌, take, sym, ap}
 use Rattle.std.proofs.lemmas.List.{take_more}
 use Rattle.fr_base.specs.Book.{placements_of}
 use Rattle.fr_office.proofs.GatherLaws.{gathered-more, gathered-all}
@@ -12,16 +12,19 @@ loop-supplier-preserved g c =
     let i = c.loop-supplier.supplier-index in
     let suppliers = c.args.suppliers.now in
     record {
-      reads = reads_then _ _ _ _ _ _ c.loop-supplier.invariant.reads c.find_page.ensures.reads;
+      reads = reads_then _ _ _ _ _ _ c.loop-supplier.invariant.reads c.find_page.ensures.finds.reads;
       gathered = λ now.
           gathered-more (λ p t. placements_of t) (records.stands c.args.records.now) c.args.variant (records.stands c.loop-supplier.records) (records.stands c.find_page.new.records)
           c.supplier-item.result (take i suppliers) (take (i + 1) suppliers) c.lent.result.now c.loop-supplier.triggerings c.push_page.new.self
-          (c.loop-supplier.invariant.gathered (c.find_page.ensures.reads.falls now)) (finds-lent _ _ _ _ _ _ c.lent.ensures (c.in_ok-find_page.ensures.page now)) c.in_ok-push_page.ensures.ok
+          (c.loop-supplier.invariant.gathered (c.find_page.ensures.finds.reads.falls now)) (finds-lent _ _ _ _ _ _ c.lent.ensures (c.in_ok-find_page.ensures.finds.told now)) c.in_ok-push_page.ensures.ok
           (take_more suppliers i c.supplier-item.result c.loop-supplier-test.true ∙ ap (λ s. take i suppliers ++ s ∷ []) (sym c.supplier-item.is));
     }
 
-pub returns-clause-gathers : goal.returns-clause-gathers
-returns-clause-gathers g c = λ now.
-    let records = g.R.Records in
-    gathered-all (λ p t. placements_of t) (records.stands c.args.records.now) c.args.variant (records.stands c.loop-supplier.records)
-    c.loop-supplier.supplier-index c.args.suppliers.now c.loop-supplier.triggerings c.loop-supplier-test.false (c.loop-supplier.invariant.gathered now)
+pub returns : goal.returns
+returns g c = record {
+  reads = search (rules, reads_then);
+  told = λ now.
+      let records = g.R.Records in
+      gathered-all (λ p t. placements_of t) (records.stands c.args.records.now) c.args.variant (records.stands c.loop-supplier.records)
+      c.loop-supplier.supplier-index c.args.suppliers.now c.loop-supplier.triggerings c.loop-supplier-test.false (c.loop-supplier.invariant.gathered now);
+}

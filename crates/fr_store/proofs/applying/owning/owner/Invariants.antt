@@ -10,5 +10,5 @@ invariant-loop g l =
     let old = state g.S.Store l.fn.tx.conn.now in
     let now = state g.S.Store l.tx.conn.now in
     (l.tx.conn.ghost_name ≡ l.fn.tx.conn.ghost_name)
-    × (HasCleanDisk now → IsTrue old.in_transaction → HasTables old.now → HasClimbed l.fn.variant l.fn.supplier l.fn.frame l.above old now)
+    × (HasCleanDisk now → IsTrue old.in_transaction → HasTables old.now → HasClimbed l.fn.key l.above old now)
     × Survives old now (λ _. ⊥)

@@ -1,4 +1,4 @@
-use Rattle.std.proofs.Common.{◌∙◌, option_map, slice_get, ap}
+use Rattle.std.proofs.Common.{rules, ◌∙◌, option_map, slice_get, ap}
 use Rattle.sqlite.specs.Held.{state}
 use Rattle.fr_tables.specs.Changes.{tables_of}
 use Rattle.fr_store.specs.Reading.{holder_shown}
@@ -6,8 +6,13 @@ use Rattle.fr_store.proofs.ReadingLemmas.{told_ok}
 use Rattle.fr_store.proofs.HolderLemmas.{holder_told}
 use Rattle.fr_store.proofs.store.Store.holder.Goals as goal
 
-pub returns-clause-holder : goal.returns-clause-holder
-returns-clause-holder g c clean cluster b stands =
-    told_ok _ _ (λ found read. holder_told c.args.variant.now c.args.slot c.args.channel (tables_of (state g.S.Store c.args.self.now.conn)) cluster.params.cycles b stands.for.rows c.in_ok-rows.rows.items found
-    (c.in_ok-rows.ensures.listed clean stands.has).0 (read ∙ ap (λ rows. option_map holder_shown (slice_get rows 0)) c.as_slice.ensures.value))
-    c.first_holder.result c.first_holder.ensures.holder
+pub returns : goal.returns
+returns g c = record {
+  told = λ clean cluster b stands. told_ok _ _ (λ found read. holder_told c.args.variant.now c.args.slot c.args.channel (tables_of (state g.S.Store c.args.self.now.conn)) cluster.params.cycles b stands.for.rows c.in_ok-rows.rows.items found
+      (c.in_ok-rows.ensures.does clean stands.has).0 (read ∙ ap (λ rows. option_map holder_shown (slice_get rows 0)) c.as_slice.ensures.value))
+      c.first_holder.result c.first_holder.ensures.holder;
+  config = search rules;
+  refused = search rules;
+  stays = search rules;
+  spares = search rules;
+}

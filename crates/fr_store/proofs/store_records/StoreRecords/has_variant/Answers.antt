@@ -14,7 +14,7 @@ returns-clause-has g c clean cluster b stored =
     let ready = c.in_ok-require_open.ensures.open clean_mid in
     told mid (state g.S.Store c.has_variant.new.self.conn) c.require_open.new.store.config c.has_variant.new.self.config c.has_variant.ensures.config clean cluster b there
     (λ has. has ≡ contains b.variants c.args.variant) c.has_variant.result c.or_unavailable.result c.or_unavailable.ensures ready c.has_variant.ensures.stays
-    (c.has_variant.ensures.has clean cluster b (there.rows ready).0)
+    (c.has_variant.ensures.told clean cluster b (there.rows ready).0)
 
 pub returns-clause-reads : goal.returns-clause-reads
 returns-clause-reads g c =

@@ -15,7 +15,7 @@ returns-clause-import g c clean cluster b stored =
     let ready = c.in_ok-require_open.ensures.open clean_mid in
     told mid (state g.S.Store c.import.new.self.conn) c.require_open.new.store.config c.import.new.self.config c.import.ensures.config clean cluster b there
     (λ found. option_map kept_of found ≡ get b.imports (c.args.supplier, c.args.label)) c.import.result c.or_unavailable.result c.or_unavailable.ensures ready c.import.ensures.stays
-    (c.import.ensures.import clean cluster b (there.rows ready).0)
+    (c.import.ensures.told clean cluster b (there.rows ready).0)
 
 pub returns-clause-reads : goal.returns-clause-reads
 returns-clause-reads g c =

@@ -15,7 +15,7 @@ returns-clause-imports g c clean cluster b stored =
     let ready = c.in_ok-require_open.ensures.open clean_mid in
     told mid (state g.S.Store c.imports.new.self.conn) c.require_open.new.store.config c.imports.new.self.config c.imports.ensures.config clean cluster b there
     (λ count. count ≡ len (own c.args.supplier b.imports)) c.imports.result c.or_unavailable.result c.or_unavailable.ensures ready c.imports.ensures.stays
-    (c.imports.ensures.imports clean cluster b (there.rows ready).0)
+    (c.imports.ensures.told clean cluster b (there.rows ready).0)
 
 pub returns-clause-reads : goal.returns-clause-reads
 returns-clause-reads g c =

@@ -16,7 +16,7 @@ returns-in_err-holder-clause-held g c clean cluster b stored =
     let ready = c.in_ok-require_open.ensures.open clean_mid in
     let known = told mid (state g.S.Store c.holder.new.self.conn) c.require_open.new.store.config c.holder.new.self.config c.holder.ensures.config clean cluster b there
     (λ found. option_map as_holder found ≡ holder_in b c.args.variant (c.args.slot, c.args.channel)) c.holder.result c.or_unavailable.result c.or_unavailable.ensures ready c.holder.ensures.stays
-    (c.holder.ensures.holder clean cluster b (there.rows ready).0) in
+    (c.holder.ensures.told clean cluster b (there.rows ready).0) in
     let why = subst (λ o. MatchResult o (λ found. option_map as_holder found ≡ holder_in b c.args.variant (c.args.slot, c.args.channel)) (λ e. e ≡ Unavailable)) c.in_err-holder.was known.1 in
     let is : c.from_residual-in_err-holder.result ≡ Err c.in_err-holder.field-0.0 = search rules in (
       known.0,
@@ -31,7 +31,7 @@ returns-clause-held g c clean cluster b stored =
     let ready = c.in_ok-require_open.ensures.open clean_mid in
     let known = told mid (state g.S.Store c.holder.new.self.conn) c.require_open.new.store.config c.holder.new.self.config c.holder.ensures.config clean cluster b there
     (λ found. option_map as_holder found ≡ holder_in b c.args.variant (c.args.slot, c.args.channel)) c.holder.result c.or_unavailable.result c.or_unavailable.ensures ready c.holder.ensures.stays
-    (c.holder.ensures.holder clean cluster b (there.rows ready).0) in
+    (c.holder.ensures.told clean cluster b (there.rows ready).0) in
     let who = subst (λ o. MatchResult o (λ found. option_map as_holder found ≡ holder_in b c.args.variant (c.args.slot, c.args.channel)) (λ e. e ≡ Unavailable)) c.in_ok-holder.was known.1 in
     let is : c.is_some.result ≡ is_some c.in_ok-holder.holder = search rules in
     (known.0, is ∙ held_as b c.args.variant (c.args.slot, c.args.channel) c.in_ok-holder.holder who)

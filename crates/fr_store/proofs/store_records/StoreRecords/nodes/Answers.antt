@@ -14,7 +14,7 @@ returns-clause-nodes g c clean cluster b stored =
     let ready = c.in_ok-require_open.ensures.open clean_mid in
     told mid (state g.S.Store c.nodes.new.self.conn) c.require_open.new.store.config c.nodes.new.self.config c.nodes.ensures.config clean cluster b there
     (λ names. names.items ≡ nodes_in b c.args.supplier) c.nodes.result c.or_unavailable.result c.or_unavailable.ensures ready c.nodes.ensures.stays
-    (c.nodes.ensures.nodes clean cluster b (there.rows ready).0)
+    (c.nodes.ensures.told clean cluster b (there.rows ready).0)
 
 pub returns-clause-reads : goal.returns-clause-reads
 returns-clause-reads g c =

@@ -17,15 +17,15 @@ returns-clause-params g c =
 pub returns-clause-page : goal.returns-clause-page
 returns-clause-page g c clean cluster b stored =
     let mid = state g.S.Store c.require_open.new.store.conn in
-    let clean_mid : HasCleanDisk mid = omega (arith, c.page.ensures.spares.clean, clean) in
+    let clean_mid : HasCleanDisk mid = omega (arith, c.page.ensures.tells.spares.clean, clean) in
     let there = c.in_ok-require_open.ensures.stands clean_mid cluster b stored in
     let ready = c.in_ok-require_open.ensures.open clean_mid in
-    told mid (state g.S.Store c.page.new.self.conn) c.require_open.new.store.config c.page.new.self.config c.page.ensures.config clean cluster b there
-    (λ found. found ≡ page_of cluster.params b c.args.supplier c.args.variant) c.page.result c.or_unavailable.result c.or_unavailable.ensures ready c.page.ensures.stays
+    told mid (state g.S.Store c.page.new.self.conn) c.require_open.new.store.config c.page.new.self.config c.page.ensures.tells.config clean cluster b there
+    (λ found. found ≡ page_of cluster.params b c.args.supplier c.args.variant) c.page.result c.or_unavailable.result c.or_unavailable.ensures ready c.page.ensures.tells.stays
     (given c.page.result (cluster.params.cycles ≡ cluster.params.cycles) (λ found. found ≡ page_of cluster.params b c.args.supplier c.args.variant) refl
-    (subst (λ x. IfOk c.page.result (λ found. cluster.params.cycles ≡ x.cluster.params.cycles → found ≡ page_of x.cluster.params b c.args.supplier c.args.variant)) there.config (c.page.ensures.page clean cluster b (there.rows ready).0)))
+    (subst (λ x. IfOk c.page.result (λ found. cluster.params.cycles ≡ x.cluster.params.cycles → found ≡ page_of x.cluster.params b c.args.supplier c.args.variant)) there.config (c.page.ensures.tells.told clean cluster b (there.rows ready).0)))
 
 pub returns-clause-reads : goal.returns-clause-reads
 returns-clause-reads g c =
     reads_on (λ s. state g.S.Store s.conn) (λ s. s.config) _ _ _ c.require_open.ensures.reads (λ clean. c.in_ok-require_open.ensures.open clean)
-    c.page.ensures.spares c.page.ensures.config c.page.ensures.stays
+    c.page.ensures.tells.spares c.page.ensures.tells.config c.page.ensures.tells.stays

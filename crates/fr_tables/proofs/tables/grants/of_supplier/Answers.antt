@@ -5,12 +5,12 @@ use Rattle.fr_tables.proofs.GrantLemmas.{by_supplier, select_text}
 use Rattle.fr_tables.proofs.FindLemmas.{finds, spares}
 use Rattle.fr_tables.proofs.tables.grants.of_supplier.Goals as goal
 
-pub returns-clause-listed : goal.returns-clause-listed
-returns-clause-listed g c clean was =
-    finds of_grant shows_grant grant_in _ any_order 9 select_text _ (by_supplier c.args.variant.now c.args.supplier.now) (state g.S.Store c.args.conn.now) (state g.S.Store c.query_all.new.self) was was.grants c.query_all.result
-    (rw (c.params-to_sql.ensures, c.params-to_sql-2.ensures, c.as_str.ensures.value, c.as_str-2.ensures.value) at (c.query_all.ensures.ok clean)) (rw (c.params-to_sql.ensures, c.params-to_sql-2.ensures, c.as_str.ensures.value, c.as_str-2.ensures.value) at (c.query_all.ensures.err clean))
-
-pub returns-clause-spares : goal.returns-clause-spares
-returns-clause-spares g c =
-    spares of_grant shows_grant grant_in _ any_order 9 select_text _ (by_supplier c.args.variant.now c.args.supplier.now) (state g.S.Store c.args.conn.now) (state g.S.Store c.query_all.new.self)
-    (rw (c.params-to_sql.ensures, c.params-to_sql-2.ensures, c.as_str.ensures.value, c.as_str-2.ensures.value) at c.query_all.ensures.survives)
+pub returns : goal.returns
+returns g c = record {
+  does = λ clean was.
+      finds of_grant shows_grant grant_in _ any_order 9 select_text _ (by_supplier c.args.variant.now c.args.supplier.now) (state g.S.Store c.args.conn.now) (state g.S.Store c.query_all.new.self) was was.grants c.query_all.result
+      (rw (c.params-to_sql.ensures, c.params-to_sql-2.ensures, c.as_str.ensures.value, c.as_str-2.ensures.value) at (c.query_all.ensures.ok clean)) (rw (c.params-to_sql.ensures, c.params-to_sql-2.ensures, c.as_str.ensures.value, c.as_str-2.ensures.value) at (c.query_all.ensures.err clean));
+  spares =
+      spares of_grant shows_grant grant_in _ any_order 9 select_text _ (by_supplier c.args.variant.now c.args.supplier.now) (state g.S.Store c.args.conn.now) (state g.S.Store c.query_all.new.self)
+      (rw (c.params-to_sql.ensures, c.params-to_sql-2.ensures, c.as_str.ensures.value, c.as_str-2.ensures.value) at c.query_all.ensures.survives);
+}

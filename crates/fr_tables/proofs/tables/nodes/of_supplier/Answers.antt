@@ -5,12 +5,12 @@ use Rattle.fr_tables.proofs.NodeLemmas.{by_supplier, select_text}
 use Rattle.fr_tables.proofs.FindLemmas.{finds, spares}
 use Rattle.fr_tables.proofs.tables.nodes.of_supplier.Goals as goal
 
-pub returns-clause-listed : goal.returns-clause-listed
-returns-clause-listed g c clean was =
-    finds of_node shows_node node_in _ nodes_cmp 5 select_text _ (by_supplier c.args.supplier.now) (state g.S.Store c.args.conn.now) (state g.S.Store c.query_all.new.self) was was.nodes c.query_all.result
-    (rw (c.params-to_sql.ensures, c.as_str.ensures.value) at (c.query_all.ensures.ok clean)) (rw (c.params-to_sql.ensures, c.as_str.ensures.value) at (c.query_all.ensures.err clean))
-
-pub returns-clause-spares : goal.returns-clause-spares
-returns-clause-spares g c =
-    spares of_node shows_node node_in _ nodes_cmp 5 select_text _ (by_supplier c.args.supplier.now) (state g.S.Store c.args.conn.now) (state g.S.Store c.query_all.new.self)
-    (rw (c.params-to_sql.ensures, c.as_str.ensures.value) at c.query_all.ensures.survives)
+pub returns : goal.returns
+returns g c = record {
+  does = λ clean was.
+      finds of_node shows_node node_in _ nodes_cmp 5 select_text _ (by_supplier c.args.supplier.now) (state g.S.Store c.args.conn.now) (state g.S.Store c.query_all.new.self) was was.nodes c.query_all.result
+      (rw (c.params-to_sql.ensures, c.as_str.ensures.value) at (c.query_all.ensures.ok clean)) (rw (c.params-to_sql.ensures, c.as_str.ensures.value) at (c.query_all.ensures.err clean));
+  spares =
+      spares of_node shows_node node_in _ nodes_cmp 5 select_text _ (by_supplier c.args.supplier.now) (state g.S.Store c.args.conn.now) (state g.S.Store c.query_all.new.self)
+      (rw (c.params-to_sql.ensures, c.as_str.ensures.value) at c.query_all.ensures.survives);
+}

@@ -3,7 +3,11 @@ use Rattle.std.proofs.Common.{pos}
 use Rattle.fr_tables.proofs.RegisterLemmas.{updates}
 use Rattle.fr_tables.proofs.tables.register.update.Goals as goal
 
-pub returns-clause-renewed : goal.returns-clause-renewed
-returns-clause-renewed g c clean inside was =
-    updates (pos c.args.schema) (state g.S.Store c.args.tx.now.conn.now) (state g.S.Store c.execute.new.self.conn.now) c.execute.result was
-    (rw c.params-to_sql.ensures at (c.execute.ensures.runs clean inside))
+pub returns : goal.returns
+returns g c = record {
+  same_reference = c.execute.ensures.same_reference;
+  does = λ clean inside was.
+      updates (pos c.args.schema) (state g.S.Store c.args.tx.now.conn.now) (state g.S.Store c.execute.new.self.conn.now) c.execute.result was
+      (rw c.params-to_sql.ensures at (c.execute.ensures.runs clean inside));
+  survives = c.execute.ensures.survives;
+}

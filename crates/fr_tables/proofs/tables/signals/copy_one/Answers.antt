@@ -2,7 +2,11 @@ use Rattle.sqlite.specs.Held.{state}
 use Rattle.fr_tables.proofs.SignalLemmas.{copies_one}
 use Rattle.fr_tables.proofs.tables.signals.copy_one.Goals as goal
 
-pub returns-clause-copied : goal.returns-clause-copied
-returns-clause-copied g c clean inside was =
-    copies_one c.args.from.now c.args.to.now c.args.supplier.now c.args.frame.now (state g.S.Store c.args.tx.now.conn.now) (state g.S.Store c.execute.new.self.conn.now) c.execute.result was
-    (rw (c.params-to_sql.ensures, c.params-to_sql-2.ensures, c.params-to_sql-3.ensures, c.params-to_sql-4.ensures, c.as_str.ensures.value, c.as_str-2.ensures.value, c.as_str-3.ensures.value, c.as_str-4.ensures.value) at (c.execute.ensures.runs clean inside))
+pub returns : goal.returns
+returns g c = record {
+  same_reference = c.execute.ensures.same_reference;
+  does = λ clean inside was.
+      copies_one c.args.from.now c.args.to.now (state g.S.Store c.args.tx.now.conn.now) (state g.S.Store c.execute.new.self.conn.now) c.execute.result was
+      (rw (c.params-to_sql.ensures, c.params-to_sql-2.ensures, c.params-to_sql-3.ensures, c.params-to_sql-4.ensures, c.as_str.ensures.value, c.as_str-2.ensures.value, c.as_str-3.ensures.value, c.as_str-4.ensures.value) at (c.execute.ensures.runs clean inside));
+  survives = c.execute.ensures.survives;
+}

@@ -5,12 +5,12 @@ use Rattle.fr_tables.proofs.VariantLemmas.{by_order, select_text}
 use Rattle.fr_tables.proofs.FindLemmas.{finds, spares}
 use Rattle.fr_tables.proofs.tables.variants.by_name.Goals as goal
 
-pub returns-clause-listed : goal.returns-clause-listed
-returns-clause-listed g c clean was =
-    finds of_variant shows_variant variant_in _ variants_cmp 7 select_text _ by_order (state g.S.Store c.args.conn.now) (state g.S.Store c.query_all.new.self) was was.variants c.query_all.result
-    (c.query_all.ensures.ok clean) (c.query_all.ensures.err clean)
-
-pub returns-clause-spares : goal.returns-clause-spares
-returns-clause-spares g c =
-    spares of_variant shows_variant variant_in _ variants_cmp 7 select_text _ by_order (state g.S.Store c.args.conn.now) (state g.S.Store c.query_all.new.self)
-    c.query_all.ensures.survives
+pub returns : goal.returns
+returns g c = record {
+  does = λ clean was.
+      finds of_variant shows_variant variant_in _ variants_cmp 7 select_text _ by_order (state g.S.Store c.args.conn.now) (state g.S.Store c.query_all.new.self) was was.variants c.query_all.result
+      (c.query_all.ensures.ok clean) (c.query_all.ensures.err clean);
+  spares =
+      spares of_variant shows_variant variant_in _ variants_cmp 7 select_text _ by_order (state g.S.Store c.args.conn.now) (state g.S.Store c.query_all.new.self)
+      c.query_all.ensures.survives;
+}
