@@ -1,7 +1,5 @@
 //! The headers and rows of an import's file, checked by themselves.
-ghost use Rattle.std.specs.Prelude.{◌≡◌, option_map};
-ghost use Rattle.std.specs.Result.{result_ok};
-ghost use Rattle.fr_base.specs.Checks.{placement, signal};
+ghost use Rattle.std.specs.Prelude.{◌≡◌};
 ghost use Rattle.fr_base.specs.ImportRows.{frame_row, placement_row, signal_row};
 
 use crate::checks::{self, read_name};
@@ -101,41 +99,5 @@ impl Row {
         let (frame, name) = (read_name(frame)?, read_name(signal)?);
         let signal = checks::signal(name, start, length, order.as_bytes())?;
         Ok(Row::AddSignal { frame, signal })
-    }
-
-    /// The row of placements with these names and fields, or its first refusal. The channels need
-    /// not be a text.
-    #[tactic(auto, unfolding(crate::proofs::ImportLemmas::rows_open))]
-    #[inline(always)]
-    pub fn place(
-        params: &Params,
-        frame: Name,
-        node: Name,
-        slot: u32,
-        channels: &[u8],
-        base: u32,
-        repetition: u32,
-    ) -> Option<Row>
-        ensures { result ≡ option_map (Row.Place frame node)
-            (result_ok (placement params.now slot channels.now base repetition)) }
-    {
-        let placement = checks::placement(params, slot, channels, base, repetition).ok()?;
-        Some(Row::Place {
-            frame,
-            node,
-            placement,
-        })
-    }
-
-    /// The row of signals with these names and fields, or its first refusal. The order need not be
-    /// a text.
-    #[tactic(auto, unfolding(crate::proofs::ImportLemmas::rows_open))]
-    #[inline(always)]
-    pub fn add_signal(frame: Name, name: Name, start: u32, length: u32, order: &[u8]) -> Option<Row>
-        ensures { result ≡ option_map (Row.AddSignal frame)
-            (result_ok (signal name start length order.now)) }
-    {
-        let signal = checks::signal(name, start, length, order).ok()?;
-        Some(Row::AddSignal { frame, signal })
     }
 }

@@ -1,5 +1,5 @@
 -- Lemmas on what the bytes of a cluster file say.
-use Rattle.std.proofs.Common.{◌≡◌, Less, nat_lt, not, ℕ, ◌≤◌, ◌-◌, length, arith, List, [], ◌∷◌, ◌++◌, Bool, true, false, ◌&&◌, ◌||◌, Option, Some, None, option_map, Result, Ok, Err, MatchResult, Bor, sym, ◌∙◌, append_assoc, append-nil, map, string_bytes, IsUtf8, if◌then◌else◌, refl, ap}
+use Rattle.std.proofs.Common.{◌≡◌, Less, nat_lt, not, ℕ, ◌≤◌, length, arith, List, [], ◌∷◌, ◌++◌, Bool, true, false, ◌&&◌, ◌||◌, Option, Some, None, option_map, Result, Ok, Err, MatchResult, Bor, sym, ◌∙◌, append_assoc, append-nil, map, string_bytes, IsUtf8, if◌then◌else◌, refl, ap}
 use Rattle.std.specs.Prelude.{⊤}
 use Rattle.std.specs.List.{list_all, list_any}
 use Rattle.std.specs.Map.{keys_of as map_keys}

@@ -1,10 +1,9 @@
 -- An import's rows one after the other, and the records that a reader has left.
 use Rattle.std.proofs.Common.{◌≡◌, ℕ, zero, suc, ◌+◌, ◌-◌, ◌*◌, ◌<◌, ◌≤◌, Bool, true, false, List, [], ◌∷◌, length, Some, None, Option, Result, Ok, Err, ◌^◌, Bor, refl, sym, ap, ◌∙◌, inl, inr, ◌⊎◌, ◌++◌, add-one, arith, map, take, drop, get_or, append-nil, append_assoc}
-use Rattle.std.specs.Prelude.{⊤, IfSome, is_err, option_map, codes, not, ◌&&◌, ◌==◌, if◌then◌else◌}
+use Rattle.std.specs.Prelude.{⊤, IfSome, is_err, option_map, not, ◌&&◌, ◌==◌, if◌then◌else◌}
 use Rattle.std.proofs.lemmas.Bool.{le-ltb}
 use Rattle.std.specs.List.{list_all}
-use Rattle.std.specs.Result.{result_ok, is_ok}
-use Rattle.std.proofs.lemmas.Slice.Eq.{bytes_eq-Decides}
+use Rattle.std.specs.Result.{is_ok}
 use Rattle.std.specs.Cmp.Lexicographic.{pointwise}
 use Rattle.std.specs.Char.{digit_value}
 use Rattle.std.specs.Str.Parse.{digits_value}
@@ -27,19 +26,15 @@ use Rattle.csv.specs.Records.{field_at}
 use Rattle.csv.proofs.ReadFacts.{rows-end as none-read, rows-more as one-read}
 use Rattle.fr_base.specs.Refusing.{◌>>=◌, ◌>>◌, ◌or◌, refuse◌when◌}
 use Rattle.fr_base.specs.Names.{same_text, is_digit, is_name}
-use Rattle.fr_base.specs.Channels.{channels_of_text}
-use Rattle.fr_base.specs.Signals.{order_of_text}
-use Rattle.fr_base.specs.Checks.{name, placement as placement_of, cycles as cycles_of, slot as slot_of, channels as channels_of, signal as signal_of}
+use Rattle.fr_base.specs.Checks.{name}
 use Rattle.fr_base.proofs.NameLemmas.{name_is_text}
 use Rattle.fr_base.specs.ImportRows.{records_of, text_at, number, number_at, placement_row, signal_row, frame_in, placement_in, signal_in, row_of, row_at, rows_from, rows_below, rows_of_records, up_to_refused, rows_of_body, all_rows_of_body}
 use Rattle.fr_base.specs.declared.import.Header.{Header}
-use Rattle.fr_base.specs.declared.import.Header.TheVariants.{Placements, Signals}
 use Rattle.fr_base.specs.declared.import.Row.{Row}
-use Rattle.fr_base.specs.declared.import.Row.TheVariants.{Place, AddSignal}
 use Rattle.fr_base.specs.declared.import.RowRead.{RowRead}
 use Rattle.fr_base.specs.declared.params.Params.{Params}
 use Rattle.fr_base.specs.declared.refusal.Refusal.{Refusal}
-use Rattle.fr_base.specs.declared.refusal.Refusal.TheVariants.{BadText, BadChannel, Limit}
+use Rattle.fr_base.specs.declared.refusal.Refusal.TheVariants.{BadText, BadName, Limit}
 use Rattle.fr_text.specs.ImportText.{records_left, left_of, IsPlain}
 
 -- what a proof about a row opens
@@ -343,124 +338,40 @@ pub number_at_none : (fields : List (List ℕ)) (i : ℕ) → field_at fields i 
 unfolding ◌>>=◌ ◌>>◌ ◌or◌ refuse◌when◌ text_at number_at
 number_at_none fields i e = rw e refl
 
--- ---- a row that nothing refuses
+-- ---- a row, or its refusal
 
-text_at-is : (fields : List (List ℕ)) (i : ℕ) (f : List ℕ) → field_at fields i ≡ Some f → is_utf8 f ≡ true → text_at fields i ≡ Ok f
-unfolding ◌>>=◌ ◌>>◌ ◌or◌ refuse◌when◌ text_at
-text_at-is fields i f e is = rw (e, is) refl
-
-number_at-is : (fields : List (List ℕ)) (i : ℕ) (f : List ℕ) (n : ℕ) → field_at fields i ≡ Some f → number f ≡ Ok n → number_at fields i ≡ Ok n
-number_at-is fields i f n e is = number_at_bytes fields i f e ∙ is
-
-name_text : (text : List ℕ) → is_name text ≡ true → is_utf8 text ≡ true
-name_text text named = is_utf8-from_IsUtf8 text (name_is_text text named)
-
--- what is no text is none of the words of channels, and of orders
-other_word : (text word : List ℕ) → is_name word ≡ true → is_utf8 text ≡ false → same_text text word ≡ false
-other_word text word named e = by (same_text text word) refl
+-- where nothing is refused behind two names, they are texts
+names_are_texts : {A : Type 0} (f n : List ℕ) (next : List ℕ → List ℕ → Result A Refusal) → is_err (name f >>= λ f. name n >>= λ n. next f n) ≡ false
+    → (is_utf8 f ≡ true) × (is_utf8 n ≡ true)
+unfolding name ◌>>=◌
+names_are_texts f n next = by (is_name f) (is_name n) refl refl
   where
-    by : (b : Bool) → same_text text word ≡ b → b ≡ false
-    by true same =
-        let equal : text ≡ word = (bytes_eq-Decides text word).0 same in
-        let is : is_utf8 word ≡ true = name_text word named in
-        cc
-    by false same = refl
+    is_text : (text : List ℕ) → is_name text ≡ true → is_utf8 text ≡ true
+    is_text text named = is_utf8-from_IsUtf8 text (name_is_text text named)
 
-no_channels : (text : List ℕ) → is_utf8 text ≡ false → channels_of_text text ≡ None
-unfolding is_name
-no_channels text e = rw (other_word text (codes "A") refl e, other_word text (codes "AB") refl e, other_word text (codes "B") refl e) refl
+    by : (b c : Bool) → is_name f ≡ b → is_name n ≡ c
+        → is_err ((if b then Ok f else Err BadName) >>= λ f. (if c then Ok n else Err BadName) >>= λ n. next f n) ≡ false
+        → (is_utf8 f ≡ true) × (is_utf8 n ≡ true)
+    by true true ef en e = (is_text f ef, is_text n en)
+    by true false ef en e = cc
+    by false c ef en e = cc
 
-no_order : (text : List ℕ) → is_utf8 text ≡ false → order_of_text text ≡ None
-unfolding is_name
-no_order text e = rw (other_word text (codes "little") refl e, other_word text (codes "big") refl e) refl
+-- so what is read of the bytes at the places of names is the row
+pub placement_read : (p : Params) (fields : List (List ℕ)) (f n channels : List ℕ) (slot base repetition : ℕ) (row : Result Row Refusal)
+    → row ≡ placement_row p f n slot channels base repetition → is_err row ≡ false → field_at fields 0 ≡ Some f → field_at fields 1 ≡ Some n
+    → number_at fields 2 ≡ Ok slot → text_at fields 3 ≡ Ok channels → number_at fields 4 ≡ Ok base → number_at fields 5 ≡ Ok repetition → row ≡ placement_in p fields
+unfolding placement_in placement_row text_at ◌>>=◌ ◌>>◌ ◌or◌ refuse◌when◌
+placement_read p fields f n channels slot base repetition row is read e0 e1 e2 e3 e4 e5 =
+    let texts = names_are_texts f n _ (rw is at read) in
+    rw (e0, e1, texts.0, texts.1, e2, e3, e4, e5) is
 
-no_placement : (p : Params) (slot : ℕ) (text : List ℕ) (base repetition : ℕ) → is_utf8 text ≡ false → result_ok (placement_of p slot text base repetition) ≡ None
-unfolding placement_of channels_of ◌>>=◌ ◌or◌
-no_placement p slot text base repetition e = rw (no_channels text e) (by (cycles_of p base repetition) (slot_of p slot))
-  where
-    by : {A B C : Type 0} (r : Result A Refusal) (k : Result B Refusal) → result_ok {T = C} (r >>= λ _. k >>= λ _. Err BadChannel) ≡ None
-    by (Ok r) (Ok k) = refl
-    by (Ok r) (Err e) = refl
-    by (Err e) k = refl
-
-no_signal : (name : List ℕ) (start size : ℕ) (text : List ℕ) → is_utf8 text ≡ false → result_ok (signal_of name start size text) ≡ None
-unfolding signal_of ◌>>=◌ ◌or◌
-no_signal name start size text e = rw (no_order text e) refl
-
--- what was made of a value was made of one that is there
-made : {A B : Type 0} (f : A → B) (r : Result A Refusal) (x : B) → option_map f (result_ok r) ≡ Some x → (r >>= λ v. Ok (f v)) ≡ Ok x
-unfolding ◌>>=◌
-made f (Ok v) x e = cc
-made f (Err e) x h = cc
-
--- and of a text, where of no other bytes any is made
-of_text : {A B : Type 0} (f : A → B) (r : Result A Refusal) (x : B) (text : List ℕ) → option_map f (result_ok r) ≡ Some x → (is_utf8 text ≡ false → result_ok r ≡ None) → is_utf8 text ≡ true
-of_text f r x text e none = by (is_utf8 text) refl
-  where
-    by : (b : Bool) → is_utf8 text ≡ b → b ≡ true
-    by true is = refl
-    by false is = let gone = none is in let no : option_map f None ≡ Some x = rw gone at e in cc
-
-placement_row-is : (p : Params) (frame node channels : List ℕ) (slot base repetition : ℕ) (row : Row) → is_name frame ≡ true → is_name node ≡ true
-    → option_map (Place frame node) (result_ok (placement_of p slot channels base repetition)) ≡ Some row → placement_row p frame node slot channels base repetition ≡ Ok row
-unfolding placement_row name ◌>>=◌
-placement_row-is p frame node channels slot base repetition row f n e = rw (f, n) (made (Place frame node) (placement_of p slot channels base repetition) row e)
-
-signal_row-is : (frame other order : List ℕ) (start size : ℕ) (row : Row) → is_name frame ≡ true → is_name other ≡ true
-    → option_map (AddSignal frame) (result_ok (signal_of other start size order)) ≡ Some row → signal_row frame other start size order ≡ Ok row
-unfolding signal_row name ◌>>=◌
-signal_row-is frame other order start size row f n e = rw (f, n) (made (AddSignal frame) (signal_of other start size order) row e)
-
--- a field that was read as a name is one
-pub name-read : (fields : List (List ℕ)) (i : ℕ) (bytes named : List ℕ) → field_at fields i ≡ Some bytes → Some named ≡ (if is_name bytes then Some bytes else None)
-    → (field_at fields i ≡ Some named) × (is_name named ≡ true)
-name-read fields i bytes named at e = by (is_name bytes) refl e
-  where
-    by : (b : Bool) → is_name bytes ≡ b → Some named ≡ (if b then Some bytes else None) → (field_at fields i ≡ Some named) × (is_name named ≡ true)
-    by true is e = let same : bytes ≡ named = cc in (at ∙ ap (λ x. Some x) same, sym (ap is_name same) ∙ is)
-    by false is e = cc
-
-if_some : {A : Type 0} (o : Option A) (P : A → Type 0) → ((x : A) → o ≡ Some x → P x) → IfSome o P
-if_some (Some x) P gives = gives x refl
-if_some None P gives = tt
-
-pub plain_placement-is : (p : Params) (fields : List (List ℕ)) (frame node slot channels base repetition : List ℕ) (s b r : ℕ) (read : Option Row)
-    → length fields ≡ 6 → field_at fields 0 ≡ Some frame → field_at fields 1 ≡ Some node → field_at fields 2 ≡ Some slot → field_at fields 3 ≡ Some channels
-    → field_at fields 4 ≡ Some base → field_at fields 5 ≡ Some repetition → is_name frame ≡ true → is_name node ≡ true
-    → number slot ≡ Ok s → number base ≡ Ok b → number repetition ≡ Ok r
-    → read ≡ option_map (Place frame node) (result_ok (placement_of p s channels b r)) → IfSome read (λ row. row_of p Placements fields ≡ Ok row)
-unfolding row_of placement_in ◌>>=◌ ◌>>◌ refuse◌when◌
-plain_placement-is p fields frame node slot channels base repetition s b r read size e0 e1 e2 e3 e4 e5 f n ns nb nr is = if_some read _ (λ row some.
-    let e = sym is ∙ some in
-    let text = of_text (Place frame node) (placement_of p s channels b r) row channels e (no_placement p s channels b r) in
-    rw (
-      size,
-      text_at-is fields 0 frame e0 (name_text frame f),
-      text_at-is fields 1 node e1 (name_text node n),
-      number_at-is fields 2 slot s e2 ns,
-      text_at-is fields 3 channels e3 text,
-      number_at-is fields 4 base b e4 nb,
-      number_at-is fields 5 repetition r e5 nr,
-    )
-    (placement_row-is p frame node channels s b r row f n e))
-
-pub plain_signal-is : (p : Params) (fields : List (List ℕ)) (frame other start size order : List ℕ) (s l : ℕ) (read : Option Row)
-    → length fields ≡ 5 → field_at fields 0 ≡ Some frame → field_at fields 1 ≡ Some other → field_at fields 2 ≡ Some start → field_at fields 3 ≡ Some size
-    → field_at fields 4 ≡ Some order → is_name frame ≡ true → is_name other ≡ true → number start ≡ Ok s → number size ≡ Ok l
-    → read ≡ option_map (AddSignal frame) (result_ok (signal_of other s l order)) → IfSome read (λ row. row_of p Signals fields ≡ Ok row)
-unfolding row_of signal_in ◌>>=◌ ◌>>◌ refuse◌when◌
-plain_signal-is p fields frame other start size order s l read count e0 e1 e2 e3 e4 f n ns nl is = if_some read _ (λ row some.
-    let e = sym is ∙ some in
-    let text = of_text (AddSignal frame) (signal_of other s l order) row order e (no_signal other s l order) in
-    rw (
-      count,
-      text_at-is fields 0 frame e0 (name_text frame f),
-      text_at-is fields 1 other e1 (name_text other n),
-      number_at-is fields 2 start s e2 ns,
-      number_at-is fields 3 size l e3 nl,
-      text_at-is fields 4 order e4 text,
-    )
-    (signal_row-is frame other order s l row f n e))
+pub signal_read : (fields : List (List ℕ)) (f n order : List ℕ) (start size : ℕ) (row : Result Row Refusal)
+    → row ≡ signal_row f n start size order → is_err row ≡ false → field_at fields 0 ≡ Some f → field_at fields 1 ≡ Some n
+    → number_at fields 2 ≡ Ok start → number_at fields 3 ≡ Ok size → text_at fields 4 ≡ Ok order → row ≡ signal_in fields
+unfolding signal_in signal_row text_at ◌>>=◌ ◌>>◌ ◌or◌ refuse◌when◌
+signal_read fields f n order start size row is read e0 e1 e2 e3 e4 =
+    let texts = names_are_texts f n _ (rw is at read) in
+    rw (e0, e1, texts.0, texts.1, e2, e3, e4) is
 
 pub refused-where : {A E : Type 0} (r : Result A E) → is_ok r ≡ false → is_err r ≡ true
 refused-where (Ok x) e = cc

@@ -1,18 +1,17 @@
 //! Reads an import's file: comma-separated records. The first is a header, which says what the
 //! others are.
-ghost use Rattle.std.specs.Prelude.{◌≡◌, ◌∷◌, ◌&&◌, ◌+◌, [], map, take, MatchResult, Ok, Err, Some, None, if◌then◌else◌, ◌++◌, true, false, IfOk, IfSome, OnOk};
+ghost use Rattle.std.specs.Prelude.{◌≡◌, ◌∷◌, ◌&&◌, ◌+◌, [], map, take, MatchResult, Ok, Err, Some, None, if◌then◌else◌, ◌++◌, true, false, IfOk, OnOk};
 ghost use Rattle.std.specs.Option.{MatchOption};
 ghost use Rattle.std.specs.Result.{is_ok};
 ghost use Rattle.std.specs.Cmp.Lexicographic.{pointwise};
 ghost use Rattle.csv.specs.Records.{field_at, fields_of};
 ghost use Rattle.fr_base.specs.Names.{same_text};
-ghost use Rattle.fr_base.specs.declared.params.RawParams.{RawParams};
 ghost use Rattle.fr_base.specs.declared.params.Params.{Params};
 ghost use Rattle.fr_base.specs.ImportRows.{records_of, spelled, header_of, text_at, number, number_at, frame_in, placement_in, signal_in, row_of, rows_from, rows_below, rows_of_records, rows_of_body, all_rows_of_body, up_to_refused};
 ghost use Rattle.fr_base.specs.declared.limits.TheConstants.{MAX_ROWS};
 
 use csv::{ByteRecord, Reader, ReaderBuilder};
-use fr_base::{Header, MAX_ROWS, Name, NoMemory, Params, Refusal, Row, RowRead, Rows};
+use fr_base::{Header, MAX_ROWS, NoMemory, Params, Refusal, Row, RowRead, Rows};
 use std::alloc::Global;
 use std::marker::Model;
 
@@ -237,67 +236,13 @@ fn push_row(
     ensures read { IfOk result (λ read.
         read ≡ is_ok (row_of params.now header (fields_of fields.now))) }
 {
-    match header {
-        Header::Frames => {}
-        Header::Placements => {
-            if let Some(row) = plain_placement(params, fields) {
-                rows.push(RowRead { line, row: Ok(row) })?;
-                return Ok(true);
-            }
-        }
-        Header::Signals => {
-            if let Some(row) = plain_signal(fields) {
-                rows.push(RowRead { line, row: Ok(row) })?;
-                return Ok(true);
-            }
-        }
-    }
     let row = row_of(params, header, fields);
     rows.push(RowRead { line, row })?;
     Ok(row.is_ok())
 }
 
-/// The row of placements that the fields are, if nothing refuses it. A caller asks `row_of` why
-/// something does.
-#[inline(always)]
-fn plain_placement(params: &Params, fields: &ByteRecord) -> Option<Row>
-    ensures { IfSome result (λ row.
-        row_of params.now Header.Placements (fields_of fields.now) ≡ Ok row) }
-{
-    if fields.len() != names(Header::Placements).len() {
-        return None;
-    }
-    let frame = Name::from_bytes(fields.get(0)?)?;
-    let node = Name::from_bytes(fields.get(1)?)?;
-    let slot = read_number(fields.get(2)?)?;
-    let channels = fields.get(3)?;
-    let base = read_number(fields.get(4)?)?;
-    let repetition = read_number(fields.get(5)?)?;
-    Row::place(params, frame, node, slot, channels, base, repetition)
-}
-
-/// The row of signals that the fields are, if nothing refuses it. A caller asks `row_of` why
-/// something does.
-#[inline(always)]
-fn plain_signal(fields: &ByteRecord) -> Option<Row>
-    ensures { (params : RawParams)
-        → IfSome result (λ row. row_of params Header.Signals (fields_of fields.now) ≡ Ok row) }
-{
-    if fields.len() != names(Header::Signals).len() {
-        return None;
-    }
-    let frame = Name::from_bytes(fields.get(0)?)?;
-    let signal = Name::from_bytes(fields.get(1)?)?;
-    let start = read_number(fields.get(2)?)?;
-    let length = read_number(fields.get(3)?)?;
-    let order = fields.get(4)?;
-    Row::add_signal(frame, signal, start, length, order)
-}
-
 /// The row that the fields below the header are, or its first refusal.
 #[tactic(auto, unfolding(crate::proofs::ImportTextLemmas::rows_open))]
-#[cold]
-#[inline(never)]
 fn row_of(params: &Params, header: Header, fields: &ByteRecord) -> Result<Row, Refusal>
     ensures { result ≡ row_of params.now header (fields_of fields.now) }
 {
@@ -322,30 +267,42 @@ fn frame_in(fields: &ByteRecord) -> Result<Row, Refusal>
 }
 
 /// The row of placements that the fields are.
-#[tactic(auto, unfolding(crate::proofs::ImportTextLemmas::rows_open))]
+#[tactic(auto, using(crate::proofs::ImportTextLemmas::placement_read), unfolding(crate::proofs::ImportTextLemmas::rows_open))]
 fn placement_in(params: &Params, fields: &ByteRecord) -> Result<Row, Refusal>
     ensures { result ≡ placement_in params.now (fields_of fields.now) }
 {
-    let frame = text_at(fields, 0)?.as_bytes();
-    let node = text_at(fields, 1)?.as_bytes();
+    let frame = field_at(fields, 0)?;
+    let node = field_at(fields, 1)?;
     let slot = number_at(fields, 2)?;
     let channels = text_at(fields, 3)?;
     let base = number_at(fields, 4)?;
     let repetition = number_at(fields, 5)?;
-    Row::placement(params, frame, node, slot, channels, base, repetition)
+    let row = Row::placement(params, frame, node, slot, channels, base, repetition);
+    if row.is_err() {
+        // A field that is no text is refused before one that is no name.
+        text_at(fields, 0)?;
+        text_at(fields, 1)?;
+    }
+    row
 }
 
 /// The row of signals that the fields are.
-#[tactic(auto, unfolding(crate::proofs::ImportTextLemmas::rows_open))]
+#[tactic(auto, using(crate::proofs::ImportTextLemmas::signal_read), unfolding(crate::proofs::ImportTextLemmas::rows_open))]
 fn signal_in(fields: &ByteRecord) -> Result<Row, Refusal>
     ensures { result ≡ signal_in (fields_of fields.now) }
 {
-    let frame = text_at(fields, 0)?.as_bytes();
-    let signal = text_at(fields, 1)?.as_bytes();
+    let frame = field_at(fields, 0)?;
+    let signal = field_at(fields, 1)?;
     let start = number_at(fields, 2)?;
     let length = number_at(fields, 3)?;
     let order = text_at(fields, 4)?;
-    Row::signal(frame, signal, start, length, order)
+    let row = Row::signal(frame, signal, start, length, order);
+    if row.is_err() {
+        // A field that is no text is refused before one that is no name.
+        text_at(fields, 0)?;
+        text_at(fields, 1)?;
+    }
+    row
 }
 
 /// The field at a place.

@@ -81,7 +81,7 @@ impl FirstPlaces {
         }
     }
 
-    // Notes the place for each of the channels that has none yet.
+    // Makes this place the first on each of these channels that has no first place yet.
     fn claim(&mut self, channels: Channels, place: usize)
         ensures { (x : OneChannel)
             → place_on x self.new ≡ option_or (place_on x self.old)

@@ -71,7 +71,8 @@ impl Marks {
         Ok(shown)
     }
 
-    // What is shown at the place of a slot, where the slots from `free` on up to it are free unless it is marked.
+    // What is shown at the place of a slot: the slot, if it is marked; else the gap that ends there, or nothing. The slots
+    // from `free` up to this one are not marked, but this one may be.
     #[tactic(auto, unfolding(crate::specs::Shown::shows_at))]
     fn shows(&self, last: u32, free: u32, slot: u32) -> Shows
         requires { slot < 1024 }

@@ -6,6 +6,17 @@ use crate::fields::{Fields, allow_only, copy_text, flag_in, number_in, text_in};
 use fr_base::{Body, Refusal, Request};
 use std::alloc::Global;
 
+// The fields of a request that makes a placement, or ends one.
+const PLACEMENT: &[&str] = &[
+    "do",
+    "variant",
+    "frame",
+    "slot",
+    "channels",
+    "base",
+    "repetition",
+];
+
 #[tactic(auto, unfolding(crate::specs::RequestText::add_frame))]
 pub(super) fn add_frame(alloc: Global, fields: &Fields) -> Result<Request, Refusal>
     ensures { Reads (λ request. request) (add_frame (fields_in fields.now)) result }
@@ -33,18 +44,7 @@ pub(super) fn drop_frame(alloc: Global, fields: &Fields) -> Result<Request, Refu
 pub(super) fn place(alloc: Global, fields: &Fields) -> Result<Request, Refusal>
     ensures { Reads (λ request. request) (place (fields_in fields.now)) result }
 {
-    allow_only(
-        fields,
-        &[
-            "do",
-            "variant",
-            "frame",
-            "slot",
-            "channels",
-            "base",
-            "repetition",
-        ],
-    )?;
+    allow_only(fields, PLACEMENT)?;
     Ok(Request::Place {
         variant: copy_text(alloc, fields, "variant")?,
         frame: copy_text(alloc, fields, "frame")?,
@@ -59,18 +59,7 @@ pub(super) fn place(alloc: Global, fields: &Fields) -> Result<Request, Refusal>
 pub(super) fn unplace(alloc: Global, fields: &Fields) -> Result<Request, Refusal>
     ensures { Reads (λ request. request) (unplace (fields_in fields.now)) result }
 {
-    allow_only(
-        fields,
-        &[
-            "do",
-            "variant",
-            "frame",
-            "slot",
-            "channels",
-            "base",
-            "repetition",
-        ],
-    )?;
+    allow_only(fields, PLACEMENT)?;
     Ok(Request::Unplace {
         variant: copy_text(alloc, fields, "variant")?,
         frame: copy_text(alloc, fields, "frame")?,

@@ -56,8 +56,8 @@ fn begun(alloc: Global, page: Page, rows: &[RowRead], replaces: bool) -> Result<
     }
 }
 
-// The page after the frames were freed that the rows name which come before the first row that its
-// own text refuses.
+// The page after the frames of the first rows were freed. These are the rows before the first one
+// that its own text refuses.
 fn freed(alloc: Global, page: Page, rows: &[RowRead]) -> Result<Draft, Refusal>
     ensures { MatchResult result
         (λ draft. draft_data draft ≡ free_rows (draft_of page) (up_to_refused rows.now))
