@@ -1,5 +1,5 @@
 -- Jobs: what each job does. With which status it ends, what it reads, prints and tells, and what is left of its file.
-use Rattle.std.specs.Prelude.{◌≡◌, ℕ, List, IfErr, Option, Result, ⊤}
+use Rattle.std.specs.Prelude.{◌≡◌, ◌≢◌, ℕ, List, codes, IfErr, Option, None, Result, ⊤}
 use Rattle.std.specs.Global.{Vec}
 use Rattle.std.specs.Io.KnownBytes.{Keeps}
 use Rattle.fr_picture.specs.Pages.{IsPage}
@@ -72,7 +72,7 @@ module _ {D : Type 0} {g : Ghosts D} (held : Image) (rest : Option (Leftover D g
   -- What the job does.
   abbrev pub IsPerformed : Job → Streams → ℕ → Type 0
   IsPerformed job.Run s status = (done : Result ⊤ ScriptFault) × IsRunOf s.input.old s.input.new s.out.old s.out.new done
-      × Ends (of_script done) s status × read.none × comings.none
+      × Ends (of_script done) s status × read.none × comings.none × (rest ≡ None)
   IsPerformed (job.Create db config) s status = Creates config.now s status × Quiet s
   IsPerformed (job.Migrate db) s status = Migrates s status × read.none × Quiet s
   IsPerformed (job.Serve db port count seconds) s status = Serves port count seconds s status × read.none × Keeps s.input.old s.input.new
@@ -84,6 +84,6 @@ module _ {D : Type 0} {g : Ghosts D} (held : Image) (rest : Option (Leftover D g
       × PrintsRead (IsNotReported held rest) (IsReadOfFile held rest (plans_for (named supplier) variant.now)) IsPage done × read.none × Quiet s
   IsPerformed (job.Deliver db delivery) s status = (done : Result (Vec ℕ) Failure) × Shows done s status
       × Says (IsNotDelivered held rest read delivery.file.now delivery.key.now) (IsDeliveryToFile held rest read delivery s.input.old s.input.new) done
-      × comings.none
-  IsPerformed (job.Check file) s status = (done : Result (Vec ℕ) Failure) × Shows done s status × IsCheckedFile read file done × Quiet s
-  IsPerformed (job.Explain word) s status = (done : Result (Vec ℕ) Failure) × Shows done s status × IsExplained word done × read.none × Quiet s
+      × (delivery.key.now ≢ codes "-" → Keeps s.input.old s.input.new) × comings.none
+  IsPerformed (job.Check file) s status = (done : Result (Vec ℕ) Failure) × Shows done s status × IsCheckedFile read file done × Quiet s × (rest ≡ None)
+  IsPerformed (job.Explain word) s status = (done : Result (Vec ℕ) Failure) × Shows done s status × IsExplained word done × read.none × Quiet s × (rest ≡ None)

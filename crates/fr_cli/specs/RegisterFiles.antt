@@ -15,9 +15,8 @@ use Rattle.fr_base.specs.declared.refusal.Refusal.{Refusal}
 use Rattle.fr_base.specs.declared.request.Ask.{Ask}
 use Rattle.fr_base.specs.declared.request.Request.{Request}
 use Rattle.fr_desks.specs.FileDesk.{Held, IsLeftWith, LeavesBook}
-use Rattle.fr_store.specs.Before.{HoldsBookBefore}
-use Rattle.fr_store.specs.Opening.{AllowsCreation, AllowsMigration}
-use Rattle.fr_store.specs.StoreFiles.{HoldsBook, image_left}
+use Rattle.fr_store.specs.Opened.{IsMigrated}
+use Rattle.fr_store.specs.Opening.{AllowsCreation}
 use Rattle.fr_cli.specs.Asking.{IsAnswer, asked_with}
 use Rattle.fr_cli.specs.Deliveries.{request_with}
 use Rattle.fr_cli.specs.Keys.{IsKeyGiven}
@@ -57,8 +56,6 @@ module _ {D : Type 0} {g : Ghosts D} where
   abbrev pub IsCreated : Image → Option (Leftover D g) → Readings → List ℕ → Result ⊤ Fault → Type 0
   IsCreated held rest read path done = OnOk done ((f : ClusterFile) × IsClusterAt read path f × IsLeftNew held rest f)
 
-  -- Where it was done, the file held a register of schema 1, and what is left holds its book.
+  -- Where it was done, the file held a register of schema 1, and what is left holds its book, after any crash too.
   abbrev pub IsMoved : Image → Option (Leftover D g) → Result ⊤ Fault → Type 0
-  IsMoved held rest done = OnOk done ((last : Leftover D g) × (rest ≡ Some last)
-      × (IsCleanLeft last → (c : Cluster) (b : Book) → HoldsBookBefore c b held → HoldsBook c b (image_left last))
-      × (IsCleanLeft last → AllowsMigration held))
+  IsMoved held rest done = OnOk done ((last : Leftover D g) × (rest ≡ Some last) × (IsCleanLeft last → IsMigrated held last))

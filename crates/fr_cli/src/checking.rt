@@ -19,7 +19,7 @@ use fr_base::NoMemory;
 use fr_guide::{Finding, LineFaults, are_fine, examine, fault_lines, row_faults};
 use std::alloc::Global;
 
-/// A line of what the file says, if it is what it is to be. Otherwise it is refused: with the line of a cluster file's fault, or with a
+/// A line on what the file says, if it has no fault. Else it is refused: with a line on a cluster file's fault, or with a
 /// line for each fault of requests or rows.
 pub fn check<F: TextFiles>(
     alloc: Global,

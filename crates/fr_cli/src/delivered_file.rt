@@ -1,5 +1,6 @@
 //! The delivery of a file of rows to the register in another, as the command line gives it.
-ghost use Rattle.std.specs.Prelude.{◌≡◌};
+ghost use Rattle.std.specs.Prelude.{◌≡◌, ◌≢◌, codes};
+ghost use Rattle.std.specs.Io.KnownBytes.{Keeps};
 ghost use Rattle.std.specs.Str.Lines.{lines};
 ghost use Rattle.sqlite_wal.specs.Files.{image_at};
 ghost use Rattle.fr_cli.specs.Asking.{asked_with};
@@ -47,10 +48,12 @@ pub fn deliver_file<S: Start, F: TextFiles, R: Read>(
     files: &mut F,
     input: &mut R,
 ) -> (Result<Vec<u8>, Failure>, Left<S>)
-    ensures { let read = readings F.TextFiles F.Reader.Read files.old files.new in
+    ensures says { let read = readings F.TextFiles F.Reader.Read files.old files.new in
         Says (IsNotDelivered (image_at S.Start) result.1 read delivery.entry.file.now
         delivery.entry.key.now) (IsDeliveryToFile (image_at S.Start) result.1 read delivery.entry
         (R.remaining input.old) (R.remaining input.new)) result.0 }
+    ensures quiet { delivery.entry.key.now ≢ codes "-"
+        → Keeps (R.remaining input.old) (R.remaining input.new) }
 {
     match read_front(rt.alloc(), files, delivery.file, FILE_BYTES) {
         Ok(body) => deliver(rt, db, start, delivery, &body, input),
@@ -67,10 +70,12 @@ fn deliver<S: Start, R: Read>(
     body: &[u8],
     input: &mut R,
 ) -> (Result<Vec<u8>, Failure>, Left<S>)
-    ensures { Says (IsNotGiven (image_at S.Start) result.1 delivery.entry.key.now)
+    ensures says { Says (IsNotGiven (image_at S.Start) result.1 delivery.entry.key.now)
         (IsAnswerToGiven (image_at S.Start) result.1 delivery.entry.key.now
         (request_with delivery.entry body.now) (R.remaining input.old) (R.remaining input.new))
         result.0 }
+    ensures quiet { delivery.entry.key.now ≢ codes "-"
+        → Keeps (R.remaining input.old) (R.remaining input.new) }
 {
     match delivery.request(rt.alloc(), body) {
         Ok(request) => change_given(rt, db, start, delivery.key, request, input),
@@ -87,9 +92,10 @@ fn change_given<S: Start, R: Read>(
     request: Request,
     input: &mut R,
 ) -> (Result<Vec<u8>, Failure>, Left<S>)
-    ensures { Says (IsNotGiven (image_at S.Start) result.1 key.now)
+    ensures says { Says (IsNotGiven (image_at S.Start) result.1 key.now)
         (IsAnswerToGiven (image_at S.Start) result.1 key.now request (R.remaining input.old)
         (R.remaining input.new)) result.0 }
+    ensures quiet { key.now ≢ codes "-" → Keeps (R.remaining input.old) (R.remaining input.new) }
 {
     if key != KEY_ON_INPUT {
         return change_file(rt, db, start, key.as_bytes(), request);

@@ -101,7 +101,7 @@ fn answer_piece<D: Lasting, W: Write>(
     Ok(append(begun, rest, LINE_BYTES)?)
 }
 
-// Answers the requests, and sees that more may be asked. Where they are none, nothing was asked, and that is not looked at.
+// Answers the requests. If there were any, it then makes sure that more may be asked.
 fn answer_requests<D: Lasting, W: Write>(
     alloc: Global,
     desk: &mut D,

@@ -117,8 +117,8 @@ pub fn read_within<R: Read>(
     Err(InputFault::TooManyReads)
 }
 
-/// Reads an input until its first line has ended or it has itself, and no more than comes with that. The faults are those of
-/// [`read_within`].
+/// Reads an input until its first line has ended, or the input has. All that the last read gave is kept. The faults are
+/// those of [`read_within`].
 pub fn read_line<R: Read>(
     alloc: Global,
     reader: &mut R,

@@ -114,7 +114,8 @@ fn read<'a>(alloc: Global, words: &'a [String]) -> Result<Job<'a>, Error>
     }
 }
 
-// What the subcommand wants that was found, where it has no job with its words: `check` and `export` alone have none.
+// What is said of words that `clap` takes and that name no job: those of `export` name no rows, or those of `check` no
+// file or several.
 fn wanted(matches: &ArgMatches<'_>) -> &'static str {
     match matches.subcommand() {
         Some(("export", _)) => NO_ROWS,

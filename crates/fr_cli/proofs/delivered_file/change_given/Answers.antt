@@ -3,13 +3,22 @@ use Rattle.std.proofs.KnownBytes.{Keeps-refl}
 use Rattle.fr_cli.proofs.AskingLaws.{given_says}
 use Rattle.fr_cli.proofs.delivered_file.change_given.Goals as goal
 
-pub returns-then-ne : goal.returns-then-ne
-returns-then-ne g c =
+pub returns-then-ne-clause-says : goal.returns-then-ne-clause-says
+returns-then-ne-clause-says g c =
     given_says _ _ c.args.key.now _ _ _ c.args.request _ (inl (search rules, search rules, Keeps-refl (g.R.Read.remaining c.args.input.now))) c.change_file.ensures
 
-pub returns-in-Ok : goal.returns-in-Ok
-returns-in-Ok g c =
+pub returns-in-Ok-clause-says : goal.returns-in-Ok-clause-says
+returns-in-Ok-clause-says g c =
     given_says _ _ c.args.key.now _ _ _ c.args.request _ (inr (search rules, (c.in-Ok.front.items, c.in-Ok.ensures.line, search rules))) c.change_file-in-Ok.ensures
 
-pub returns-in-Err : goal.returns-in-Err
-returns-in-Err g c = inr (search rules, (c.in-Err.fault, search rules), refl)
+pub returns-in-Err-clause-says : goal.returns-in-Err-clause-says
+returns-in-Err-clause-says g c = inr (search rules, (c.in-Err.fault, search rules), refl)
+
+pub returns-then-ne-clause-quiet : goal.returns-then-ne-clause-quiet
+returns-then-ne-clause-quiet g c = λ other. Keeps-refl (g.R.Read.remaining c.args.input.now)
+
+pub returns-in-Ok-clause-quiet : goal.returns-in-Ok-clause-quiet
+returns-in-Ok-clause-quiet g c = λ other. absurd (other (search rules))
+
+pub returns-in-Err-clause-quiet : goal.returns-in-Err-clause-quiet
+returns-in-Err-clause-quiet g c = λ other. absurd (other (search rules))

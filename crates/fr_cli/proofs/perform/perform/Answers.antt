@@ -26,12 +26,12 @@ returns-in-Picture g c = rw c.in-Picture.is
     (c.picture_file-done.result.0, search rules, c.picture_file-done.ensures, search rules, (Keeps-refl (g.R.Read.remaining c.args.input.now), refl))
 
 pub returns-in-Deliver : goal.returns-in-Deliver
-returns-in-Deliver g c = rw c.in-Deliver.is (c.deliver_file-done.result.0, search rules, c.deliver_file-done.ensures, refl)
+returns-in-Deliver g c = rw c.in-Deliver.is (c.deliver_file-done.result.0, search rules, c.deliver_file-done.ensures.says, c.deliver_file-done.ensures.quiet, refl)
 
 pub returns-in-Check : goal.returns-in-Check
 returns-in-Check g c = rw c.in-Check.is
-    (c.check-done.result, search rules, c.check-done.ensures, (Keeps-refl (g.R.Read.remaining c.args.input.now), refl))
+    (c.check-done.result, search rules, c.check-done.ensures, (Keeps-refl (g.R.Read.remaining c.args.input.now), refl), refl)
 
 pub returns-in-Explain : goal.returns-in-Explain
 returns-in-Explain g c = rw c.in-Explain.is
-    (c.explain_word.result, search rules, c.explain_word.ensures, search rules, (Keeps-refl (g.R.Read.remaining c.args.input.now), refl))
+    (c.explain_word.result, search rules, c.explain_word.ensures, search rules, (Keeps-refl (g.R.Read.remaining c.args.input.now), refl), refl)
