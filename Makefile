@@ -4,7 +4,7 @@
 # make prove    the gate: every proof from nothing, the must-fail edits, the tests, how rows are found, and the
 #               proved program tried, as each of two compilers made it. An hour or two
 # make edits    asks the prover of every wrong body, also of those that the gate leaves out; CRATES='fr_base ..' names some.
-#               Run it when a contract has changed; no part of the gate
+#               Run it when a contract has changed, some minutes a crate; no part of the gate
 # make map      prints what each file of the crates, the tests and bench/ is for; CRATES='fr_base tests ..' names some
 # make calls    prints what each public call of CRATES='fr_base ..' promises: its text, and its clauses
 # make try      tries the built program alone, as the gate does: rows, examples, faults, limits, counts of cycles, register files and
@@ -59,7 +59,7 @@ prove: toolchain
 	@python3 -m tests.gate
 
 edits: toolchain
-	@python3 tests/edits.py $(CRATES)
+	@python3 -m tests.edits $(CRATES)
 
 map:
 	@python3 -m tests.lib.heads $(CRATES)
