@@ -7,6 +7,7 @@ use Rattle.fr_base.specs.Refusing.{refuse◌when◌}
 use Rattle.fr_base.specs.Tables.{get}
 use Rattle.fr_base.specs.Names.{is_name, is_key, same_text}
 use Rattle.fr_base.specs.Channels.{has_channel, channel_of_text}
+use Rattle.fr_base.specs.Changes.{in_rows}
 use Rattle.fr_base.specs.Checks.{is_integrator, asking, key, name, slot, channel, placement, signal, parent_name, query, check}
 use Rattle.fr_base.specs.Book.{Variant, Book}
 use Rattle.fr_base.specs.Alone.{concerns, is_another, holder_at}
@@ -62,9 +63,9 @@ by_integrator : (actor : Actor) (request : Request) (command : Command) → is_i
 by_integrator Integrator request command is named same none = record { names = named; against = same; frames = λ frame. absurd (true≢false (sym frame ∙ none)) }
 by_integrator (Supplier t) request command is named same none = cc
 
-by_supplier : (actor : Actor) (request : Request) (t v f : Name) (what : FrameChange) → actor ≡ Supplier t → SaysAlike actor request (Rows t v (change.Frame f what))
+by_supplier : (actor : Actor) (request : Request) (t v f : Name) (what : FrameChange) → actor ≡ Supplier t → SaysAlike actor request (Rows (in_rows t v (change.Frame f what)))
 by_supplier actor request t v f what is =
-    subst (λ a. SaysAlike a request (Rows t v (change.Frame f what))) (sym is) (record { names = λ s. refl; against = λ s b. refl; frames = λ _. refl })
+    subst (λ a. SaysAlike a request (Rows (in_rows t v (change.Frame f what)))) (sym is) (record { names = λ s. refl; against = λ s b. refl; frames = λ _. refl })
 
 asking-is : (actor : Actor) → IfOk (asking actor) (λ t. actor ≡ Supplier t)
 unfolding asking

@@ -3,6 +3,7 @@ use Rattle.std.proofs.Common.{◌≡◌, ℕ, Bool, true, false, not, cond, Opti
 use Rattle.std.specs.Prelude.{⊤, nat_le}
 use Rattle.std.specs.Option.{option_and_then}
 use Rattle.fr_base.specs.Refusing.{◌>>=◌, ◌>>◌, refuse◌when◌}
+use Rattle.fr_base.specs.Changes.{in_rows}
 use Rattle.fr_base.specs.declared.limits.TheConstants.{MAX_DEPTH, MAX_VARIANTS, MAX_NODES}
 use Rattle.fr_base.specs.Tables.{get, contains, len}
 use Rattle.fr_base.specs.Keys.{owned, channel_slots}
@@ -89,20 +90,30 @@ names s (Common command) = true
 names s (AddSupplier t key) = same_text t s
 names s (SetKey t key) = same_text t s
 names s (AddNode t n) = same_text t s
-names s (Rows t v what) = same_text t s
+names s (Rows rows) = same_text rows.supplier s
 
--- whether it changes a frame
+-- whether a change is that of a frame
+abbrev pub is_of_frame : Change → Bool
+is_of_frame (change.Frame f what) = true
+is_of_frame _ = false
+
+-- whether a command changes a frame
 abbrev pub of_frame : Command → Bool
-of_frame (Rows t v (change.Frame f what)) = true
+of_frame (Rows rows) = is_of_frame rows.change
 of_frame _ = false
 
 -- who holds slot and channel in the variant
 abbrev pub holder_in : Book → Name → ℕ × Channel → Option Holder
 holder_in b v at = option_and_then (λ (variant : Variant). get variant.grants at) (get b.variants v)
 
+-- what refuses a change of rows in the variant beside other suppliers
+abbrev pub against_change : Name → Book → Name → Change → Result ⊤ Refusal
+against_change s b v (change.Grant slot channel node) = refuse Taken when is_another s (holder_in b v (slot, channel))
+against_change s b v _ = Ok tt
+
 -- what refuses a command beside other suppliers
 abbrev pub against : Name → Book → Command → Result ⊤ Refusal
-against s b (Rows t v (change.Grant slot channel node)) = refuse Taken when is_another s (holder_in b v (slot, channel))
+against s b (Rows rows) = against_change s b rows.variant rows.change
 against s b (AddSupplier t key) = others_refuse s b key
 against s b (SetKey t key) = another_refuses s b key
 against s b _ = Ok tt
@@ -118,9 +129,9 @@ then_none (Ok tt) = refl
 then_none (Err e) = refl
 
 module _ (c : Cluster) (b : Book) (s : Name) where
-  pub admits-beside : (v : Name) (what : Change) → (of_frame (Rows s v what) ≡ true → IsSound c b) → (x : Variant) → get b.variants v ≡ Some x →
+  pub admits-beside : (v : Name) (what : Change) → (of_frame (Rows (in_rows s v what)) ≡ true → IsSound c b) → (x : Variant) → get b.variants v ≡ Some x →
       admits (own_rows c.params b s x) (shared_by x.grants x.frames) what
-      ≡ (admits (own_rows c.params b s x) (shared_by (own_grants s x.grants) (own s x.frames)) what >> against s b (Rows s v what))
+      ≡ (admits (own_rows c.params b s x) (shared_by (own_grants s x.grants) (own s x.frames)) what >> against s b (Rows (in_rows s v what)))
   unfolding admits shared_by
   admits-beside v (change.Grant slot channel node) sound x found =
       let at : ℕ × Channel = (slot, channel) in
@@ -143,10 +154,10 @@ module _ (c : Cluster) (b : Book) (s : Name) where
   perform-own (AddNode t n) sound h =
       subst (λ u. map_ok (seen s) (done (add_node b u n)) ≡ (done (add_node (rows_of s b) u n) >>= unless (Ok tt))) (sym (same_text-is t s h))
       (done-own s (Ok tt) (add_node b s n) _ (add_node-own s b n ∙ sym (unless_none _)))
-  perform-own (Rows t v what) sound h =
-      subst (λ u. map_ok (seen s) (done (change_rows c.params b u v what)) ≡ (done (change_rows c.params (rows_of s b) u v what) >>= unless (against s b (Rows u v what)))) (sym (same_text-is t s h))
-      (done-own s (against s b (Rows s v what)) (change_rows c.params b s v what) _
-      (change_rows-own c.params b v what s (against s b (Rows s v what)) (admits-beside v what sound)))
+  perform-own (Rows rows) sound h =
+      subst (λ u. map_ok (seen s) (done (change_rows c.params b u rows.variant rows.change)) ≡ (done (change_rows c.params (rows_of s b) u rows.variant rows.change) >>= unless (against s b (Rows (in_rows u rows.variant rows.change))))) (sym (same_text-is rows.supplier s h))
+      (done-own s (against s b (Rows (in_rows s rows.variant rows.change))) (change_rows c.params b s rows.variant rows.change) _
+      (change_rows-own c.params b rows.variant rows.change s (against s b (Rows (in_rows s rows.variant rows.change))) (admits-beside rows.variant rows.change sound)))
 
   -- a command that names another leaves the supplier's rows as they were
   pub perform-other : (command : Command) → names s command ≡ false → IfOk (perform c b command) (λ o. rows_of s o.book ≡ rows_of s b)
@@ -155,4 +166,4 @@ module _ (c : Cluster) (b : Book) (s : Name) where
   perform-other (AddSupplier t key) h = gives_bind _ _ (add_supplier c b t key) _ (add_supplier-other c b s t key h) (λ after still. still)
   perform-other (SetKey t key) h = gives_bind _ _ (set_key c b t key) _ (set_key-other c b s t key h) (λ after still. still)
   perform-other (AddNode t n) h = gives_bind _ _ (add_node b t n) _ (add_node-other s b t n h) (λ after still. still)
-  perform-other (Rows t v what) h = gives_bind _ _ (change_rows c.params b t v what) _ (change_rows-other c.params b v what s t h) (λ after still. still)
+  perform-other (Rows rows) h = gives_bind _ _ (change_rows c.params b rows.supplier rows.variant rows.change) _ (change_rows-other c.params b rows.variant rows.change s rows.supplier h) (λ after still. still)

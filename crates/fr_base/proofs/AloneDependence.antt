@@ -124,7 +124,7 @@ module _ (c : Cluster) (b : Book) (s : Name) where
   perform-done k d (AddSupplier t key) = gives_each _ (add_supplier k d t key) _ (λ after _. refl)
   perform-done k d (SetKey t key) = gives_each _ (set_key k d t key) _ (λ after _. refl)
   perform-done k d (AddNode t n) = gives_each _ (add_node d t n) _ (λ after _. refl)
-  perform-done k d (Rows t v what) = gives_each _ (change_rows k.params d t v what) _ (λ after _. refl)
+  perform-done k d (Rows rows) = gives_each _ (change_rows k.params d rows.supplier rows.variant rows.change) _ (λ after _. refl)
 
   act-answer : (request : Request) → concerns s request ≡ true → (d : Book) (what : Checked) → Says Integrator request what → IfOk (act c d Integrator what) (λ o. o.answer ≡ answer.Done)
   unfolding act

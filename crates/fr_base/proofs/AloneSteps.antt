@@ -85,7 +85,7 @@ act-undone c b actor request (checked.Command (Common command)) says = gives_eac
 act-undone c b actor request (checked.Command (AddSupplier s key)) says = gives_each _ (add_supplier c b s key) _ (λ after _ undone. absurd (true≢false (sym (done-carried actor) ∙ undone)))
 act-undone c b actor request (checked.Command (SetKey s key)) says = gives_each _ (set_key c b s key) _ (λ after _ undone. absurd (true≢false (sym (done-carried actor) ∙ undone)))
 act-undone c b actor request (checked.Command (AddNode s n)) says = gives_each _ (add_node b s n) _ (λ after _ undone. absurd (true≢false (sym (done-carried actor) ∙ undone)))
-act-undone c b actor request (checked.Command (Rows s v what)) says = gives_each _ (change_rows c.params b s v what) _ (λ after _ undone. absurd (true≢false (sym (done-carried actor) ∙ undone)))
+act-undone c b actor request (checked.Command (Rows rows)) says = gives_each _ (change_rows c.params b rows.supplier rows.variant rows.change) _ (λ after _ undone. absurd (true≢false (sym (done-carried actor) ∙ undone)))
 act-undone c b Integrator request (checked.Import i) says = cc
 act-undone c b (Supplier s) request (checked.Import i) says =
     gives_bind_last (λ (o : Outcome). not (is_unavailable o.answer) ≡ false → o.book ≡ b) (λ (o : Outcome). is_unavailable o.answer ≡ false) _ (import-carried c.params b i (get b.imports (i.supplier, i.label))) (λ o available undone. absurd (true≢false (sym (ap not available) ∙ undone)))

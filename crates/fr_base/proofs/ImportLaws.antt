@@ -91,7 +91,7 @@ module _ (b : Book) (k : Name × Name) (one : Kept) (there : get b.imports k ≡
   perform-has c (AddSupplier s key) = gives_bind _ _ (add_supplier c b s key) _ (add_supplier-has c s key) (λ after h. h)
   perform-has c (SetKey s key) = gives_bind _ _ (set_key c b s key) _ (set_key-has c s key) (λ after h. h)
   perform-has c (AddNode s n) = gives_bind _ _ (add_node b s n) _ (add_node-has s n) (λ after h. h)
-  perform-has c (Rows s v what) = gives_bind _ _ (change_rows c.params b s v what) _ (change_rows-keeps c.params b s v what) (λ after keeps. keeps-has after keeps)
+  perform-has c (Rows rows) = gives_bind _ _ (change_rows c.params b rows.supplier rows.variant rows.change) _ (change_rows-keeps c.params b rows.supplier rows.variant rows.change) (λ after keeps. keeps-has after keeps)
 
   imported-has : (i : Import) → get b.imports (i.supplier, i.label) ≡ None → (count : ℕ) (r : Result Book RefusedAt) → IfOk r (Keeps b) → Has (imported b i count r).book
   unfolding imported

@@ -73,7 +73,7 @@ module _ (b : Book) (s : Name) (there : IsTrue (contains b.suppliers s)) where
   perform-knows c (AddSupplier t k) = gives_bind _ _ (add_supplier c b t k) _ (add_supplier-knows c t k) (λ after h. h)
   perform-knows c (SetKey t k) = gives_bind _ _ (set_key c b t k) _ (set_key-knows c t k) (λ after h. h)
   perform-knows c (AddNode t n) = gives_bind _ _ (add_node b t n) _ (add_node-knows t n) (λ after h. h)
-  perform-knows c (Rows t v what) = gives_bind _ _ (change_rows c.params b t v what) _ (change_rows-keeps c.params b t v what) (λ after keeps. keeps-knows after keeps)
+  perform-knows c (Rows rows) = gives_bind _ _ (change_rows c.params b rows.supplier rows.variant rows.change) _ (change_rows-keeps c.params b rows.supplier rows.variant rows.change) (λ after keeps. keeps-knows after keeps)
 
   imported-knows : (i : Import) (count : ℕ) (r : Result Book RefusedAt) → IfOk r (Keeps b) → Knows (imported b i count r).book
   unfolding imported

@@ -5,6 +5,7 @@ use Rattle.fr_base.specs.Refusing.{◌>>=◌, ◌>>◌, ◌or◌, refuse◌when�
 use Rattle.fr_base.specs.declared.limits.TheConstants.{MAX_PLACEMENTS}
 use Rattle.fr_base.specs.Tables.{get, contains, len}
 use Rattle.fr_base.specs.Cells.{cells_of}
+use Rattle.fr_base.specs.Changes.{in_rows}
 use Rattle.fr_base.specs.Checks.{check}
 use Rattle.fr_base.specs.Cluster.{Cluster}
 use Rattle.fr_base.specs.Schedule.{first_taken}
@@ -61,7 +62,7 @@ module _ (c : Cluster) (b : Book) (s v f : Name) (r : ℕ) (asked : Request) (kn
 -- ---- a Place
 
 module _ (c : Cluster) (b : Book) (s v f : Name) (r : ℕ) (q : Placement) (known : IsTrue (knows b (Supplier s))) where
-  stepped : (request : Request) → check c.params (Supplier s) request ≡ Ok (checked.Command (Rows s v (change.Frame f (Place q)))) →
+  stepped : (request : Request) → check c.params (Supplier s) request ≡ Ok (checked.Command (Rows (in_rows s v (change.Frame f (Place q))))) →
       step c b (Supplier s) request ≡ outcome b (done (change_rows c.params b s v (change.Frame f (Place q))))
   unfolding step act perform ◌>>=◌ ◌>>◌ refuse◌when◌
   stepped request valid = rw (known, valid) refl

@@ -31,7 +31,7 @@ module _ (b : Book) where
   perform-unchanged c (AddSupplier s key) = gives_each _ (add_supplier c b s key) _ (λ after _ refused. cc)
   perform-unchanged c (SetKey s key) = gives_each _ (set_key c b s key) _ (λ after _ refused. cc)
   perform-unchanged c (AddNode s n) = gives_each _ (add_node b s n) _ (λ after _ refused. cc)
-  perform-unchanged c (Rows s v what) = gives_each _ (change_rows c.params b s v what) _ (λ after _ refused. cc)
+  perform-unchanged c (Rows rows) = gives_each _ (change_rows c.params b rows.supplier rows.variant rows.change) _ (λ after _ refused. cc)
 
   imported-unchanged : (i : Import) (count : ℕ) (r : Result Book RefusedAt) → Unchanged (imported b i count r)
   unfolding imported

@@ -115,7 +115,7 @@ module _ (b : Book) (v : Name) (x : Variant) (there : get b.variants v ≡ Some 
   perform-stays c (AddSupplier s k) = gives_bind _ _ (add_supplier c b s k) _ (add_supplier-stays c s k) (λ after h. h)
   perform-stays c (SetKey s k) = gives_bind _ _ (set_key c b s k) _ (set_key-stays c s k) (λ after h. h)
   perform-stays c (AddNode s n) = gives_bind _ _ (add_node b s n) _ (add_node-stays s n) (λ after h. h)
-  perform-stays c (Rows s w what) = gives_bind _ _ (change_rows c.params b s w what) _ (change_rows-stays c.params s w what) (λ after h. h)
+  perform-stays c (Rows rows) = gives_bind _ _ (change_rows c.params b rows.supplier rows.variant rows.change) _ (change_rows-stays c.params rows.supplier rows.variant rows.change) (λ after h. h)
 
 -- ---- an import
 

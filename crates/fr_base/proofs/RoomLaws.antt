@@ -15,6 +15,7 @@ use Rattle.fr_base.specs.Tables.{get, contains, len}
 use Rattle.fr_base.specs.Keys.{placement_order}
 use Rattle.fr_base.specs.Cells.{Cell, cells_of, slots_of}
 use Rattle.fr_base.specs.Channels.{channels_in, has_channel}
+use Rattle.fr_base.specs.Changes.{in_rows}
 use Rattle.fr_base.specs.Checks.{check}
 use Rattle.fr_base.specs.Cycles.{is_cycle_count, is_repetition}
 use Rattle.fr_base.specs.Parameters.{check_params}
@@ -279,7 +280,7 @@ module _ (b : Book) where
   refused-done (Err d) e h = ap (λ (r : Result Book Refusal). (outcome b (done r)).answer) h
 
 module _ (c : Cluster) (b : Book) (s v f : Name) (q : Placement) (known : IsTrue (knows b (Supplier s))) where
-  stepped : (request : Request) → check c.params (Supplier s) request ≡ Ok (checked.Command (Rows s v (change.Frame f (Place q)))) →
+  stepped : (request : Request) → check c.params (Supplier s) request ≡ Ok (checked.Command (Rows (in_rows s v (change.Frame f (Place q))))) →
       step c b (Supplier s) request ≡ outcome b (done (change_rows c.params b s v (change.Frame f (Place q))))
   unfolding step act perform ◌>>=◌ ◌>>◌ refuse◌when◌
   stepped request valid = rw (known, valid) refl
@@ -362,11 +363,11 @@ module _ (c : Cluster) (b : Book) (s v f : Name) (q : Placement) (known : IsTrue
       by_variant None h = inr (ap Err cc)
       by_variant (Some x) h = by_open x _ x.released h
 
-fits-checked : (c : Cluster) (s v f : Name) (q : Placement) (request : Request) → check c.params (Supplier s) request ≡ Ok (checked.Command (Rows s v (change.Frame f (Place q)))) → FitsCluster c.params q
+fits-checked : (c : Cluster) (s v f : Name) (q : Placement) (request : Request) → check c.params (Supplier s) request ≡ Ok (checked.Command (Rows (in_rows s v (change.Frame f (Place q))))) → FitsCluster c.params q
 fits-checked c s v f q request valid = subst (λ r. IfOk r (IsFormed c.params (Supplier s))) valid (check-form c.params (Supplier s) request)
 
 pub room-place : (c : Cluster) (b : Book) (s v f : Name) (q : Placement) (request : Request) → IsTrue (knows b (Supplier s)) →
-    check c.params (Supplier s) request ≡ Ok (checked.Command (Rows s v (change.Frame f (Place q)))) →
+    check c.params (Supplier s) request ≡ Ok (checked.Command (Rows (in_rows s v (change.Frame f (Place q))))) →
     is_done (step c b (Supplier s) request).answer ≡ has_place q (room_in c.params b s v f q.cycles.repetition)
 room-place c b s v f q request known valid =
     ap (λ o. is_done o.answer) (stepped c b s v f q known request valid)
@@ -374,7 +375,7 @@ room-place c b s v f q request known valid =
     ∙ placed-lines c b s v f q known (fits-checked c s v f q request valid)
 
 pub room-refused : (c : Cluster) (b : Book) (s v f : Name) (q : Placement) (request : Request) (e : Refusal) → IsTrue (knows b (Supplier s)) →
-    check c.params (Supplier s) request ≡ Ok (checked.Command (Rows s v (change.Frame f (Place q)))) →
+    check c.params (Supplier s) request ≡ Ok (checked.Command (Rows (in_rows s v (change.Frame f (Place q))))) →
     room_in c.params b s v f q.cycles.repetition ≡ Err e → (e ≡ Limit) ⊎ ((step c b (Supplier s) request).answer ≡ Refused e)
 room-refused c b s v f q request e known valid h = elim (refused-lines c b s v f q known e h) [
   | inl full ↦ inl full

@@ -7,6 +7,7 @@ use Rattle.std.proofs.lemmas.Bool.Decides.{nat_tests}
 use Rattle.fr_base.specs.Refusing.{◌>>=◌, ◌>>◌, ◌or◌, refuse◌when◌}
 use Rattle.fr_base.specs.Tables.{get}
 use Rattle.fr_base.specs.Channels.{channels_in, has_channel, text_of_channels, channels_of_text}
+use Rattle.fr_base.specs.Changes.{in_rows}
 use Rattle.fr_base.specs.Checks.{asking, name, cycles, slot, channels, placement, report, query, check}
 use Rattle.fr_base.specs.Cycles.{Cycles, are_cycles, is_repetition}
 use Rattle.fr_base.specs.Cluster.{Cluster}
@@ -124,7 +125,7 @@ module _ (c : Cluster) (b : Book) (s : Name) (variant frame : List ℕ) where
   asked_room r = Ok (checked.Query (OfVariant variant (Room frame r)))
 
   abbrev asked_place : Placement → Result Checked Refusal
-  asked_place q = Ok (checked.Command (Rows s variant (change.Frame frame (Place q))))
+  asked_place q = Ok (checked.Command (Rows (in_rows s variant (change.Frame frame (Place q)))))
 
   room-checks : (r : ℕ) → IsTrue (is_name variant) → IsTrue (is_name frame) → IsTrue (is_repetition c.params.cycles r) →
       by_its_text (room_of variant frame r) ≡ asked_room r
@@ -291,7 +292,7 @@ module _ (c : Cluster) (b : Book) (s : Name) (variant frame : List ℕ) (sound :
 
   -- a Place that is not done is refused
   place-not_done : (q : Placement) → IsTrue (knows b (Supplier s)) →
-      check c.params (Supplier s) (place_of variant frame q) ≡ Ok (checked.Command (Rows s variant (change.Frame frame (Place q)))) →
+      check c.params (Supplier s) (place_of variant frame q) ≡ Ok (checked.Command (Rows (in_rows s variant (change.Frame frame (Place q))))) →
       is_done (place_answer q) ≡ false → is_refused (place_answer q) ≡ true
   unfolding act perform
   place-not_done q known checks undone =

@@ -49,7 +49,7 @@ HasForm p (Common (Release v)) = ⊤
 HasForm p (AddSupplier s k) = IsTrue (is_name s) × IsTrue (is_key k)
 HasForm p (SetKey s k) = IsTrue (is_key k)
 HasForm p (AddNode s n) = IsTrue (is_name n)
-HasForm p (Rows s v what) = IsFormedChange p what
+HasForm p (Rows rows) = IsFormedChange p rows.change
 
 -- an import is the asking supplier's, and its variant and its label are names
 pub record IsFormedImport (actor : Actor) (i : Import) : Type 0 where

@@ -196,4 +196,4 @@ module _ (c : Cluster) (b : Book) (sound : IsSound c b) where
   perform-sound (AddSupplier s k) h = gives_bind _ _ (add_supplier c b s k) _ (add_supplier-sound s k h.0 h.1) (λ after fine. fine)
   perform-sound (SetKey s k) h = gives_bind _ _ (set_key c b s k) _ (set_key-sound s k h) (λ after fine. fine)
   perform-sound (AddNode s n) h = gives_bind _ _ (add_node b s n) _ (add_node-sound s n h) (λ after fine. fine)
-  perform-sound (Rows s v what) h = gives_bind _ _ (change_rows c.params b s v what) _ (change_rows-sound s v what h) (λ after fine. fine)
+  perform-sound (Rows rows) h = gives_bind _ _ (change_rows c.params b rows.supplier rows.variant rows.change) _ (change_rows-sound rows.supplier rows.variant rows.change h) (λ after fine. fine)

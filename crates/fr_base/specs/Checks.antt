@@ -7,6 +7,7 @@ use Rattle.fr_base.specs.Names.{is_name, is_key}
 use Rattle.fr_base.specs.Cycles.{Cycles, are_cycles, is_repetition}
 use Rattle.fr_base.specs.Signals.{SignalData, is_signal_length, order_of_text}
 use Rattle.fr_base.specs.Channels.{channels_in, has_channel, channel_of_text, channels_of_text}
+use Rattle.fr_base.specs.Changes.{in_rows}
 use Rattle.fr_base.specs.declared.channel.Channel.{Channel}
 use Rattle.fr_base.specs.declared.channel.Channels.{Channels}
 use Rattle.fr_base.specs.declared.key.Key.{Key}
@@ -168,50 +169,50 @@ check p actor (request.Grant variant number text supplier node) = do
   n ← name node
   k ← slot p number
   c ← channel p text
-  Ok (checked.Command (Rows s v (Grant k c n)))
+  Ok (checked.Command (Rows (in_rows s v (Grant k c n))))
 check p actor (request.Revoke variant number text supplier) = do
   refuse NotYours when not (is_integrator actor)
   v ← name variant
   s ← name supplier
   k ← slot p number
   c ← channel p text
-  Ok (checked.Command (Rows s v (Revoke k c)))
+  Ok (checked.Command (Rows (in_rows s v (Revoke k c))))
 check p actor (request.AddFrame variant frame node) = do
   s ← asking actor
   v ← name variant
   f ← name frame
   n ← name node
-  Ok (checked.Command (Rows s v (Frame f (Add n))))
+  Ok (checked.Command (Rows (in_rows s v (Frame f (Add n)))))
 check p actor (request.DropFrame variant frame) = do
   s ← asking actor
   v ← name variant
   f ← name frame
-  Ok (checked.Command (Rows s v (Frame f Drop)))
+  Ok (checked.Command (Rows (in_rows s v (Frame f Drop))))
 check p actor (request.Place variant frame number text base repetition) = do
   s ← asking actor
   v ← name variant
   f ← name frame
   q ← placement p number text base repetition
-  Ok (checked.Command (Rows s v (Frame f (Place q))))
+  Ok (checked.Command (Rows (in_rows s v (Frame f (Place q)))))
 check p actor (request.Unplace variant frame number text base repetition) = do
   s ← asking actor
   v ← name variant
   f ← name frame
   q ← placement p number text base repetition
-  Ok (checked.Command (Rows s v (Frame f (Unplace q))))
+  Ok (checked.Command (Rows (in_rows s v (Frame f (Unplace q)))))
 check p actor (request.AddSignal variant frame named start length text) = do
   s ← asking actor
   v ← name variant
   f ← name frame
   n ← name named
   x ← signal n start length text
-  Ok (checked.Command (Rows s v (Frame f (AddSignal x))))
+  Ok (checked.Command (Rows (in_rows s v (Frame f (AddSignal x)))))
 check p actor (request.DropSignal variant frame named) = do
   s ← asking actor
   v ← name variant
   f ← name frame
   n ← name named
-  Ok (checked.Command (Rows s v (Frame f (DropSignal n))))
+  Ok (checked.Command (Rows (in_rows s v (Frame f (DropSignal n)))))
 check p actor (request.Import variant label body) = do
   s ← asking actor
   v ← name variant

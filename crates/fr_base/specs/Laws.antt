@@ -12,6 +12,7 @@ use Rattle.fr_base.specs.Tables.{get, len}
 use Rattle.fr_base.specs.Cells.{Cell, cells_of}
 use Rattle.fr_base.specs.Schedule.{first_taken}
 use Rattle.fr_base.specs.Cycles.{is_repetition}
+use Rattle.fr_base.specs.Changes.{in_rows}
 use Rattle.fr_base.specs.Checks.{check}
 use Rattle.fr_base.specs.Cluster.{Cluster, ClusterFile, IsWellFormed}
 use Rattle.fr_base.specs.Names.{is_name, same_text}
@@ -251,13 +252,13 @@ RoomIsAlone = (c : Cluster) (b : Book) (s v f : Name) (repetition : ℕ) → IsS
 -- answered Done exactly where there is room for the placement.
 abbrev pub RoomIsPlace : Type 0
 RoomIsPlace = (c : Cluster) (b : Book) (s v f : Name) (q : Placement) (request : Request) → IsTrue (knows b (Supplier s)) →
-    check c.params (Supplier s) request ≡ Ok (checked.Command (Rows s v (change.Frame f (Place q)))) →
+    check c.params (Supplier s) request ≡ Ok (checked.Command (Rows (in_rows s v (change.Frame f (Place q))))) →
     is_done (step c b (Supplier s) request).answer ≡ has_place q (room_in c.params b s v f q.cycles.repetition)
 
 -- Where the room for the frame is refused, and not by Limit, such a Place is refused the same.
 abbrev pub RoomIsRefused : Type 0
 RoomIsRefused = (c : Cluster) (b : Book) (s v f : Name) (q : Placement) (request : Request) (refusal : Refusal) → IsTrue (knows b (Supplier s)) →
-    check c.params (Supplier s) request ≡ Ok (checked.Command (Rows s v (change.Frame f (Place q)))) →
+    check c.params (Supplier s) request ≡ Ok (checked.Command (Rows (in_rows s v (change.Frame f (Place q))))) →
     room_in c.params b s v f q.cycles.repetition ≡ Err refusal → (refusal ≡ Limit) ⊎ ((step c b (Supplier s) request).answer ≡ Refused refusal)
 
 -- In a sound book, where the repetition divides the count of cycles, the room for a frame has

@@ -16,6 +16,7 @@ pub mod KeyChanges
 pub mod Signals
 pub mod Bits
 pub mod Layouts
+pub mod Changes
 pub mod Checks
 pub mod ImportRows
 pub mod Cells

@@ -2,6 +2,7 @@
 -- A released variant has no room.
 use Rattle.std.specs.Prelude.{◌≡◌, ◌⊎◌, ℕ, Some, None, Ok, IsTrue}
 use Rattle.fr_base.specs.Tables.{get}
+use Rattle.fr_base.specs.Changes.{in_rows}
 use Rattle.fr_base.specs.Checks.{check}
 use Rattle.fr_base.specs.Cluster.{Cluster}
 use Rattle.fr_base.specs.Book.{Variant, Book}
@@ -27,7 +28,7 @@ abbrev pub RefusedRoomRefusesEach : Type 0
 RefusedRoomRefusesEach = (c : Cluster) (b : Book) (s v f : Name) (repetition : ℕ) (q : Placement)
     (asked request : Request) (refusal : Refusal) → IsTrue (knows b (Supplier s)) →
     check c.params (Supplier s) asked ≡ Ok (checked.Query (OfVariant v (Room f repetition))) →
-    check c.params (Supplier s) request ≡ Ok (checked.Command (Rows s v (change.Frame f (Place q)))) →
+    check c.params (Supplier s) request ≡ Ok (checked.Command (Rows (in_rows s v (change.Frame f (Place q))))) →
     (step c b (Supplier s) asked).answer ≡ Refused refusal →
     ((step c b (Supplier s) request).answer ≡ Refused refusal)
     ⊎ ((refusal ≡ Limit) × ((step c b (Supplier s) request).answer ≡ Refused NotGranted))

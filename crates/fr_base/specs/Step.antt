@@ -408,7 +408,7 @@ perform c b (Common command) = done (common b command)
 perform c b (AddSupplier s key) = done (add_supplier c b s key)
 perform c b (SetKey s key) = done (set_key c b s key)
 perform c b (AddNode s n) = done (add_node b s n)
-perform c b (Rows s v change) = done (change_rows c.params b s v change)
+perform c b (Rows rows) = done (change_rows c.params b rows.supplier rows.variant rows.change)
 
 -- what a request with checked values does
 unfoldable pub act : Cluster → Book → Actor → Checked → Result Outcome Refusal

@@ -3,6 +3,7 @@ ghost use Rattle.std.specs.Prelude.{◌≡◌, ◌&&◌, ℕ, List, not};
 ghost use Rattle.std.specs.List.{list_all};
 ghost use Rattle.fr_base.specs.Channels.{channels_in, has_channel};
 ghost use Rattle.fr_base.specs.Refusing.{refuse◌when◌};
+ghost use Rattle.fr_base.specs.Changes.{in_rows};
 ghost use Rattle.fr_base.specs.declared.request.Request.TheVariants as request;
 ghost use Rattle.fr_base.specs.Cycles.{is_repetition};
 ghost use Rattle.fr_base.specs.Checks.{asking, has_repetition, is_integrator, is_of_room, check, key, name, cycles, slot, channel, channels, placement, signal, parent_name};
@@ -19,7 +20,8 @@ use crate::query::{Query, QueryReader};
 use crate::refusal::Refusal;
 use crate::report::Report;
 use crate::request::{
-    Change, Checked, Command, CommonCommand, FrameChange, Import, Replacement, Request, Trial,
+    Change, Checked, Command, CommonCommand, FrameChange, Import, Replacement, Request, RowsChange,
+    Trial,
 };
 use crate::signal::{Order, Signal};
 use crate::slot::Slot;
@@ -445,18 +447,19 @@ fn common(command: CommonCommand) -> Checked<'static>
 
 // The change of the supplier's rows in the variant.
 fn rows(supplier: Name, variant: Name, change: Change) -> Checked<'static>
-    ensures { result ≡ Checked.Command (Command.Rows supplier variant change) }
+    ensures { result ≡ Checked.Command (Command.Rows (in_rows supplier variant change)) }
 {
-    Checked::Command(Command::Rows {
+    Checked::Command(Command::Rows(RowsChange {
         supplier,
         variant,
         change,
-    })
+    }))
 }
 
 // The change of the supplier's frame in the variant.
 fn of_frame(supplier: Name, variant: Name, frame: Name, change: FrameChange) -> Checked<'static>
-    ensures { result ≡ Checked.Command (Command.Rows supplier variant (Change.Frame frame change)) }
+    ensures { result
+        ≡ Checked.Command (Command.Rows (in_rows supplier variant (Change.Frame frame change))) }
 {
     rows(supplier, variant, Change::Frame { frame, change })
 }

@@ -170,6 +170,7 @@ pub use request::FrameChange;
 pub use request::Import;
 pub use request::Replacement;
 pub use request::Request;
+pub use request::RowsChange;
 pub use request::Trial;
 pub use rows::Rows;
 pub use signal::BadSignal;

@@ -223,26 +223,13 @@ pub enum Command {
     /// The integrator's, common to all suppliers.
     Common(CommonCommand),
     /// The integrator adds a supplier, with the key by which it is known.
-    AddSupplier {
-        supplier: Name,
-        key: Key,
-    },
+    AddSupplier { supplier: Name, key: Key },
     /// The integrator gives a supplier another key, by which it is known from then on.
-    SetKey {
-        supplier: Name,
-        key: Key,
-    },
+    SetKey { supplier: Name, key: Key },
     /// The integrator gives a supplier a node, in all variants.
-    AddNode {
-        supplier: Name,
-        node: Name,
-    },
+    AddNode { supplier: Name, node: Name },
     /// A change of one supplier's rows in a variant.
-    Rows {
-        supplier: Name,
-        variant: Name,
-        change: Change,
-    },
+    Rows(RowsChange),
 }
 
 /// What the integrator does with a variant, for all suppliers.
@@ -252,6 +239,14 @@ pub enum CommonCommand {
     OpenVariant { variant: Name, parent: Option<Name> },
     /// The variant is frozen.
     Release { variant: Name },
+}
+
+/// A change of one supplier's rows in a variant.
+#[derive(Clone, Copy, PartialEq, Eq)]
+pub struct RowsChange {
+    pub supplier: Name,
+    pub variant: Name,
+    pub change: Change,
 }
 
 /// What changes of one supplier's rows in a variant.

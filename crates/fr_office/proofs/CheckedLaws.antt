@@ -43,7 +43,7 @@ form-checked p (Common command) form = tt
 form-checked p (AddSupplier s key) form = tt
 form-checked p (SetKey s key) form = tt
 form-checked p (AddNode s n) form = tt
-form-checked p (Rows s v change) form = change-checked p change form
+form-checked p (Rows rows) form = change-checked p rows.change form
 
 pub command-checked : (p : Params) (actor : Actor) (request : Request) (command : Command) → check p actor request ≡ Ok (checked.Command command) → IsCheckedCommand p command
 command-checked p actor request command said = form-checked p command (subst (λ r. IfOk r (IsFormed p actor)) said (check-form p actor request))

@@ -71,7 +71,7 @@ others_counted b (SetReleased v) counts other counted = still_counted b (applied
 others_counted b (NewSupplier s key) counts other counted = still_counted b (applied b (NewSupplier s key)) counts refl counted
 others_counted b (SetKey s key) counts other counted = still_counted b (applied b (SetKey s key)) counts refl counted
 others_counted b (NewNode s n) counts other counted = still_counted b (applied b (NewNode s n)) counts refl counted
-others_counted b (Rows s v what) counts other counted = still_counted b (applied b (Rows s v what)) counts (changed-imports b v _ (get b.variants v)) counted
+others_counted b (Rows rows) counts other counted = still_counted b (applied b (Rows rows)) counts (changed-imports b rows.variant _ (get b.variants rows.variant)) counted
 others_counted b (KeepImport s label v body rows) counts other counted = absurd (other s label v body rows refl)
 
 module _ (p : Params) (b : Book) (s label v : Name) (body : List ℕ) (rows : ℕ) (fits : Fits p b (KeepImport s label v body rows)) where

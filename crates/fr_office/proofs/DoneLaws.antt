@@ -107,7 +107,7 @@ module _ (b : Book) where
   perform-quiet c (AddSupplier s key) = gives_each _ (add_supplier c b s key) _ (λ after _ quiet. cc)
   perform-quiet c (SetKey s key) = gives_each _ (set_key c b s key) _ (λ after _ quiet. cc)
   perform-quiet c (AddNode s n) = gives_each _ (add_node b s n) _ (λ after _ quiet. cc)
-  perform-quiet c (Rows s v what) = gives_each _ (change_rows c.params b s v what) _ (λ after _ quiet. cc)
+  perform-quiet c (Rows rows) = gives_each _ (change_rows c.params b rows.supplier rows.variant rows.change) _ (λ after _ quiet. cc)
 
   imported-quiet : (i : Import) (count : ℕ) (r : Result Book RefusedAt) → Quiet (imported b i count r)
   unfolding imported

@@ -13,6 +13,7 @@ use Rattle.fr_base.specs.Keys.{names, owned}
 use Rattle.fr_base.specs.Names.{same_text}
 use Rattle.fr_base.specs.Step.{OwnRows, own_rows, with_variant, changed}
 use Rattle.fr_base.specs.Tables.{get}
+use Rattle.fr_base.specs.Changes.{in_rows}
 use Rattle.fr_base.specs.declared.name.Name.{Name}
 use Rattle.fr_base.specs.declared.params.Params.{Params}
 use Rattle.fr_base.specs.declared.request.Change.{Change}
@@ -42,7 +43,7 @@ edited_params rows (SetReleased v) = refl
 edited_params rows (NewSupplier s key) = refl
 edited_params rows (SetKey s key) = refl
 edited_params rows (NewNode s n) = refl
-edited_params rows (Rows s v what) = refl
+edited_params page (Rows rows) = refl
 edited_params rows (KeepImport s label v body rows-kept) = refl
 
 -- a variant of another name stays
@@ -89,16 +90,16 @@ module _ (c : Cluster) (b : Book) (page : PageData) (fresh : IsFresh c.params b 
   node_fresh s n other = still _ refl (ap (λ u. map (λ e. e.0.1) u.rows) (only-insert_other owned (is_of page.supplier) b.nodes (s, n) tt (differ s page.supplier other)))
 
   -- rows of another supplier in the page's variant
-  rows_fresh : (s : Name) (what : Change) → same_text page.supplier s ≡ false → Spares b (Rows s page.variant what) → IsFresh p (applied b (Rows s page.variant what)) page
+  rows_fresh : (s : Name) (what : Change) → same_text page.supplier s ≡ false → Spares b (Rows (in_rows s page.variant what)) → IsFresh p (applied b (Rows (in_rows s page.variant what))) page
   unfolding applied changed
   rows_fresh s what other spares =
-      let stays = others-stay c b s page.supplier page.variant page.variant fresh.variant fresh.variant (Rows s page.variant what) fresh.there (refl, refl)
+      let stays = others-stay c b s page.supplier page.variant page.variant fresh.variant fresh.variant (Rows (in_rows s page.variant what)) fresh.there (refl, refl)
       (spares fresh.variant fresh.there) (differ s page.supplier other) fresh.there in
       let is : stays.0 ≡ changed s what fresh.variant = same_some _ _ (sym stays.1 ∙ changed-there b page.variant fresh.variant (changed s what) fresh.there) in
       record {
         variant = stays.0;
         there = stays.1;
-        same = fresh.same ∙ sym (same-rows p b (applied b (Rows s page.variant what)) page.supplier page.variant fresh.variant stays.0 stays.2 (ap (λ (x : Variant). x.released) is));
+        same = fresh.same ∙ sym (same-rows p b (applied b (Rows (in_rows s page.variant what))) page.supplier page.variant fresh.variant stays.0 stays.2 (ap (λ (x : Variant). x.released) is));
       }
 
   pub untouched-fresh : (edit : Edit) → touches edit page ≡ false → Spares b edit → IsFresh p (applied b edit) page
@@ -108,12 +109,12 @@ module _ (c : Cluster) (b : Book) (page : PageData) (fresh : IsFresh c.params b 
   untouched-fresh (NewSupplier s key) other spares = still _ refl refl
   untouched-fresh (SetKey s key) other spares = still _ refl refl
   untouched-fresh (NewNode s n) other spares = node_fresh s n other
-  untouched-fresh (Rows s v what) other spares = elim (cases_Bool (same_text page.variant v)) [
+  untouched-fresh (Rows rows) other spares = elim (cases_Bool (same_text page.variant rows.variant)) [
     | inl e ↦
-        let is : page.variant ≡ v = same_text-is page.variant v e in
-        let strange : same_text page.supplier s ≡ false = sym (and-true (same_text page.supplier s)) ∙ ap (λ t. same_text page.supplier s && t) (sym e) ∙ other in
-        subst (λ w. IsFresh p (applied b (Rows s w what)) page) is (rows_fresh s what strange (subst (λ w. Spares b (Rows s w what)) (sym is) spares))
-    | inr e ↦ other_changed v (changed s what) e (get b.variants v)
+        let is : page.variant ≡ rows.variant = same_text-is page.variant rows.variant e in
+        let strange : same_text page.supplier rows.supplier ≡ false = sym (and-true (same_text page.supplier rows.supplier)) ∙ ap (λ t. same_text page.supplier rows.supplier && t) (sym e) ∙ other in
+        subst (λ w. IsFresh p (applied b (Rows (in_rows rows.supplier w rows.change))) page) is (rows_fresh rows.supplier rows.change strange (subst (λ w. Spares b (Rows (in_rows rows.supplier w rows.change))) (sym is) spares))
+    | inr e ↦ other_changed rows.variant (changed rows.supplier rows.change) e (get b.variants rows.variant)
   ]
   untouched-fresh (KeepImport s label v body rows) other spares = still _ refl refl
 
@@ -157,7 +158,7 @@ module _ (c : Cluster) (s v : Name) where
   one-agrees b x (NewSupplier t key) there may = absurd may.own
   one-agrees b x (SetKey t key) there may = absurd may.own
   one-agrees b x (NewNode t n) there may = edits-agree c b s v x (NewNode t n) there may.own
-  one-agrees b x (Rows t w what) there may = edits-agree c b s v x (Rows t w what) there may.own
+  one-agrees b x (Rows rows) there may = edits-agree c b s v x (Rows rows) there may.own
 
   all-agree : (edits : List Edit) (b : Book) (x : Variant) → get b.variants v ≡ Some x → TakesEach v (own_rows c.params b s x) edits → list_any releases edits ≡ false →
       Agrees b x (all_applied b edits) (all_edited (own_rows c.params b s x) edits) false
@@ -199,7 +200,7 @@ own_held : (s : Name) (o : Option Holder) → held_by s o ≡ true → is_anothe
 own_held s None held = cc
 own_held s (Some h) held = ap not held
 
-change_spares : (b : Book) (s v : Name) (x : Variant) (what : Change) → FitsVariant b.nodes s x what → SparesOthers s x (Rows s v what)
+change_spares : (b : Book) (s v : Name) (x : Variant) (what : Change) → FitsVariant b.nodes s x what → SparesOthers s x (Rows (in_rows s v what))
 change_spares b s v x (Grant slot channel node) fits = ap (is_another s) fits.1
 change_spares b s v x (Revoke slot channel) fits = own_held s (get x.grants (slot, channel)) fits
 change_spares b s v x (Frame f what) fits = tt
@@ -211,8 +212,8 @@ fit_spares p b (SetReleased v) fits = tt
 fit_spares p b (NewSupplier s key) fits = tt
 fit_spares p b (SetKey s key) fits = tt
 fit_spares p b (NewNode s n) fits = tt
-fit_spares p b (Rows s v what) fits = λ x there.
-    change_spares b s v x what (subst (λ y. FitsVariant b.nodes s y what) (same_some fits.0 x (sym fits.1.there ∙ there)) fits.2)
+fit_spares p b (Rows rows) fits = λ x there.
+    change_spares b rows.supplier rows.variant x rows.change (subst (λ y. FitsVariant b.nodes rows.supplier y rows.change) (same_some fits.0 x (sym fits.1.there ∙ there)) fits.2)
 fit_spares p b (KeepImport s label v body rows) fits = tt
 
 -- ---- edits that a page takes
@@ -229,7 +230,7 @@ may_take v rows (SetReleased w) takes = takes
 may_take v rows (NewSupplier s key) takes = takes
 may_take v rows (SetKey s key) takes = takes
 may_take v rows (NewNode s n) takes = takes
-may_take v rows (Rows s w what) takes = takes
+may_take v page (Rows rows) takes = takes
 may_take v rows (KeepImport s label w body count) takes = tt
 
 -- edits that lead a page on are taken, and one more that keeps an import

@@ -9,7 +9,7 @@ use Rattle.fr_base.specs.Names.{same_text}
 use Rattle.fr_base.specs.Step.{OwnRows}
 use Rattle.fr_base.specs.declared.name.Name.{Name}
 use Rattle.fr_base.specs.declared.params.Params.{Params}
-use Rattle.fr_base.specs.declared.request.Change.{Change}
+use Rattle.fr_base.specs.declared.request.RowsChange.{RowsChange}
 use Rattle.fr_base.proofs.AloneCells.{same_text-itself}
 use Rattle.fr_world.specs.BookEdits.{applied}
 use Rattle.fr_world.specs.Edits.{IsOf, all_edited, edited, releases}
@@ -54,8 +54,8 @@ same-followed edit kept never = record {
     lent (Some page) = inr (never page, refl)
 
 -- it is made in the page that is lent
-pub rows-followed : (edit : Edit) (s v : Name) (what : Change) (old new : KeptData) → edit ≡ Rows s v what → Amends edit old.lent new.lent → none_lent new ≡ kept_without s v (none_lent old) → AreFollowed edit old new
-rows-followed edit s v what old new is lent others = record {
+pub rows-followed : (edit : Edit) (rows : RowsChange) (old new : KeptData) → edit ≡ Rows rows → Amends edit old.lent new.lent → none_lent new ≡ kept_without rows.supplier rows.variant (none_lent old) → AreFollowed edit old new
+rows-followed edit rows old new is lent others = record {
   lent = lent;
   others = others ∙ (λ i. kept_where (λ page. not (touches (sym is i) page)) (none_lent old));
 }
@@ -67,7 +67,7 @@ own-touched page (SetReleased v) own = ap (same_text page.variant) own ∙ same_
 own-touched page (NewSupplier s key) own = absurd own
 own-touched page (SetKey s key) own = absurd own
 own-touched page (NewNode s n) own = ap (same_text page.supplier) own ∙ same_text-itself page.supplier
-own-touched page (Rows s v what) own =
+own-touched page (Rows rows) own =
     (λ i. same_text page.supplier (own.0 i) && same_text page.variant (own.1 i)) ∙ (λ i. same_text-itself page.supplier i && same_text-itself page.variant i)
 own-touched page (KeepImport s label v body rows) own = absurd own
 
@@ -89,8 +89,8 @@ untouched-rows page (SetReleased v) other takes = refl
 untouched-rows page (NewSupplier s key) other takes = refl
 untouched-rows page (SetKey s key) other takes = refl
 untouched-rows page (NewNode s n) other takes = absurd (named-itself s page.supplier takes.own other)
-untouched-rows page (Rows s v what) other takes =
-    absurd (true≢false (sym (own-touched page (Rows s v what) takes.own) ∙ other))
+untouched-rows page (Rows rows) other takes =
+    absurd (true≢false (sym (own-touched page (Rows rows) takes.own) ∙ other))
 untouched-rows page (KeepImport s label v body rows) other takes = refl
 
 -- and it does not release the variant
@@ -100,7 +100,7 @@ untouched-releases page (SetReleased v) other takes = absurd (named-itself v pag
 untouched-releases page (NewSupplier s key) other takes = refl
 untouched-releases page (SetKey s key) other takes = refl
 untouched-releases page (NewNode s n) other takes = refl
-untouched-releases page (Rows s v what) other takes = refl
+untouched-releases page (Rows rows) other takes = refl
 untouched-releases page (KeepImport s label v body rows) other takes = refl
 
 or-moved : (a b c : Bool) → (b || (a || c)) ≡ ((a || b) || c)

@@ -85,10 +85,10 @@ IsOwnChange actor s (Frame f change) = actor ≡ Supplier s
 IsOwnChange actor s _ = ⊤
 
 abbrev pub IsOwnCommand : Actor → Command → Type 0
-IsOwnCommand actor (Rows s v change) = IsOwnChange actor s change
+IsOwnCommand actor (Rows rows) = IsOwnChange actor rows.supplier rows.change
 IsOwnCommand actor _ = ⊤
 
 -- A change in the command has a placement that fits the cluster, or a signal that has a length.
 abbrev pub IsCheckedCommand : Params → Command → Type 0
-IsCheckedCommand p (Rows s v change) = IsChecked p change
+IsCheckedCommand p (Rows rows) = IsChecked p rows.change
 IsCheckedCommand p _ = ⊤

@@ -142,7 +142,7 @@ touches (SetReleased v) page = same_text page.variant v
 touches (NewSupplier s key) page = false
 touches (SetKey s key) page = false
 touches (NewNode s n) page = same_text page.supplier s
-touches (Rows s v what) page = is_page_of s v page
+touches (Rows rows) page = is_page_of rows.supplier rows.variant page
 touches (KeepImport s label v body rows) page = false
 
 -- the pages that pass a test
@@ -196,5 +196,5 @@ pub record AreFollowed (edit : Edit) (old new : KeptData) : Type 0 where
 
 -- No other supplier than its own holds what the edit grants or ends.
 abbrev pub Spares : Book → Edit → Type 0
-Spares b (Rows s v what) = (x : Variant) → get b.variants v ≡ Some x → SparesOthers s x (Rows s v what)
+Spares b (Rows rows) = (x : Variant) → get b.variants rows.variant ≡ Some x → SparesOthers rows.supplier x (Rows rows)
 Spares b _ = ⊤

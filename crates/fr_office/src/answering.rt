@@ -98,11 +98,7 @@ fn act<R: Lender>(
             Command::AddNode { supplier, node } => {
                 done(add_node(alloc, records, *supplier, *node))
             }
-            Command::Rows {
-                supplier,
-                variant,
-                change,
-            } => done(change_rows(alloc, records, *supplier, *variant, change)),
+            Command::Rows(rows) => done(change_rows(alloc, records, rows)),
         },
         Checked::Import(new) => import(alloc, records, new),
         Checked::Replace(new) => replace(alloc, records, new),

@@ -92,11 +92,7 @@ impl Kept {
             Edit::NewSupplier { .. } => {}
             Edit::SetKey { .. } => {}
             Edit::NewNode { supplier, .. } => self.pages.let_go_of_supplier(*supplier),
-            Edit::Rows {
-                supplier,
-                variant,
-                ..
-            } => self.pages.amend(alloc, *supplier, *variant, edit),
+            Edit::Rows(rows) => self.pages.amend(alloc, rows.supplier, rows.variant, edit),
             Edit::KeepImport { supplier, .. } => self.counts.add_one(*supplier),
         }
     }

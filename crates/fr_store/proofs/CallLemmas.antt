@@ -9,6 +9,7 @@ use Rattle.sqlite_trees.specs.declared.store.Store.{Ghosts}
 use Rattle.fr_base.specs.Tables.{get}
 use Rattle.fr_base.specs.Cluster.{Cluster}
 use Rattle.fr_base.specs.Book.{Frame, Variant, Book}
+use Rattle.fr_base.specs.Changes.{in_rows}
 use Rattle.fr_base.specs.declared.name.Name.{Name}
 use Rattle.fr_base.specs.declared.request.Change.TheVariants.{Frame as OfFrame}
 use Rattle.fr_base.specs.declared.request.FrameChange.{FrameChange}
@@ -109,7 +110,7 @@ spared_done g change old new ran r runs done each clean inside has =
 
 -- the edit of a frame is one of the register
 pub edit_of_frame : {S : Type 0} (g : Ghosts S) (v s f : Name) (key : FrameKey) → key ≡ key_of v s f → (what : FrameChange) (old new : Transaction S) (r : Result ⊤ StoreFault)
-    → Edits g (EditsFrame key what) old new r → Edits g (CarriesOut (Rows s v (OfFrame f what))) old new r
+    → Edits g (EditsFrame key what) old new r → Edits g (CarriesOut (Rows (in_rows s v (OfFrame f what)))) old new r
 edit_of_frame g v s f key is what old new r h = record {
   same_reference = h.same_reference;
   does = frame_carried v s f what (seen g old) (seen g new) r (subst (λ k. EditsFrame k what (seen g old) (seen g new) r) is h.does);
@@ -123,7 +124,7 @@ pub own_then : {S : Type 0} (g : Ghosts S) (change : Tables → Tables) (v s f :
     → Edits g (MakesOwn (key_of v s f)) old mid (Ok x) → Runs g (Makes change) mid new ran → IsDone ran r
     → ((there : Option Frame) → FitsAt there what → (frame : Frame) × (there ≡ Some frame))
     → (Changes change (seen g mid) (seen g new) → (c : Cluster) (b : Book) (x : Variant) (frame : Frame) → Stands (seen g mid) c b → IsOpen b v x → get x.frames (s, f) ≡ Some frame
-    → IsTrue (is_own (key_of v s f) (tables_of (seen g mid))) → FitsAt (get x.frames (s, f)) what → IsCounted c.params (OfFrame f what) → Stands (seen g new) c (applied b (Rows s v (OfFrame f what))))
+    → IsTrue (is_own (key_of v s f) (tables_of (seen g mid))) → FitsAt (get x.frames (s, f)) what → IsCounted c.params (OfFrame f what) → Stands (seen g new) c (applied b (Rows (in_rows s v (OfFrame f what)))))
     → Edits g (EditsFrame (key_of v s f) what) old new r
 own_then g change v s f what old mid new ran r own runs done there made = record {
   same_reference = runs.same_reference ∙ own.same_reference;
@@ -132,7 +133,7 @@ own_then g change v s f what old mid new ran r own runs done there made = record
       let shown = there (get x.frames (s, f)) fits in
       let stood = own.does clean_mid inside c b stands x shown.0 is shown.1 in
       let goes = (own.stays clean_mid inside stands.has).1 in
-      on_done (Changes change (seen g mid) (seen g new)) (Stays (seen g mid) (seen g new)) (Stands (seen g new) c (applied b (Rows s v (OfFrame f what)))) ran r done (runs.does clean goes.inside goes.has)
+      on_done (Changes change (seen g mid) (seen g new)) (Stays (seen g mid) (seen g new)) (Stands (seen g new) c (applied b (Rows (in_rows s v (OfFrame f what))))) ran r done (runs.does clean goes.inside goes.has)
       (λ changed. made changed c b x shown.0 stood.0 is shown.1 stood.1 fits counted);
   stays = stays_then (seen g old) (seen g mid) (seen g new) r runs.survives own.stays (done_stays (seen g mid) (seen g new) ran r done (makes_stays change (seen g mid) (seen g new) ran runs.does));
   refused = done_refused ran r done;

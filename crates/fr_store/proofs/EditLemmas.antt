@@ -5,6 +5,7 @@ use Rattle.sqlite.specs.State.{State}
 use Rattle.fr_base.specs.Tables.{Table, get}
 use Rattle.fr_base.specs.Keys.{owned}
 use Rattle.fr_base.specs.Book.{Frame}
+use Rattle.fr_base.specs.Changes.{in_rows}
 use Rattle.fr_base.specs.declared.name.Name.{Name}
 use Rattle.fr_base.specs.declared.request.Change.TheVariants.{Frame as OfFrame}
 use Rattle.fr_base.specs.declared.request.FrameChange.{FrameChange}
@@ -28,6 +29,6 @@ fits_at nodes s None (AddSignal signal) h = absurd h
 fits_at nodes s None (DropSignal name) h = absurd h
 
 -- an edit of a frame that fits is carried out where its change is
-pub frame_carried : {X E : Type 0} (v s f : Name) (what : FrameChange) (old new : State) (r : Result X E) → EditsFrame (key_of v s f) what old new r → CarriesOut (Rows s v (OfFrame f what)) old new r
+pub frame_carried : {X E : Type 0} (v s f : Name) (what : FrameChange) (old new : State) (r : Result X E) → EditsFrame (key_of v s f) what old new r → CarriesOut (Rows (in_rows s v (OfFrame f what))) old new r
 frame_carried v s f what old new r h clean inside c b stands fits =
     h clean inside c b fits.0 stands fits.1 (fits_at b.nodes s (get fits.0.frames (s, f)) what fits.2) fits.3

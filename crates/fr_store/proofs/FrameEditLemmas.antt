@@ -14,6 +14,7 @@ use Rattle.fr_base.specs.Layouts.{with_signal, without_signal}
 use Rattle.fr_base.specs.Queries.{placements_in}
 use Rattle.fr_base.specs.Signals.{SignalData}
 use Rattle.fr_base.specs.Step.{with_variant, changed, grants_after, frames_after, frame_after}
+use Rattle.fr_base.specs.Changes.{in_rows}
 use Rattle.fr_base.specs.declared.name.Name.{Name}
 use Rattle.fr_base.specs.declared.placement.Placement.{Placement}
 use Rattle.fr_base.specs.declared.request.Change.TheVariants.{Frame as OfFrame}
@@ -45,7 +46,7 @@ use Rattle.fr_store.proofs.CountedLemmas.{fine_empty, fine_placed, fine_unplaced
 use Rattle.fr_store.proofs.SignalSections.{add_section, of_signal, drop_section}
 
 applied_is : (b : Book) (v s f : Name) (what : FrameChange) (x : Variant) → get b.variants v ≡ Some x
-    → applied b (Rows s v (OfFrame f what)) ≡ with_variant b v (record x { frames = settle x.frames (s, f) (frame_after what (get x.frames (s, f))) })
+    → applied b (Rows (in_rows s v (OfFrame f what))) ≡ with_variant b v (record x { frames = settle x.frames (s, f) (frame_after what (get x.frames (s, f))) })
 unfolding applied changed grants_after frames_after
 applied_is b v s f what x there = ap (changed_at b v (changed s (OfFrame f what))) there
 
@@ -82,7 +83,7 @@ module _ (t : Tables) (count : ℕ) (b : Book) (h : HoldsRows t count b) (v s f 
       → own_or (becomes fate) (hidden drops (s, f)) (of_its_parent (s, f)) ≡ becomes fate → get x.frames (s, f) ≡ there → own_there ≡ own → frame_after what there ≡ fate
       → ((g : Frame) → becomes fate ≡ Some g → IsFine count g) → (fs : List FrameRow) (ps : List PlacementRow) (ss : List SignalRow)
       → FramesTurn v s f own (becomes fate) t.frames fs → PlacementsTurn v s f own (becomes fate) t.placements ps → SignalsTurn v s f own (becomes fate) t.signals ss
-      → HoldsRows (record t { frames = fs; placements = ps; signals = ss; dropped = drops }) count (applied b (Rows s v (OfFrame f what)))
+      → HoldsRows (record t { frames = fs; placements = ps; signals = ss; dropped = drops }) count (applied b (Rows (in_rows s v (OfFrame f what))))
   edited_with what there own fate drops elsewhere closes at own_at after fine fs ps ss in_frames in_placements in_signals =
       let frames = settle x.frames (s, f) fate in
       let owns = settle (h.stored v).own (s, f) fate in
@@ -102,7 +103,7 @@ module _ (t : Tables) (count : ℕ) (b : Book) (h : HoldsRows t count b) (v s f 
   edited : (what : FrameChange) (there own : Option Frame) (next : Frame) → get x.frames (s, f) ≡ there → own_there ≡ own → frame_after what there ≡ Becomes next → IsFine count next
       → (fs : List FrameRow) (ps : List PlacementRow) (ss : List SignalRow)
       → FramesTurn v s f own (Some next) t.frames fs → PlacementsTurn v s f own (Some next) t.placements ps → SignalsTurn v s f own (Some next) t.signals ss
-      → HoldsRows (record t { frames = fs; placements = ps; signals = ss }) count (applied b (Rows s v (OfFrame f what)))
+      → HoldsRows (record t { frames = fs; placements = ps; signals = ss }) count (applied b (Rows (in_rows s v (OfFrame f what))))
   edited what there own next at own_at after fine fs ps ss =
       edited_with what there own (Becomes next) t.dropped (as_dropped t count b h v s f) refl at own_at after (λ g is. subst (IsFine count) (same_some next g is) fine) fs ps ss
 
@@ -121,7 +122,7 @@ module _ (t : Tables) (count : ℕ) (b : Book) (h : HoldsRows t count b) (v s f 
   -- ---- a frame is added, or dropped
 
   pub new_frame : (node : Name) → is_some (get x.frames (s, f)) ≡ false
-      → HoldsRows (with_frame (record { variant = v; supplier = s; name = f; node = node }) t) count (applied b (Rows s v (OfFrame f (Add node))))
+      → HoldsRows (with_frame (record { variant = v; supplier = s; name = f; node = node }) t) count (applied b (Rows (in_rows s v (OfFrame f (Add node)))))
   unfolding frame_after empty
   new_frame node new =
       let next : Frame = record { node = node; placements = empty; signals = [] } in
@@ -159,7 +160,7 @@ module _ (t : Tables) (count : ℕ) (b : Book) (h : HoldsRows t count b) (v s f 
 
   -- the own rows go, if there are any, and the parent's frame is hidden
   ended : (frame : Frame) → get x.frames (s, f) ≡ Some frame → (drops : List DroppedRow) → DropsElsewhere t b v s f drops → hidden drops (s, f) ≡ true
-      → HoldsRows (record (without_frame (key_of v s f) t) { dropped = drops }) count (applied b (Rows s v (OfFrame f Drop)))
+      → HoldsRows (record (without_frame (key_of v s f) t) { dropped = drops }) count (applied b (Rows (in_rows s v (OfFrame f Drop))))
   unfolding frame_after
   ended frame there drops elsewhere hides =
       edited_with Drop (Some frame) own_there Gone drops elsewhere (ap (λ is. own_or None is (of_its_parent (s, f))) hides) there refl refl (λ g is. absurd cc) _ _ _
@@ -167,11 +168,11 @@ module _ (t : Tables) (count : ℕ) (b : Book) (h : HoldsRows t count b) (v s f 
       (turns_fewer placement_rows (is_placement_of (key_of v s f)) v s f own_there None t.placements (is_placement_of (key_of v s f)) (λ r is. is) (all_of_placements own_there))
       (turns_fewer signal_rows (is_signal_of (key_of v s f)) v s f own_there None t.signals (is_signal_of (key_of v s f)) (λ r is. is) (all_of_signals own_there))
 
-  pub end_alone : (frame : Frame) → get x.frames (s, f) ≡ Some frame → (h.stored v).overlay ≡ false → HoldsRows (without_frame (key_of v s f) t) count (applied b (Rows s v (OfFrame f Drop)))
+  pub end_alone : (frame : Frame) → get x.frames (s, f) ≡ Some frame → (h.stored v).overlay ≡ false → HoldsRows (without_frame (key_of v s f) t) count (applied b (Rows (in_rows s v (OfFrame f Drop))))
   end_alone frame there alone = ended frame there t.dropped (as_dropped t count b h v s f) (ap (λ over. not over || list_any (is_dropped (key_of v s f)) t.dropped) alone)
 
   pub end_over : (frame : Frame) → get x.frames (s, f) ≡ Some frame
-      → HoldsRows (with_dropped (key_of v s f) (without_frame (key_of v s f) t)) count (applied b (Rows s v (OfFrame f Drop)))
+      → HoldsRows (with_dropped (key_of v s f) (without_frame (key_of v s f) t)) count (applied b (Rows (in_rows s v (OfFrame f Drop))))
   end_over frame there =
       ended frame there (with_dropped (key_of v s f) t).dropped (drops_elsewhere v s f t b x is.there h.dropped) (ap (λ is. not (h.stored v).overlay || is) (now_dropped v s f t.dropped) ∙ either (not (h.stored v).overlay))
     where
@@ -185,7 +186,7 @@ module _ (t : Tables) (count : ℕ) (b : Book) (h : HoldsRows t count b) (v s f 
 
     -- ---- a placement is added, or ended
 
-    pub put_placement : (q : Placement) → contains frame.placements q ≡ false → q.cycles.count ≡ count → HoldsRows (with_placement (placement_row (key_of v s f) q) t) count (applied b (Rows s v (OfFrame f (Place q))))
+    pub put_placement : (q : Placement) → contains frame.placements q ≡ false → q.cycles.count ≡ count → HoldsRows (with_placement (placement_row (key_of v s f) q) t) count (applied b (Rows (in_rows s v (OfFrame f (Place q)))))
     unfolding frame_after
     put_placement q new same =
         let next : Frame = record frame { placements = insert frame.placements q tt } in
@@ -194,7 +195,7 @@ module _ (t : Tables) (count : ℕ) (b : Book) (h : HoldsRows t count b) (v s f 
         (turns_more placement_rows (is_placement_of (key_of v s f)) v s f (Some frame) (Some next) t.placements _ (place_section v s f frame q new))
         (turns_not signal_rows (is_signal_of (key_of v s f)) v s f (Some frame) (Some next) t.signals refl)
 
-    pub end_placement : (q : Placement) → IsTrue (contains frame.placements q) → HoldsRows (without_placement (placement_row (key_of v s f) q) t) count (applied b (Rows s v (OfFrame f (Unplace q))))
+    pub end_placement : (q : Placement) → IsTrue (contains frame.placements q) → HoldsRows (without_placement (placement_row (key_of v s f) q) t) count (applied b (Rows (in_rows s v (OfFrame f (Unplace q)))))
     unfolding frame_after
     end_placement q there_is =
         let next : Frame = record frame { placements = remove frame.placements q } in
@@ -206,7 +207,7 @@ module _ (t : Tables) (count : ℕ) (b : Book) (h : HoldsRows t count b) (v s f 
 
     -- ---- a signal is added, or dropped
 
-    pub put_signal : (signal : SignalData) → HoldsRows (statements.with_signal (signal_row (key_of v s f) signal) t) count (applied b (Rows s v (OfFrame f (AddSignal signal))))
+    pub put_signal : (signal : SignalData) → HoldsRows (statements.with_signal (signal_row (key_of v s f) signal) t) count (applied b (Rows (in_rows s v (OfFrame f (AddSignal signal)))))
     unfolding frame_after
     put_signal signal =
         let next : Frame = record frame { signals = with_signal signal frame.signals } in
@@ -215,7 +216,7 @@ module _ (t : Tables) (count : ℕ) (b : Book) (h : HoldsRows t count b) (v s f 
         (turns_not placement_rows (is_placement_of (key_of v s f)) v s f (Some frame) (Some next) t.placements refl)
         (turns_more signal_rows (is_signal_of (key_of v s f)) v s f (Some frame) (Some next) t.signals _ (add_section v s f frame signal))
 
-    pub end_signal : (name : Name) → HoldsRows (statements.without_signal (key_of v s f) name t) count (applied b (Rows s v (OfFrame f (DropSignal name))))
+    pub end_signal : (name : Name) → HoldsRows (statements.without_signal (key_of v s f) name t) count (applied b (Rows (in_rows s v (OfFrame f (DropSignal name)))))
     unfolding frame_after
     end_signal name =
         let next : Frame = record frame { signals = without_signal name frame.signals } in
@@ -232,17 +233,17 @@ carried change old new c next h heads rows = record { has = h.has; for = subst (
 
 -- a frame is dropped by two statements, or by one where the variant is not stored over its parent
 pub ended_over : (v s f : Name) (old mid new : State) (c : Cluster) (b : Book) (x : Variant) (frame : Frame) → Stands old c b → IsOpen b v x → get x.frames (s, f) ≡ Some frame
-    → Changes (without_frame (key_of v s f)) old mid → Changes (with_dropped (key_of v s f)) mid new → Stands new c (applied b (Rows s v (OfFrame f Drop)))
+    → Changes (without_frame (key_of v s f)) old mid → Changes (with_dropped (key_of v s f)) mid new → Stands new c (applied b (Rows (in_rows s v (OfFrame f Drop))))
 ended_over v s f old mid new c b x frame stands is there h k = record {
   has = k.has;
-  for = subst (λ t. StandsFor t c (applied b (Rows s v (OfFrame f Drop)))) (sym (k.now ∙ ap (with_dropped (key_of v s f)) h.now)) (record { heads = stands.for.heads; rows = end_over (tables_of old) c.params.cycles b stands.for.rows v s f x is frame there });
+  for = subst (λ t. StandsFor t c (applied b (Rows (in_rows s v (OfFrame f Drop))))) (sym (k.now ∙ ap (with_dropped (key_of v s f)) h.now)) (record { heads = stands.for.heads; rows = end_over (tables_of old) c.params.cycles b stands.for.rows v s f x is frame there });
 }
 
 pub ended_alone : (v s f : Name) (old new : State) (c : Cluster) (b : Book) (x : Variant) (frame : Frame) → Stands old c b → IsOpen b v x → get x.frames (s, f) ≡ Some frame → IsStoredSo v false (tables_of old)
-    → Changes (without_frame (key_of v s f)) old new → Stands new c (applied b (Rows s v (OfFrame f Drop)))
+    → Changes (without_frame (key_of v s f)) old new → Stands new c (applied b (Rows (in_rows s v (OfFrame f Drop))))
 ended_alone v s f old new c b x frame stands is there so h = record {
   has = h.has;
-  for = subst (λ t. StandsFor t c (applied b (Rows s v (OfFrame f Drop)))) (sym h.now)
+  for = subst (λ t. StandsFor t c (applied b (Rows (in_rows s v (OfFrame f Drop))))) (sym h.now)
       (record { heads = stands.for.heads; rows = end_alone (tables_of old) c.params.cycles b stands.for.rows v s f x is frame there (stored_so (tables_of old) c.params.cycles b stands.for.rows v false so) });
 }
 
@@ -260,7 +261,7 @@ unplace_fits (Some frame) q h = (frame, refl, h)
 
 module _ (v s f : Name) (old new : State) (c : Cluster) (b : Book) (x : Variant) (stands : Stands old c b) (is : IsOpen b v x) where
   abbrev frame_then : FrameChange → Type 0
-  frame_then what = Stands new c (applied b (Rows s v (OfFrame f what)))
+  frame_then what = Stands new c (applied b (Rows (in_rows s v (OfFrame f what))))
 
   pub added : (node : Name) → is_some (get x.frames (s, f)) ≡ false → Changes (with_frame (record { variant = v; supplier = s; name = f; node = node })) old new → frame_then (Add node)
   added node free h = carried _ old new c _ h stands.for.heads (new_frame (tables_of old) c.params.cycles b stands.for.rows v s f x is node free)

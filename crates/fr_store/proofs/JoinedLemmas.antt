@@ -24,7 +24,7 @@ follows-one c b (SetReleased v) fits = changed-file c b v _ (get b.variants v)
 follows-one c b (NewSupplier s key) fits = joining-is_listed c b s key fits
 follows-one c b (SetKey s key) fits = key-is_listed c b s key fits
 follows-one c b (NewNode s n) fits = refl
-follows-one c b (Rows s v what) fits = changed-file c b v _ (get b.variants v)
+follows-one c b (Rows rows) fits = changed-file c b rows.variant _ (get b.variants rows.variant)
 follows-one c b (KeepImport s label v body rows) fits = refl
 
 pub follows : (c : Cluster) (b : Book) (edits : List Edit) → AllFit c.params b edits → file_of c (all_applied b edits) ≡ after_edits (file_of c b) edits
@@ -38,7 +38,7 @@ cluster_after-one f (SetReleased v) = refl
 cluster_after-one f (NewSupplier s key) = refl
 cluster_after-one f (SetKey s key) = refl
 cluster_after-one f (NewNode s n) = refl
-cluster_after-one f (Rows s v what) = refl
+cluster_after-one f (Rows rows) = refl
 cluster_after-one f (KeepImport s label v body rows) = refl
 
 pub cluster_after : (f : ClusterFile) (edits : List Edit) → (after_edits f edits).cluster ≡ f.cluster

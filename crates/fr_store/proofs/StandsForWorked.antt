@@ -7,6 +7,7 @@ use Rattle.fr_base.specs.Keys.{numbers, names, channel_order, channels_order, ow
 use Rattle.fr_base.specs.Book.{Book, Frame, empty_variant, opening, suppliers_of}
 use Rattle.fr_base.specs.Step.{changed, grants_after, frames_after, frame_after}
 use Rattle.fr_base.specs.Tables.{settle, from_rows, only}
+use Rattle.fr_base.specs.Changes.{in_rows}
 use Rattle.fr_base.specs.declared.channel.Channel.TheVariants as ch
 use Rattle.fr_base.specs.declared.channel.Channels.TheVariants as chs
 use Rattle.fr_base.specs.declared.request.Change.TheVariants.{Grant, Frame as OfFrame}
@@ -28,10 +29,10 @@ unfoldable pub register : Book
 register = all_applied (opening file) (
     NewVariant (codes "v1") None 1
     ∷ NewNode (codes "s1") (codes "n1")
-    ∷ Rows (codes "s1") (codes "v1") (Grant 1 ch.A (codes "n1"))
-    ∷ Rows (codes "s1") (codes "v1") (OfFrame (codes "f1") (Add (codes "n1")))
-    ∷ Rows (codes "s1") (codes "v1") (OfFrame (codes "f1") (Place (record { slot = 1; channels = chs.A; cycles = record { count = 64; base = 0; repetition = 64 } })))
-    ∷ Rows (codes "s1") (codes "v1") (OfFrame (codes "f1") (AddSignal (record { name = codes "x"; start = 4; length = 8; order = Little })))
+    ∷ Rows (in_rows (codes "s1") (codes "v1") (Grant 1 ch.A (codes "n1")))
+    ∷ Rows (in_rows (codes "s1") (codes "v1") (OfFrame (codes "f1") (Add (codes "n1"))))
+    ∷ Rows (in_rows (codes "s1") (codes "v1") (OfFrame (codes "f1") (Place (record { slot = 1; channels = chs.A; cycles = record { count = 64; base = 0; repetition = 64 } }))))
+    ∷ Rows (in_rows (codes "s1") (codes "v1") (OfFrame (codes "f1") (AddSignal (record { name = codes "x"; start = 4; length = 8; order = Little }))))
     ∷ [])
 
 -- a variant's own frames are all that it shows
@@ -77,9 +78,9 @@ bare node = record { node = node; placements = empty; signals = [] }
 unfoldable pub parents : Book
 parents = all_applied (opening file) (
     NewVariant (codes "v1") None 1
-    ∷ Rows (codes "s1") (codes "v1") (OfFrame (codes "f1") (Add (codes "n1")))
-    ∷ Rows (codes "s1") (codes "v1") (OfFrame (codes "f2") (Add (codes "n1")))
-    ∷ Rows (codes "s1") (codes "v1") (OfFrame (codes "f3") (Add (codes "n1")))
+    ∷ Rows (in_rows (codes "s1") (codes "v1") (OfFrame (codes "f1") (Add (codes "n1"))))
+    ∷ Rows (in_rows (codes "s1") (codes "v1") (OfFrame (codes "f2") (Add (codes "n1"))))
+    ∷ Rows (in_rows (codes "s1") (codes "v1") (OfFrame (codes "f3") (Add (codes "n1"))))
     ∷ SetReleased (codes "v1")
     ∷ [])
 

@@ -12,6 +12,7 @@ use Rattle.fr_base.specs.Channels.{text_of_channel}
 use Rattle.fr_base.specs.Cluster.{Cluster}
 use Rattle.fr_base.specs.Book.{Holder, Variant, Book}
 use Rattle.fr_base.specs.Step.{changed, grants_after, frames_after}
+use Rattle.fr_base.specs.Changes.{in_rows}
 use Rattle.fr_base.specs.declared.channel.Channel.{Channel}
 use Rattle.fr_base.specs.declared.name.Name.{Name}
 use Rattle.fr_base.specs.declared.request.Change.TheVariants as change
@@ -70,7 +71,7 @@ module _ (s v n : Name) (slot : ℕ) (channel : Channel) where
   granted_row = record { variant = v; slot = pos slot; channel = text_of_channel channel; supplier = s; node = n }
 
   abbrev granting : Edit
-  granting = Rows s v (change.Grant slot channel n)
+  granting = Rows (in_rows s v (change.Grant slot channel n))
 
   still_granted : (x : Variant) → IsStill x (changed s (change.Grant slot channel n) x)
   unfolding changed frames_after
@@ -102,7 +103,7 @@ module _ (s v n : Name) (slot : ℕ) (channel : Channel) where
 
 module _ (s v : Name) (slot : ℕ) (channel : Channel) where
   abbrev revoking : Edit
-  revoking = Rows s v (change.Revoke slot channel)
+  revoking = Rows (in_rows s v (change.Revoke slot channel))
 
   abbrev stays : GrantRow → Bool
   stays g = not (is_grant_at v (pos slot) (text_of_channel channel) g)

@@ -4,6 +4,7 @@ use Rattle.sqlite.specs.State.{State, HasCleanDisk}
 use Rattle.fr_base.specs.Tables.{get, contains}
 use Rattle.fr_base.specs.Cluster.{Cluster}
 use Rattle.fr_base.specs.Book.{Frame, Variant, Book}
+use Rattle.fr_base.specs.Changes.{in_rows}
 use Rattle.fr_base.specs.declared.request.Change.TheVariants.{Frame as OfFrame}
 use Rattle.fr_base.specs.declared.request.FrameChange.{FrameChange}
 use Rattle.fr_base.specs.declared.request.FrameChange.TheVariants.{Add, Place, Unplace}
@@ -26,4 +27,4 @@ abbrev pub EditsFrame : {X E : Type 0} → FrameKey → FrameChange → State �
 EditsFrame key what old new r =
     HasCleanDisk new → IsTrue old.in_transaction → (c : Cluster) (b : Book) (x : Variant) → Stands old c b → IsOpen b key.variant x
     → FitsAt (get x.frames (key.supplier, key.frame)) what → IsCounted c.params (OfFrame key.frame what)
-    → OnOk r (Stands new c (applied b (Rows key.supplier key.variant (OfFrame key.frame what))))
+    → OnOk r (Stands new c (applied b (Rows (in_rows key.supplier key.variant (OfFrame key.frame what)))))

@@ -10,6 +10,7 @@ use Rattle.fr_base.specs.Cluster.{Cluster}
 use Rattle.fr_base.specs.Names.{same_text}
 use Rattle.fr_base.specs.Book.{Holder, Variant, Book, held_by, is_of, own_grants}
 use Rattle.fr_base.specs.Step.{OwnRows, own_rows, with_variant, grants_after, changed}
+use Rattle.fr_base.specs.Changes.{in_rows}
 use Rattle.fr_base.specs.declared.channel.Channel.{Channel}
 use Rattle.fr_base.specs.declared.name.Name.{Name}
 use Rattle.fr_base.specs.declared.request.Change.{Change}
@@ -60,16 +61,16 @@ module _ (c : Cluster) (b : Book) (s v : Name) (x : Variant) (there : get b.vari
   unfolding applied edited own_rows
   node-agrees n = (x, there, ap (λ t. record page { nodes = t }) (only-insert owned (is_of s) b.nodes (s, n) tt (same_text-itself s)), refl)
 
-  rows-agree : (what : Change) → Agrees c b s v x (Rows s v what)
+  rows-agree : (what : Change) → Agrees c b s v x (Rows (in_rows s v what))
   unfolding applied edited own_rows changed
   rows-agree what =
-      agree (Rows s v what) (changed s what x) (changed-there b v x there (changed s what))
+      agree (Rows (in_rows s v what)) (changed s what x) (changed-there b v x there (changed s what))
       (λ i. record page { grants = grants_after-own s what x.grants i; frames = frames_after-own s what x.frames i }) refl
 
   edit-agrees : (edit : Edit) → IsOf s v edit → Agrees c b s v x edit
   edit-agrees (SetReleased w) is = subst (λ u. Agrees c b s v x (SetReleased u)) (sym is) release-agrees
   edit-agrees (NewNode t n) is = subst (λ u. Agrees c b s v x (NewNode u n)) (sym is) (node-agrees n)
-  edit-agrees (Rows t w what) is = subst (λ (u : Name × Name). Agrees c b s v x (Rows u.0 u.1 what)) (λ i. (sym is.0 i, sym is.1 i)) (rows-agree what)
+  edit-agrees (Rows rows) is = subst (λ (u : Name × Name). Agrees c b s v x (Rows (in_rows u.0 u.1 rows.change))) (λ i. (sym is.0 i, sym is.1 i)) (rows-agree rows.change)
   edit-agrees (NewVariant w parent depth) is = absurd is
   edit-agrees (NewSupplier t key) is = absurd is
   edit-agrees (SetKey t key) is = absurd is
@@ -122,7 +123,7 @@ module _ (c : Cluster) (b : Book) (s v : Name) (x : Variant) (there : get b.vari
   unfolding applied own_rows
   node-stays n = (y, beside, ap (λ u. record (own_rows c.params b t y) { nodes = u }) (only-insert_other owned (is_of t) b.nodes (s, n) tt other))
 
-  grants-stay : (what : Change) → SparesOthers s x (Rows s v what) → own_grants t (grants_after s what x.grants) ≡ own_grants t x.grants
+  grants-stay : (what : Change) → SparesOthers s x (Rows (in_rows s v what)) → own_grants t (grants_after s what x.grants) ≡ own_grants t x.grants
   unfolding grants_after
   grants-stay (Grant slot channel node) spares =
       let at : ℕ × Channel = (slot, channel) in
@@ -132,18 +133,18 @@ module _ (c : Cluster) (b : Book) (s v : Name) (x : Variant) (there : get b.vari
       only-remove_other channel_slots (λ _ h. held_by t (Some h)) x.grants at (not_held s t at (get x.grants at) other spares)
   grants-stay (Frame f what) spares = refl
 
-  rows-stay : (what : Change) → SparesOthers s x (Rows s v what) → Stays c b t w y (Rows s v what)
+  rows-stay : (what : Change) → SparesOthers s x (Rows (in_rows s v what)) → Stays c b t w y (Rows (in_rows s v what))
   unfolding applied own_rows changed
   rows-stay what spares =
-      stay (Rows s v what) (changed s what x) (changed-there b v x there (changed s what))
+      stay (Rows (in_rows s v what)) (changed s what x) (changed-there b v x there (changed s what))
       (λ i. record (own_rows c.params b t x) { grants = grants-stay what spares i; frames = frames_after-other t s other what x.frames i })
 
   edit-stays : (edit : Edit) → IsOf s v edit → SparesOthers s x edit → Stays c b t w y edit
   edit-stays (SetReleased u) is spares = subst (λ u. Stays c b t w y (SetReleased u)) (sym is) release-stays
   edit-stays (NewNode r n) is spares = subst (λ u. Stays c b t w y (NewNode u n)) (sym is) (node-stays n)
-  edit-stays (Rows r u what) is spares =
-      let same : (r, u) ≡ (s, v) = λ i. (is.0 i, is.1 i) in
-      subst (λ (k : Name × Name). Stays c b t w y (Rows k.0 k.1 what)) (sym same) (rows-stay what (subst (λ (k : Name × Name). SparesOthers s x (Rows k.0 k.1 what)) same spares))
+  edit-stays (Rows rows) is spares =
+      let same : (rows.supplier, rows.variant) ≡ (s, v) = λ i. (is.0 i, is.1 i) in
+      subst (λ (k : Name × Name). Stays c b t w y (Rows (in_rows k.0 k.1 rows.change))) (sym same) (rows-stay rows.change (subst (λ (k : Name × Name). SparesOthers s x (Rows (in_rows k.0 k.1 rows.change))) same spares))
   edit-stays (NewVariant u parent depth) is spares = absurd is
   edit-stays (NewSupplier r key) is spares = absurd is
   edit-stays (SetKey r key) is spares = absurd is

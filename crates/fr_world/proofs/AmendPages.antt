@@ -19,6 +19,7 @@ use Rattle.fr_base.specs.declared.refusal.Refusal.{Refusal}
 use Rattle.fr_base.specs.declared.request.Change.{Change}
 use Rattle.fr_base.specs.declared.request.Change.TheVariants.{Frame, Grant, Revoke}
 use Rattle.fr_base.specs.declared.request.FrameChange.{FrameChange}
+use Rattle.fr_base.specs.declared.request.RowsChange.{RowsChange}
 use Rattle.fr_base.specs.declared.request.FrameChange.TheVariants.{AddSignal}
 use Rattle.fr_base.proofs.TableLaws.{get-insert}
 use Rattle.fr_world.specs.Amends.{AreChanged, HaveWords, LeavesLayout, as_frame, frame_at, nodes_of, grants_of}
@@ -46,6 +47,10 @@ words_at words name g (x ∷ xs) found all =
         ap (λ (y : PageFrame). y.layout.words) (sym one) ∙ All-head (λ (e : Name × FrameData). e.1.layout.words ≡ words) (x.0, frame_data x.1) (frames_data xs) all
     by_test false here rest = rest here
 
+-- the edit of these rows that makes another change
+abbrev with_what : RowsChange → Change → Edit
+with_what rows what = Rows (record rows { change = what })
+
 -- The rows are seen as the page's value.
 module _ (old seen : PageData) (view : old ≡ seen) (edit : Edit) (takes : Takes seen.variant (own_rows_of seen) edit) where
   -- the page that is to be
@@ -68,16 +73,16 @@ module _ (old seen : PageData) (view : old ≡ seen) (edit : Edit) (takes : Take
   unfolding edited
   node_page s n nodes is table = ap (λ t. record (own_rows_of old) { nodes = t }) (table old.supplier) ∙ aim_is (NewNode s n) is
 
-  pub grant_page : (s v n : Name) (k : ℕ) (c : Channel) (grants : List (ChannelSlot × Name)) → edit ≡ Rows s v (Grant k c n) → ((t : Name) → grants_of t grants ≡ insert (grants_of t old.grants) (k, c) (holder_of t n)) →
+  pub grant_page : (rows : RowsChange) (n : Name) (k : ℕ) (c : Channel) (grants : List (ChannelSlot × Name)) → edit ≡ Rows rows → rows.change ≡ Grant k c n → ((t : Name) → grants_of t grants ≡ insert (grants_of t old.grants) (k, c) (holder_of t n)) →
       own_rows_of (record old { grants = grants }) ≡ aim
   unfolding edited grants_after frames_after
-  grant_page s v n k c grants is table = ap (λ t. record (own_rows_of old) { grants = t }) (table old.supplier) ∙ aim_is (Rows s v (Grant k c n)) is
+  grant_page rows n k c grants is at table = ap (λ t. record (own_rows_of old) { grants = t }) (table old.supplier) ∙ aim_is (with_what rows (Grant k c n)) (is ∙ ap (with_what rows) at)
 
-  pub ended_page : (s v : Name) (k : ℕ) (c : Channel) (grants : List (ChannelSlot × Name)) → edit ≡ Rows s v (Revoke k c) → ((t : Name) → grants_of t grants ≡ remove (grants_of t old.grants) (k, c)) → own_rows_of (record old { grants = grants }) ≡ aim
+  pub ended_page : (rows : RowsChange) (k : ℕ) (c : Channel) (grants : List (ChannelSlot × Name)) → edit ≡ Rows rows → rows.change ≡ Revoke k c → ((t : Name) → grants_of t grants ≡ remove (grants_of t old.grants) (k, c)) → own_rows_of (record old { grants = grants }) ≡ aim
   unfolding edited grants_after frames_after
-  ended_page s v k c grants is table = ap (λ t. record (own_rows_of old) { grants = t }) (table old.supplier) ∙ aim_is (Rows s v (Revoke k c)) is
+  ended_page rows k c grants is at table = ap (λ t. record (own_rows_of old) { grants = t }) (table old.supplier) ∙ aim_is (with_what rows (Revoke k c)) (is ∙ ap (with_what rows) at)
 
-  module _ {s v f : Name} {rows : Change} {change what : FrameChange} (is : edit ≡ Rows s v rows) (at : rows ≡ Frame f change) (kind : change ≡ what) (frames : List (Name × PageFrame)) (same : frames_data frames ≡ old.frames) where
+  module _ {f : Name} {rows : RowsChange} {change what : FrameChange} (is : edit ≡ Rows rows) (at : rows.change ≡ Frame f change) (kind : change ≡ what) (frames : List (Name × PageFrame)) (same : frames_data frames ≡ old.frames) where
     -- the page's frames
     abbrev table : Table owned book.Frame
     table = (own_rows_of old).frames
@@ -87,7 +92,7 @@ module _ (old seen : PageData) (view : old ≡ seen) (edit : Edit) (takes : Take
 
     frames_page : aim ≡ record (own_rows_of old) { frames = settle table k (frame_after what (get table k)) }
     unfolding edited grants_after frames_after
-    frames_page = sym (aim_is (Rows s v (Frame f what)) (is ∙ ap (Rows s v) (at ∙ ap (Frame f) kind)))
+    frames_page = sym (aim_is (with_what rows (Frame f what)) (is ∙ ap (with_what rows) (at ∙ ap (Frame f) kind)))
 
     change_page : (words : ℕ) (later : List (Name × PageFrame)) → AreChanged words f what frames later → own_rows_of (record old { frames = frames_data later }) ≡ aim
     change_page words later changed =
@@ -109,7 +114,7 @@ module _ (old seen : PageData) (view : old ≡ seen) (edit : Edit) (takes : Take
     change_made Q r later cells was changed err placed = (on_ok r (change_page old.params.payload_words later) changed, kept_after Q r later was changed err, placed)
 
   -- the signals that an added one leaves a frame are those of a page
-  module _ {s v f : Name} {rows : Change} {change : FrameChange} {signal : SignalData} (is : edit ≡ Rows s v rows) (at : rows ≡ Frame f change) (kind : change ≡ AddSignal signal) (frames : List (Name × PageFrame)) (same : frames_data frames ≡ old.frames) (was : IsKept old) where
+  module _ {f : Name} {rows : RowsChange} {change : FrameChange} {signal : SignalData} (is : edit ≡ Rows rows) (at : rows.change ≡ Frame f change) (kind : change ≡ AddSignal signal) (frames : List (Name × PageFrame)) (same : frames_data frames ≡ old.frames) (was : IsKept old) where
     added : (g : PageFrame) → frame_at f frames ≡ Some g → IsLayout (record { words = g.layout.words; signals = with_signal signal g.layout.signals })
     unfolding frame_after settle
     added g found =

@@ -10,6 +10,7 @@ use Rattle.fr_base.specs.Cluster.{Cluster}
 use Rattle.fr_base.specs.Book.{Frame, Variant, Book, is_of, own}
 use Rattle.fr_base.specs.Sound.{IsOpenedFrom, IsSound}
 use Rattle.fr_base.specs.Step.{OwnRows, own_rows, changed}
+use Rattle.fr_base.specs.Changes.{in_rows}
 use Rattle.fr_base.specs.declared.limits.TheConstants.{MAX_DEPTH}
 use Rattle.fr_base.specs.declared.import.RowRead.{RowRead}
 use Rattle.fr_base.specs.declared.name.Name.{Name}
@@ -45,7 +46,7 @@ use Rattle.fr_world.proofs.IntegratorLaws.{node-listed, row, row-of, row-there}
 use Rattle.fr_world.proofs.LeadsLaws.{rows-leave}
 use Rattle.fr_world.proofs.PageLaws.{rows-kept, rows-registers}
 use Rattle.fr_world.proofs.ReplacementsLead.{replacement-leads}
-use Rattle.fr_world.proofs.RowsLead.{IsOfFrame, frames-lead, is_counted}
+use Rattle.fr_world.proofs.RowsLead.{IsFrameChange, IsOfFrame, frames-lead, is_counted}
 
 -- ---- what fits a supplier's own rows fits those of all
 
@@ -96,16 +97,21 @@ decision-fits c b s v x what edits sound there checked unheld e = subst (λ r. I
 
 module _ (c : Cluster) (s v : Name) where
   -- a frame's change that fits the page fits the book
-  one-fits : (b : Book) (x : Variant) → get b.variants v ≡ Some x → IsFalse x.released → (edit : Edit) → IsOfFrame c.params edit → IsOf s v edit → FitsPage (own_rows c.params b s x) edit → Fits c.params b edit
+  frame_change-fits : (b : Book) (x : Variant) → get b.variants v ≡ Some x → IsFalse x.released → (t w : Name) (what : Change) → IsFrameChange c.params what → (t ≡ s) × (w ≡ v) → FitsRows (own_rows c.params b s x) what →
+      Fits c.params b (Rows (in_rows t w what))
   unfolding own_rows
-  one-fits b x there unreleased (Rows t w (OfFrame f what)) of own fits = (
+  frame_change-fits b x there unreleased t w (OfFrame f what) of own fits = (
     x,
     record { there = ap (get b.variants) own.1 ∙ there; unreleased = unreleased },
     subst (λ u. FitsFrame b.nodes u (get x.frames (u, f)) what) (sym own.0) (change-fits c b s x (OfFrame f what) tt fits),
     of,
   )
-  one-fits b x there unreleased (Rows t w (Grant slot channel node)) of own fits = absurd of
-  one-fits b x there unreleased (Rows t w (Revoke slot channel)) of own fits = absurd of
+  frame_change-fits b x there unreleased t w (Grant slot channel node) of own fits = absurd of
+  frame_change-fits b x there unreleased t w (Revoke slot channel) of own fits = absurd of
+
+  -- so does an edit that is one
+  one-fits : (b : Book) (x : Variant) → get b.variants v ≡ Some x → IsFalse x.released → (edit : Edit) → IsOfFrame c.params edit → IsOf s v edit → FitsPage (own_rows c.params b s x) edit → Fits c.params b edit
+  one-fits b x there unreleased (Rows rows) of own fits = frame_change-fits b x there unreleased rows.supplier rows.variant rows.change of own fits
   one-fits b x there unreleased (NewVariant w parent depth) of own fits = absurd of
   one-fits b x there unreleased (SetReleased w) of own fits = absurd of
   one-fits b x there unreleased (NewNode t n) of own fits = absurd of
@@ -115,7 +121,7 @@ module _ (c : Cluster) (s v : Name) where
 
   -- and leaves the variant open
   still_open : (edit : Edit) → IsOfFrame c.params edit → releases edit ≡ false
-  still_open (Rows t w what) of = refl
+  still_open (Rows rows) of = refl
   still_open (NewVariant w parent depth) of = absurd of
   still_open (SetReleased w) of = absurd of
   still_open (NewNode t n) of = absurd of
@@ -130,7 +136,7 @@ module _ (c : Cluster) (s v : Name) where
   -- it leaves the suppliers and the imports, and each variant is there still
   one-keeps : (b : Book) (edit : Edit) → IsOfFrame c.params edit → Keeps b (applied b edit)
   unfolding applied
-  one-keeps b (Rows t w what) of = changed-keeps b w (changed t what) (get b.variants w)
+  one-keeps b (Rows rows) of = changed-keeps b rows.variant (changed rows.supplier rows.change) (get b.variants rows.variant)
   one-keeps b (NewVariant w parent depth) of = absurd of
   one-keeps b (SetReleased w) of = absurd of
   one-keeps b (NewNode t n) of = absurd of

@@ -2,6 +2,7 @@
 use Rattle.std.proofs.Common.{◌≡◌, true, false, [], ◌∷◌, Result, Ok, Err, refl}
 use Rattle.std.specs.Prelude.{⊤}
 use Rattle.fr_base.specs.Refusing.{◌>>◌, refuse◌when◌}
+use Rattle.fr_base.specs.Changes.{in_rows}
 use Rattle.fr_base.specs.declared.refusal.Refusal.{Refusal}
 use Rattle.fr_base.specs.declared.refusal.Refusal.TheVariants.{Released}
 use Rattle.fr_base.specs.declared.request.Change.{Change}
@@ -15,12 +16,12 @@ unfolding decision ◌>>◌ refuse◌when◌
 decision_released rows what closed = rw closed refl
 
 module _ (rows : PageData) (what : Change) (unreleased : rows.released ≡ false) where
-  decision_open : (r : Result ⊤ Refusal) → r ≡ admits_alone (own_rows_of rows) what → decision rows what ≡ (r >> Ok (Rows rows.supplier rows.variant what ∷ []))
+  decision_open : (r : Result ⊤ Refusal) → r ≡ admits_alone (own_rows_of rows) what → decision rows what ≡ (r >> Ok (Rows (in_rows rows.supplier rows.variant what) ∷ []))
   unfolding decision ◌>>◌ refuse◌when◌
   decision_open r is = rw (unreleased, ← is) refl
 
   -- what is admitted is the edit
-  pub decision_made : (t : ⊤) → Ok t ≡ admits_alone (own_rows_of rows) what → decision rows what ≡ Ok (Rows rows.supplier rows.variant what ∷ [])
+  pub decision_made : (t : ⊤) → Ok t ≡ admits_alone (own_rows_of rows) what → decision rows what ≡ Ok (Rows (in_rows rows.supplier rows.variant what) ∷ [])
   unfolding ◌>>◌
   decision_made t is = decision_open (Ok t) is
 

@@ -10,6 +10,7 @@ use Rattle.fr_base.specs.ImportRows.{rows_of_body}
 use Rattle.fr_base.specs.Sound.{IsSound}
 use Rattle.fr_base.specs.Step as step
 use Rattle.fr_base.specs.Step.{OwnRows, own_rows, with_variant, changed, grants_after, frames_after, frame_at, with_frame as book_frame, frame_of_row, freed, with_freed}
+use Rattle.fr_base.specs.Changes.{in_rows}
 use Rattle.fr_base.specs.declared.import.Row.{Row}
 use Rattle.fr_base.specs.declared.import.Row.TheVariants as row
 use Rattle.fr_base.specs.declared.import.RowRead.{RowRead}
@@ -43,10 +44,10 @@ use Rattle.fr_world.proofs.RowsDecide.{Draws, Like, drawn, frame-like, frame-sho
 
 module _ (s v f : Name) where
   abbrev edits_of : List FrameChange → List Edit
-  edits_of whats = map (λ what. Rows s v (change.Frame f what)) whats
+  edits_of whats = map (λ what. Rows (in_rows s v (change.Frame f what))) whats
 
   one-applied : (b : Book) (x : Variant) → get b.variants v ≡ Some x → (what : FrameChange) →
-      applied b (Rows s v (change.Frame f what)) ≡ with_variant b v (record x { frames = frames_after s (change.Frame f what) x.frames })
+      applied b (Rows (in_rows s v (change.Frame f what))) ≡ with_variant b v (record x { frames = frames_after s (change.Frame f what) x.frames })
   unfolding applied changed grants_after
   one-applied b x there what = ap (changed_at b v (changed s (change.Frame f what))) there
 
@@ -87,9 +88,9 @@ module _ (c : Cluster) (start : Book) (s v : Name) where
   -- ---- frames that are freed
 
   one-drawn : (b : Book) (d : DraftData) → Drawn b d → (f : Name) (what : FrameChange) → IsFormedFrame c.params f what → admits_alone d.page (change.Frame f what) ≡ Ok tt →
-      Drawn (applied b (Rows s v (change.Frame f what))) (with_change d (change.Frame f what))
+      Drawn (applied b (Rows (in_rows s v (change.Frame f what)))) (with_change d (change.Frame f what))
   one-drawn b d draws f what form admitted =
-      subst (λ e. admits_alone e.page (change.Frame f what) ≡ Ok tt → Drawn (applied b (Rows s v (change.Frame f what))) (with_change e (change.Frame f what)))
+      subst (λ e. admits_alone e.page (change.Frame f what) ≡ Ok tt → Drawn (applied b (Rows (in_rows s v (change.Frame f what)))) (with_change e (change.Frame f what)))
       (λ i. record { variant = sym draws.variant i; released = d.released; page = sym draws.page i; edits = d.edits })
       (drawn c start s v b draws.x draws.there draws.unreleased draws.known draws.sound f what d.released d.edits draws.edits form tt) admitted
 

@@ -13,6 +13,7 @@ use Rattle.fr_base.specs.Book.{Frame, Variant, Book, is_of}
 use Rattle.fr_base.specs.ImportRows.{rows_of_body}
 use Rattle.fr_base.specs.Sound.{IsSound}
 use Rattle.fr_base.specs.Step.{OwnRows, own_rows, change_rows, frame_at, with_frame as book_frame, act_row, at_line, act_rows}
+use Rattle.fr_base.specs.Changes.{in_rows}
 use Rattle.fr_base.specs.declared.import.Row.{Row}
 use Rattle.fr_base.specs.declared.import.Row.TheVariants as row
 use Rattle.fr_base.specs.declared.import.RowRead.{RowRead}
@@ -97,7 +98,7 @@ module _ (c : Cluster) (start : Book) (s v : Name) where
     page = own_rows c.params b s x
 
     abbrev edit : Edit
-    edit = Rows s v (change.Frame f what)
+    edit = Rows (in_rows s v (change.Frame f what))
 
     -- what the page admits is done
     change-made : change_rows c.params b s v (change.Frame f what) ≡ (admits_alone page (change.Frame f what) >> Ok (applied b edit))
@@ -113,7 +114,7 @@ module _ (c : Cluster) (start : Book) (s v : Name) where
         by_answer (Err e) = refl
 
     pub drawn : (frozen : Bool) (edits : List Edit) → b ≡ all_applied start edits → IsFormedFrame c.params f what → (t : ⊤) → admits_alone page (change.Frame f what) ≡ Ok t →
-        Draws (applied b edit) (record { variant = v; released = frozen; page = rows_after (change.Frame f what) page; edits = edits ++ Rows page.supplier v (change.Frame f what) ∷ [] })
+        Draws (applied b edit) (record { variant = v; released = frozen; page = rows_after (change.Frame f what) page; edits = edits ++ Rows (in_rows page.supplier v (change.Frame f what)) ∷ [] })
     unfolding ◌>>◌ edited own_rows
     drawn frozen edits led form t admitted =
         let made : change_rows c.params b s v (change.Frame f what) ≡ Ok (applied b edit) = change-made ∙ ap (λ r. r >> Ok (applied b edit)) admitted in

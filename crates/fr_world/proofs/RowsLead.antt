@@ -7,6 +7,7 @@ use Rattle.fr_base.specs.Names.{same_text}
 use Rattle.fr_base.specs.Parameters.{check_params}
 use Rattle.fr_base.specs.Book.{Frame}
 use Rattle.fr_base.specs.Step.{OwnRows}
+use Rattle.fr_base.specs.Changes.{in_rows}
 use Rattle.fr_base.specs.declared.import.Row.{Row}
 use Rattle.fr_base.specs.declared.import.Row.TheVariants as row
 use Rattle.fr_base.specs.declared.import.RowRead.{RowRead}
@@ -51,17 +52,20 @@ is_counted p (change.Frame f (Unplace q)) checked = tt
 is_counted p (change.Frame f (AddSignal signal)) checked = tt
 is_counted p (change.Frame f (DropSignal name)) checked = tt
 
--- the edit is of a frame, and a placement that it adds is of the cluster's cycles
+-- the change is of a frame, and a placement that it adds is of the cluster's cycles
+abbrev pub IsFrameChange : Params → Change → Type 0
+IsFrameChange p (change.Frame f what) = IsCounted p (change.Frame f what)
+IsFrameChange p _ = ⊥
+
+-- the same of an edit
 abbrev pub IsOfFrame : Params → Edit → Type 0
-IsOfFrame p (Rows s v (change.Frame f what)) = IsCounted p (change.Frame f what)
+IsOfFrame p (Rows rows) = IsFrameChange p rows.change
 IsOfFrame p _ = ⊥
 
 -- edits of frames release no variant
 pub none-releases : (p : Params) (edits : List Edit) → AllByRecursion (IsOfFrame p) edits → list_any releases edits ≡ false
 none-releases p [] all = refl
-none-releases p (Rows s v (change.Frame f what) ∷ edits) all = none-releases p edits all.1
-none-releases p (Rows s v (change.Grant slot channel node) ∷ edits) all = absurd all.0
-none-releases p (Rows s v (change.Revoke slot channel) ∷ edits) all = absurd all.0
+none-releases p (Rows rows ∷ edits) all = none-releases p edits all.1
 none-releases p (NewVariant v parent depth ∷ edits) all = absurd all.0
 none-releases p (SetReleased v ∷ edits) all = absurd all.0
 none-releases p (NewSupplier s key ∷ edits) all = absurd all.0
@@ -158,7 +162,7 @@ rows-lead rows reads edits params kept checked e = (frames-lead rows params kept
 
 -- a page takes a change that it admits
 pub change-takes : (rows : PageData) → check_params rows.params ≡ Ok rows.params → IsKept rows → (what : Change) → IsChecked rows.params what → admits_alone (own_rows_of rows) what ≡ Ok tt →
-    Takes rows.variant (own_rows_of rows) (Rows rows.supplier rows.variant what)
+    Takes rows.variant (own_rows_of rows) (Rows (in_rows rows.supplier rows.variant what))
 unfolding edited
 change-takes rows params kept what checked admitted =
     record { own = (refl, refl); leaves = (subst (λ r. IfOk r (λ _. FitsRows (own_rows_of rows) what × IsPage (rows_after what (own_rows_of rows)))) admitted (rows-leave (own_rows_of rows) kept.page (few_words rows.params params) what checked)).1 }

@@ -7,6 +7,7 @@ use Rattle.fr_base.specs.Cluster.{Cluster}
 use Rattle.fr_base.specs.Book.{Variant, Book}
 use Rattle.fr_base.specs.Sound.{IsSound}
 use Rattle.fr_base.specs.Step.{OwnRows, own_rows, shared_by, admits, with_variant, changed, change_rows}
+use Rattle.fr_base.specs.Changes.{in_rows}
 use Rattle.fr_base.specs.declared.channel.Channel.{Channel}
 use Rattle.fr_base.specs.declared.name.Name.{Name}
 use Rattle.fr_base.specs.declared.refusal.Refusal.{Refusal}
@@ -37,19 +38,19 @@ module _ (c : Cluster) (b : Book) (s v : Name) (x : Variant) (there : get b.vari
       ∙ ap (λ t. (refuse Released when x.released) >> ((refuse NoSupplier when not t) >> (admits page (shared_by x.grants x.frames) what >> Ok after))) known
 
   -- what the page decides
-  told : decision (page_in c.params b s v x) what ≡ ((refuse Released when x.released) >> (admits_alone page what >> Ok (Rows s v what ∷ [])))
+  told : decision (page_in c.params b s v x) what ≡ ((refuse Released when x.released) >> (admits_alone page what >> Ok (Rows (in_rows s v what) ∷ [])))
   unfolding decision
-  told = ap (λ rows. (refuse Released when x.released) >> (admits_alone rows what >> Ok (Rows s v what ∷ []))) (rows-registers c b s v x)
+  told = ap (λ rows. (refuse Released when x.released) >> (admits_alone rows what >> Ok (Rows (in_rows s v what) ∷ []))) (rows-registers c b s v x)
 
-  made : after ≡ all_applied b (Rows s v what ∷ [])
+  made : after ≡ all_applied b (Rows (in_rows s v what) ∷ [])
   unfolding applied
   made = ap (changed_at b v (changed s what)) (sym there)
 
-  alike : (mine last : Result ⊤ Refusal) → ((refuse Released when x.released) >> ((mine >> last) >> Ok after)) ≡ (((refuse Released when x.released) >> (mine >> Ok (Rows s v what ∷ []))) >>= λ edits. last >> Ok (all_applied b edits))
+  alike : (mine last : Result ⊤ Refusal) → ((refuse Released when x.released) >> ((mine >> last) >> Ok after)) ≡ (((refuse Released when x.released) >> (mine >> Ok (Rows (in_rows s v what) ∷ []))) >>= λ edits. last >> Ok (all_applied b edits))
   unfolding ◌>>=◌ ◌>>◌
   alike mine last = by_lines (refuse Released when x.released) mine
     where
-      by_lines : (first mine : Result ⊤ Refusal) → (first >> ((mine >> last) >> Ok after)) ≡ ((first >> (mine >> Ok (Rows s v what ∷ []))) >>= λ edits. last >> Ok (all_applied b edits))
+      by_lines : (first mine : Result ⊤ Refusal) → (first >> ((mine >> last) >> Ok after)) ≡ ((first >> (mine >> Ok (Rows (in_rows s v what) ∷ []))) >>= λ edits. last >> Ok (all_applied b edits))
       by_lines (Err e) mine = refl
       by_lines (Ok t) (Err e) = refl
       by_lines (Ok t) (Ok u) = ap (λ d. last >> Ok d) made

@@ -11,6 +11,7 @@ use Rattle.fr_base.specs.Names.{same_text}
 use Rattle.fr_base.specs.Book.{Frame}
 use Rattle.fr_base.specs.ImportRows.{up_to_refused}
 use Rattle.fr_base.specs.Step.{admits, admits_frame, grants_after, frame_after, frames_after, fate_of}
+use Rattle.fr_base.specs.Changes.{in_rows}
 use Rattle.fr_base.specs.declared.answer.FateRow.{FateRow}
 use Rattle.fr_base.specs.declared.import.Row.{Row}
 use Rattle.fr_base.specs.declared.import.Row.TheVariants as row
@@ -85,7 +86,7 @@ module _ (d : DraftData) (f n : Name) where
   pub draft_back : there ≡ None → (e : DraftData) → e ≡ with_change added (change.Frame f Drop) → record e { edits = take (length d.edits) e.edits } ≡ d
   draft_back none e is =
       ap (λ (m : DraftData). record m { edits = take (length d.edits) m.edits }) is
-      ∙ (λ i. record d { page = page_back none i; edits = edits_back (Rows d.page.supplier d.variant (change.Frame f Drop)) i })
+      ∙ (λ i. record d { page = page_back none i; edits = edits_back (Rows (in_rows d.page.supplier d.variant (change.Frame f Drop))) i })
 
   pub drop-admitted : admits_alone added.page (change.Frame f Drop) ≡ Ok tt
   unfolding admits admits_frame frames_after frame_after settle refuse◌when◌

@@ -7,6 +7,7 @@ use Rattle.fr_base.specs.Tables.{get, insert}
 use Rattle.fr_base.specs.Book.{Variant, Book, empty_variant}
 use Rattle.fr_base.specs.Step.{with_variant, changed}
 use Rattle.fr_base.specs.declared.name.Name.{Name}
+use Rattle.fr_base.specs.declared.request.Change.{Change}
 use Rattle.fr_base.specs.declared.request.Change.TheVariants.{Grant, Revoke}
 use Rattle.fr_world.specs.declared.edit.Edit.{Edit}
 use Rattle.fr_world.specs.declared.edit.Edit.TheVariants.{NewVariant, SetReleased, NewSupplier, SetKey, NewNode, Rows, KeepImport}
@@ -37,7 +38,7 @@ applied b (SetReleased v) = change_variant b v (λ x. record x { released = true
 applied b (NewSupplier s key) = record b { suppliers = insert b.suppliers s key }
 applied b (SetKey s key) = record b { suppliers = insert b.suppliers s key }
 applied b (NewNode s n) = record b { nodes = insert b.nodes (s, n) tt }
-applied b (Rows s v what) = change_variant b v (changed s what)
+applied b (Rows rows) = change_variant b rows.variant (changed rows.supplier rows.change)
 applied b (KeepImport s label v body rows) =
     record b { imports = insert b.imports (s, label) (record { variant = v; body = body; rows = rows }) }
 
@@ -46,11 +47,16 @@ abbrev pub all_applied : Book → List Edit → Book
 all_applied b [] = b
 all_applied b (edit ∷ edits) = all_applied (applied b edit) edits
 
--- Where a supplier's edit grants a slot and channel, or ends such a grant, no other supplier holds
+-- Where a supplier's change grants a slot and channel, or ends such a grant, no other supplier holds
 -- them in the variant.
+abbrev pub ChangeSparesOthers : Name → Variant → Change → Type 0
+ChangeSparesOthers s x (Grant slot channel node) = is_another s (get x.grants (slot, channel)) ≡ false
+ChangeSparesOthers s x (Revoke slot channel) = is_another s (get x.grants (slot, channel)) ≡ false
+ChangeSparesOthers s x _ = ⊤
+
+-- The same of a supplier's edit.
 abbrev pub SparesOthers : Name → Variant → Edit → Type 0
-SparesOthers s x (Rows t v (Grant slot channel node)) = is_another s (get x.grants (slot, channel)) ≡ false
-SparesOthers s x (Rows t v (Revoke slot channel)) = is_another s (get x.grants (slot, channel)) ≡ false
+SparesOthers s x (Rows rows) = ChangeSparesOthers s x rows.change
 SparesOthers s x _ = ⊤
 
 -- the variants of the register, without the rows in them

@@ -9,6 +9,7 @@ use Rattle.fr_base.specs.Queries.{placements_in}
 use Rattle.fr_base.specs.Step.{OwnRows, shared_by, admits}
 use Rattle.fr_base.specs.Signals.{is_signal_length}
 use Rattle.fr_base.specs.Sound.{FitsCluster}
+use Rattle.fr_base.specs.Changes.{in_rows}
 use Rattle.fr_base.specs.declared.limits.TheConstants.{MAX_PLACEMENTS}
 use Rattle.fr_base.specs.declared.name.Name.{Name}
 use Rattle.fr_base.specs.declared.params.Params.{Params}
@@ -40,7 +41,7 @@ unfoldable pub decision : PageData → Change → Result (List Edit) Refusal
 decision rows what = do
   refuse Released when rows.released
   admits_alone (own_rows_of rows) what
-  Ok (Rows rows.supplier rows.variant what ∷ [])
+  Ok (Rows (in_rows rows.supplier rows.variant what) ∷ [])
 
 -- A placement in the change fits the cluster, and a signal in it has a length.
 abbrev pub IsChecked : Params → Change → Type 0

@@ -22,7 +22,7 @@ rows_after what page = record page { grants = grants_after page.supplier what pa
 -- the page after an edit of its supplier's rows; whether the variant is released is no part of it (see `releases`)
 unfoldable pub edited : OwnRows → Edit → OwnRows
 edited page (NewNode s n) = record page { nodes = insert page.nodes (page.supplier, n) tt }
-edited page (Rows s v what) = rows_after what page
+edited page (Rows rows) = rows_after rows.change page
 edited page _ = page
 
 -- whether the edit releases the variant
@@ -34,7 +34,7 @@ releases _ = false
 abbrev pub IsOf : Name → Name → Edit → Type 0
 IsOf s v (SetReleased w) = w ≡ v
 IsOf s v (NewNode t n) = t ≡ s
-IsOf s v (Rows t w what) = (t ≡ s) × (w ≡ v)
+IsOf s v (Rows rows) = (rows.supplier ≡ s) × (rows.variant ≡ v)
 IsOf s v _ = ⊥
 
 -- The supplier's page of the variant takes the edit: it changes this page's rows, and after it a
@@ -63,7 +63,7 @@ FitsRows page (change.Frame f what) = FitsFrame page.nodes page.supplier (get pa
 -- The same of an edit of the page's rows.
 abbrev pub FitsPage : OwnRows → Edit → Type 0
 FitsPage page (NewNode s n) = get page.nodes (page.supplier, n) ≡ None
-FitsPage page (Rows s v what) = FitsRows page what
+FitsPage page (Rows rows) = FitsRows page rows.change
 FitsPage page _ = ⊤
 
 -- The page takes the edits, one after another. Each fits the page that those before it left, and in

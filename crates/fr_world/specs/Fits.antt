@@ -49,7 +49,7 @@ Fits p b (SetReleased v) = (x : Variant) × IsOpen b v x
 Fits p b (NewSupplier s key) = get b.suppliers s ≡ None
 Fits p b (SetKey s key) = IsTrue (contains b.suppliers s)
 Fits p b (NewNode s n) = IsTrue (contains b.suppliers s) × (get b.nodes (s, n) ≡ None)
-Fits p b (Rows s v what) = (x : Variant) × IsOpen b v x × FitsVariant b.nodes s x what × IsCounted p what
+Fits p b (Rows rows) = (x : Variant) × IsOpen b rows.variant x × FitsVariant b.nodes rows.supplier x rows.change × IsCounted p rows.change
 Fits p b (KeepImport s label v body rows) = IsTrue (contains b.suppliers s) × IsTrue (contains b.variants v) × (get b.imports (s, label) ≡ None)
 
 -- Each of the edits fits the book that those before it left.

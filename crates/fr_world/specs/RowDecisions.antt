@@ -8,6 +8,7 @@ use Rattle.fr_base.specs.Book.{Frame}
 use Rattle.fr_base.specs.Signals.{is_signal_length}
 use Rattle.fr_base.specs.Sound.{FitsCluster}
 use Rattle.fr_base.specs.Step.{OwnRows, RefusedAt, at_line}
+use Rattle.fr_base.specs.Changes.{in_rows}
 use Rattle.fr_base.specs.declared.import.Row.{Row}
 use Rattle.fr_base.specs.declared.import.Row.TheVariants as row
 use Rattle.fr_base.specs.declared.import.RowRead.{RowRead}
@@ -33,7 +34,7 @@ pub record DraftData : Type 0 where
 
 -- the draft after a change
 abbrev pub with_change : DraftData → Change → DraftData
-with_change d what = record d { page = rows_after what d.page; edits = d.edits ++ Rows d.page.supplier d.variant what ∷ [] }
+with_change d what = record d { page = rows_after what d.page; edits = d.edits ++ Rows (in_rows d.page.supplier d.variant what) ∷ [] }
 
 -- the draft after a change of the page, if it is admitted
 unfoldable pub make : DraftData → Change → Result DraftData Refusal

@@ -49,7 +49,7 @@ impl Page {
                 Ok(())
             }
             Edit::NewNode { node, .. } => put_node(&mut self.rows.nodes, *node),
-            Edit::Rows { change, .. } => match change {
+            Edit::Rows(rows) => match &rows.change {
                 Change::Grant {
                     slot,
                     channel,

@@ -19,7 +19,7 @@ mod trial;
 use crate::edit::Edit;
 use crate::page::Page;
 pub use draft::Draft;
-use fr_base::{Change, FrameChange, Refusal};
+use fr_base::{Change, FrameChange, Refusal, RowsChange};
 pub use import_rows::{RowFault, decide_rows};
 pub use replacement::decide_replacement;
 use std::alloc::Global;
@@ -55,11 +55,11 @@ pub fn decide(alloc: Global, page: &Page, change: &Change) -> Result<Vec<Edit>, 
     // They give the proof that the parameters make a cluster, and that the page's rows are kept.
     let (_raw, _frames) = (page.params().raw(), page.frames());
     admit(page, change)?;
-    let edit = Edit::Rows {
+    let edit = Edit::Rows(RowsChange {
         supplier: page.supplier(),
         variant: page.variant(),
         change: *change,
-    };
+    });
     Ok(vec![in alloc; edit]?)
 }
 

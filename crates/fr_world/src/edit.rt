@@ -1,5 +1,5 @@
 //! The changes of which the register's rows are made.
-use fr_base::{Body, Change, Key, Name};
+use fr_base::{Body, Key, Name, RowsChange};
 
 /// A change of the register's rows, with their keys and, where it adds a row, all of it.
 #[derive(Drop, PartialEq, Eq)]
@@ -31,11 +31,7 @@ pub enum Edit {
         node: Name,
     },
     /// What changes of the supplier's rows in the variant.
-    Rows {
-        supplier: Name,
-        variant: Name,
-        change: Change,
-    },
+    Rows(RowsChange),
     /// A supplier's import, with the number of its rows.
     KeepImport {
         supplier: Name,

@@ -9,7 +9,7 @@ ghost use Rattle.fr_world.specs.Decisions.{IsChecked};
 
 use crate::answering::has_supplier;
 use crate::lender::{Lender, open_page};
-use fr_base::{Change, Name, Refusal};
+use fr_base::{Change, Refusal, RowsChange};
 use fr_world::{Records, decide};
 use std::alloc::Global;
 
@@ -28,21 +28,21 @@ pub(crate) struct BesidePage {
 pub(crate) fn change_rows<R: Lender>(
     alloc: Global,
     records: &mut R,
-    supplier: Name,
-    variant: Name,
-    change: &Change,
+    rows: &RowsChange,
 ) -> Result<(), Refusal>
-    requires checked { IsChecked (R.params records.old) change.now }
-    requires known { (c : _) (b : _) → R.stands records.old c b → IsOfKnown b supplier change.now }
-    ensures { CarriesStep R.Records (λ c b. change_rows c.params b supplier variant change.now)
+    requires checked { IsChecked (R.params records.old) rows.now.change }
+    requires known { (c : _) (b : _) → R.stands records.old c b
+        → IsOfKnown b rows.now.supplier rows.now.change }
+    ensures { CarriesStep R.Records
+        (λ c b. change_rows c.params b rows.now.supplier rows.now.variant rows.now.change)
         records.old records.new result }
 {
-    let beside = look_beside(records, supplier, variant, change)?;
-    open_page(alloc, records, supplier, variant)?;
+    let beside = look_beside(records, rows)?;
+    open_page(alloc, records, rows.supplier, rows.variant)?;
     if !beside.is_there {
         return Err(Refusal::NoSupplier);
     }
-    let edits = decide(alloc, records.lent(), change)?;
+    let edits = decide(alloc, records.lent(), &rows.change)?;
     if beside.is_taken {
         return Err(Refusal::Taken);
     }
@@ -52,25 +52,22 @@ pub(crate) fn change_rows<R: Lender>(
 // What is known of the change beside the supplier's page. A supplier that changes a frame asks for
 // itself, and is there. This is read before the page is lent, since the calls do not say that they
 // leave it lent.
-fn look_beside<R: Records>(
-    records: &mut R,
-    supplier: Name,
-    variant: Name,
-    change: &Change,
-) -> Result<BesidePage, Refusal>
-    requires known { (c : _) (b : _) → R.stands records.old c b → IsOfKnown b supplier change.now }
+fn look_beside<R: Records>(records: &mut R, rows: &RowsChange) -> Result<BesidePage, Refusal>
+    requires known { (c : _) (b : _) → R.stands records.old c b
+        → IsOfKnown b rows.now.supplier rows.now.change }
     ensures { OnlyReads R.Records
-        (λ old new r. Tells old new r (λ c b. IsBeside b supplier variant change.now))
+        (λ old new r. Tells old new r
+        (λ c b. IsBeside b rows.now.supplier rows.now.variant rows.now.change))
         records.old records.new result }
 {
-    match change {
+    match &rows.change {
         Change::Grant { slot, channel, .. } => {
-            let is_taken = records.is_held(variant, *slot, *channel)?;
-            let is_there = has_supplier(records.config(), supplier);
+            let is_taken = records.is_held(rows.variant, *slot, *channel)?;
+            let is_there = has_supplier(records.config(), rows.supplier);
             Ok(BesidePage { is_there, is_taken })
         }
         Change::Revoke { .. } => {
-            let is_there = has_supplier(records.config(), supplier);
+            let is_there = has_supplier(records.config(), rows.supplier);
             Ok(BesidePage {
                 is_there,
                 is_taken: false,

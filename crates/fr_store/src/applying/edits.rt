@@ -30,19 +30,17 @@ pub fn carry_out<S: Alter>(tx: &mut Transaction<'_, S>, edit: &Edit) -> Result<(
         Edit::NewSupplier { supplier, key } => done(suppliers::insert(tx, supplier, key)),
         Edit::SetKey { supplier, key } => done(suppliers::set_key(tx, supplier, key)),
         Edit::NewNode { supplier, node } => done(nodes::insert(tx, supplier, node)),
-        Edit::Rows {
-            supplier,
-            variant,
-            change,
-        } => match change {
+        Edit::Rows(rows) => match &rows.change {
             Change::Grant {
                 slot,
                 channel,
                 node,
-            } => done(grants::insert(tx, variant, *slot, *channel, supplier, node)),
-            Change::Revoke { slot, channel } => done(grants::delete(tx, variant, *slot, *channel)),
+            } => done(grants::insert(tx, &rows.variant, *slot, *channel, &rows.supplier, node)),
+            Change::Revoke { slot, channel } => {
+                done(grants::delete(tx, &rows.variant, *slot, *channel))
+            }
             Change::Frame { frame, change } => {
-                let key = FrameKey::new(*variant, *supplier, *frame);
+                let key = FrameKey::new(rows.variant, rows.supplier, *frame);
                 match change {
                     FrameChange::Add { node } => done(frames::insert(tx, &key, node)),
                     FrameChange::Drop => drop_frame(tx, &key),

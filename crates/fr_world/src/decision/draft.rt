@@ -15,7 +15,7 @@ use super::rows::{frame_named, has_node};
 use super::signals::admit_signal;
 use crate::edit::Edit;
 use crate::page::Page;
-use fr_base::{Change, FrameChange, Name, Placement, Refusal, Row, Signal};
+use fr_base::{Change, FrameChange, Name, Placement, Refusal, Row, RowsChange, Signal};
 use std::alloc::Global;
 
 /// A page, and the edits that led to it.
@@ -193,11 +193,11 @@ impl Draft {
     {
         // They give the proof that the parameters make a cluster, and that the page's rows are kept.
         let (_raw, _frames) = (self.page.params().raw(), self.page.frames());
-        let edit = Edit::Rows {
+        let edit = Edit::Rows(RowsChange {
             supplier: self.page.supplier(),
             variant: self.page.variant(),
             change: Change::Frame { frame, change },
-        };
+        });
         self.page.amend(alloc, &edit)?;
         self.edits.push(edit)?;
         Ok(())

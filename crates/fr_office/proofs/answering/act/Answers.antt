@@ -14,7 +14,7 @@ use Rattle.fr_office.proofs.answering.act.Goals as goal
 pub change_rows-requires : goal.change_rows-requires
 change_rows-requires g c =
     let fits = subst (λ (valid : Checked). HasPassed (g.R.Records.params c.args.records.now) c.args.actor.now valid) (c.in-Command.is ∙ ap checked.Command c.in-Rows.is) c.requires.passed in
-    record { checked = fits.0; known = λ cl b stood. of-known b c.args.actor.now c.in-Rows.supplier c.in-Rows.change fits.1 (c.requires.known cl b stood) }
+    record { checked = fits.0; known = λ cl b stood. of-known b c.args.actor.now c.in-Rows.rows.supplier c.in-Rows.rows.change fits.1 (c.requires.known cl b stood) }
 
 pub returns-in-Common : goal.returns-in-Common
 unfolding perform
@@ -54,7 +54,7 @@ returns-in-Rows g c =
     let old = c.args.records.now in
     let new = c.change_rows.new.records in
     subst (λ (valid : Checked). CarriesAct g.R.Records c.args.actor.now valid old new c.done-in-Rows.result) (sym (c.in-Command.is ∙ ap checked.Command c.in-Rows.is))
-    (command_carried g.R.Records c.args.actor.now (command.Rows c.in-Rows.supplier c.in-Rows.variant c.in-Rows.change) _ old new c.change_rows.result c.done-in-Rows.result c.done-in-Rows.ensures c.change_rows.ensures (λ cl b. refl))
+    (command_carried g.R.Records c.args.actor.now (command.Rows c.in-Rows.rows) _ old new c.change_rows.result c.done-in-Rows.result c.done-in-Rows.ensures c.change_rows.ensures (λ cl b. refl))
 
 pub reply-requires : goal.reply-requires
 reply-requires g c = subst (λ (valid : Checked). HasPassed (g.R.Records.params c.args.records.now) c.args.actor.now valid) c.in-Query.is c.requires.passed

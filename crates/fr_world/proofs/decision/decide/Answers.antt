@@ -1,5 +1,6 @@
 use Rattle.std.proofs.Common.{◌≡◌, ◌⊎◌, ◌∙◌, [], ◌∷◌, Ok, Err, IfErr, inr, sym, ap, subst, rules}
 use Rattle.fr_base.specs.Parameters.{check_params}
+use Rattle.fr_base.specs.Changes.{in_rows}
 use Rattle.fr_base.specs.declared.refusal.Refusal.TheVariants.{Unavailable}
 use Rattle.fr_world.specs.Decisions.{decision}
 use Rattle.fr_world.specs.declared.edit.Edit.TheVariants.{Rows}
@@ -10,7 +11,7 @@ use Rattle.fr_world.proofs.decision.decide.Goals as goal
 pub returns-clause-edits : goal.returns-clause-edits
 returns-clause-edits c =
     decision_made c.args.page.now c.args.change.now (sym c.released.ensures ∙ c.if-released.false) _ c.in_ok-admit.ensures
-    ∙ ap Ok ((λ i. Rows (sym c.supplier.ensures i) (sym c.variant.ensures i) c.args.change.now ∷ []) ∙ sym c.in_ok-vec.ensures.items)
+    ∙ ap Ok ((λ i. Rows (in_rows (sym c.supplier.ensures i) (sym c.variant.ensures i) c.args.change.now) ∷ []) ∙ sym c.in_ok-vec.ensures.items)
 
 pub returns-clause-leads : goal.returns-clause-leads
 returns-clause-leads c =

@@ -34,7 +34,7 @@ returns-in_err-open_page g c =
     let next = c.open_page.new.records in
     let read = reads_then records.clean records.params records.leaves old mid next c.look_beside.ensures.reads c.open_page.ensures.opens.reads in
     refuses records _ old next read c.from_residual-in_err-open_page.result c.in_err-open_page.field-0.0 (search rules) (λ clean.
-    rows_stopped (records.stands old) (records.stands mid) c.args.supplier c.args.variant c.args.change.now
+    rows_stopped (records.stands old) (records.stands mid) c.args.rows.now.supplier c.args.rows.now.variant c.args.rows.now.change
     c.in_ok-beside.beside (c.in_ok-beside.ensures.told (c.open_page.ensures.opens.reads.falls clean)) (records.stands next)
     (g.R.Lender.lent next) c.from_residual-in_err-open_page.result c.in_err-open_page.field-0.0 (search rules) (c.in_err-open_page.ensures.opens.told clean))
 
@@ -47,7 +47,7 @@ returns-then-not-beside g c =
     let read = reads_then records.clean records.params records.leaves old mid next c.look_beside.ensures.reads c.open_page.ensures.opens.reads in
     let lent = some_of (g.R.Lender.lent next) c.in_ok-open_page.ensures.lent in
     refuses records _ old next read (Err NoSupplier) NoSupplier refl (λ clean.
-    rows_unnamed (records.stands old) (records.stands mid) c.args.supplier c.args.variant c.args.change.now
+    rows_unnamed (records.stands old) (records.stands mid) c.args.rows.now.supplier c.args.rows.now.variant c.args.rows.now.change
     c.in_ok-beside.beside (c.in_ok-beside.ensures.told (c.open_page.ensures.opens.reads.falls clean)) (records.stands next)
     (g.R.Lender.lent next) lent.0 lent.1 (c.in_ok-open_page.ensures.opens.told clean) c.if-not-beside.true)
 
@@ -59,7 +59,7 @@ returns-in_err-edits g c =
     let next = c.open_page.new.records in
     let read = reads_then records.clean records.params records.leaves old mid next c.look_beside.ensures.reads c.open_page.ensures.opens.reads in
     refuses records _ old next read c.from_residual-in_err-edits.result c.in_err-edits.field-0.0 (search rules) (λ clean.
-    rows_refused (records.stands old) (records.stands mid) c.args.supplier c.args.variant c.args.change.now
+    rows_refused (records.stands old) (records.stands mid) c.args.rows.now.supplier c.args.rows.now.variant c.args.rows.now.change
     c.in_ok-beside.beside (c.in_ok-beside.ensures.told (c.open_page.ensures.opens.reads.falls clean)) (records.stands next)
     (g.R.Lender.lent next) c.lent.result.now c.lent.ensures (c.in_ok-open_page.ensures.opens.told clean) c.if-not-beside.false
     c.from_residual-in_err-edits.result c.in_err-edits.field-0.0 (search rules) c.in_err-edits.ensures.refusal)
@@ -72,7 +72,7 @@ returns-then-beside g c =
     let next = c.open_page.new.records in
     let read = reads_then records.clean records.params records.leaves old mid next c.look_beside.ensures.reads c.open_page.ensures.opens.reads in
     refuses records _ old next read (Err Taken) Taken refl (λ clean.
-    rows_taken (records.stands old) (records.stands mid) c.args.supplier c.args.variant c.args.change.now
+    rows_taken (records.stands old) (records.stands mid) c.args.rows.now.supplier c.args.rows.now.variant c.args.rows.now.change
     c.in_ok-beside.beside (c.in_ok-beside.ensures.told (c.open_page.ensures.opens.reads.falls clean)) (records.stands next)
     (g.R.Lender.lent next) c.lent.result.now c.lent.ensures (c.in_ok-open_page.ensures.opens.told clean) c.if-not-beside.false
     c.in_ok-edits.edits.items c.in_ok-edits.ensures.edits c.if-beside.true)
@@ -86,7 +86,7 @@ returns g c =
     let read = reads_then records.clean records.params records.leaves old mid next c.look_beside.ensures.reads c.open_page.ensures.opens.reads in
     let new = c.change.new.self in
     carries records _ old next read new c.in_ok-edits.edits.items c.change.result (λ clean.
-    rows_made (records.stands old) (records.stands mid) c.args.supplier c.args.variant c.args.change.now
+    rows_made (records.stands old) (records.stands mid) c.args.rows.now.supplier c.args.rows.now.variant c.args.rows.now.change
     c.in_ok-beside.beside (c.in_ok-beside.ensures.told (c.open_page.ensures.opens.reads.falls clean)) (records.stands next)
     (g.R.Lender.lent next) c.lent.result.now c.lent.ensures (c.in_ok-open_page.ensures.opens.told clean) c.if-not-beside.false
     c.in_ok-edits.edits.items c.in_ok-edits.ensures.edits c.if-beside.false (search rules))

@@ -27,7 +27,7 @@ pub returns-in-KeepImport-clause-pages : goal.returns-in-KeepImport-clause-pages
 returns-in-KeepImport-clause-pages c = subst (λ (e : Edit). AreFollowed e c.args.self.now.pages c.args.self.now.pages) (sym c.in-KeepImport.is) (same-followed _ c.args.self.now.pages (λ page. refl))
 
 pub returns-in-Rows-clause-pages : goal.returns-in-Rows-clause-pages
-returns-in-Rows-clause-pages c = rows-followed c.args.edit.now _ _ _ c.args.self.now.pages c.amend.new.self c.in-Rows.is c.amend.ensures.lent c.amend.ensures.others
+returns-in-Rows-clause-pages c = rows-followed c.args.edit.now c.in-Rows.rows c.args.self.now.pages c.amend.new.self c.in-Rows.is c.amend.ensures.lent c.amend.ensures.others
 
 pub returns-in-KeepImport-clause-counts : goal.returns-in-KeepImport-clause-counts
 returns-in-KeepImport-clause-counts c = one_more c.args.edit.now _ _ _ _ _ c.in-KeepImport.is c.args.self.now.counts c.add_one.new.self c.add_one.ensures

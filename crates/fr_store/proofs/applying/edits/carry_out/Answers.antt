@@ -1,5 +1,6 @@
 use Rattle.std.proofs.Common.{◌∙◌, ap, refl, sym, subst}
 use Rattle.fr_base.specs.Tables.{get}
+use Rattle.fr_base.specs.Changes.{in_rows}
 use Rattle.fr_base.specs.declared.request.Change.TheVariants.{Frame, Grant, Revoke}
 use Rattle.fr_base.specs.declared.request.FrameChange.TheVariants.{Add, AddSignal, Drop, DropSignal, Place, Unplace}
 use Rattle.fr_world.specs.declared.edit.Edit.TheVariants.{KeepImport, NewNode, NewSupplier, Rows, SetKey, SetReleased}
@@ -90,12 +91,12 @@ returns-in-KeepImport-clause-spared g c none =
 
 pub returns-in-Grant-clause-carried : goal.returns-in-Grant-clause-carried
 returns-in-Grant-clause-carried g c =
-    let s = c.in-Rows.supplier in
-    let v = c.in-Rows.variant in
+    let s = c.in-Rows.rows.supplier in
+    let v = c.in-Rows.rows.variant in
     let old = c.args.tx.now in
     let new = c.insert-in-Grant.new.tx in
-    subst (λ edit. Edits g.S.Store (CarriesOut edit) old new c.done-in-Grant.result) (sym (c.in-Rows.is ∙ ap (Rows s v) c.in-Grant.is))
-    (edit_done g.S.Store _ (Rows s v (Grant c.in-Grant.slot c.in-Grant.channel c.in-Grant.node)) old new c.insert-in-Grant.result c.done-in-Grant.result c.insert-in-Grant.ensures c.done-in-Grant.ensures
+    subst (λ edit. Edits g.S.Store (CarriesOut edit) old new c.done-in-Grant.result) (sym (c.in-Rows.is ∙ ap (λ what. Rows (in_rows s v what)) c.in-Grant.is))
+    (edit_done g.S.Store _ (Rows (in_rows s v (Grant c.in-Grant.slot c.in-Grant.channel c.in-Grant.node))) old new c.insert-in-Grant.result c.done-in-Grant.result c.insert-in-Grant.ensures c.done-in-Grant.ensures
     (λ changed cluster b stands fits. granted s v c.in-Grant.node c.in-Grant.slot c.in-Grant.channel (seen g.S.Store old) (seen g.S.Store new) changed cluster b stands fits.0 fits.1.there fits.2.1))
 
 pub returns-in-Grant-clause-spared : goal.returns-in-Grant-clause-spared
@@ -104,12 +105,12 @@ returns-in-Grant-clause-spared g c none =
 
 pub returns-in-Revoke-clause-carried : goal.returns-in-Revoke-clause-carried
 returns-in-Revoke-clause-carried g c =
-    let s = c.in-Rows.supplier in
-    let v = c.in-Rows.variant in
+    let s = c.in-Rows.rows.supplier in
+    let v = c.in-Rows.rows.variant in
     let old = c.args.tx.now in
     let new = c.delete.new.tx in
-    subst (λ edit. Edits g.S.Store (CarriesOut edit) old new c.done-in-Revoke.result) (sym (c.in-Rows.is ∙ ap (Rows s v) c.in-Revoke.is))
-    (edit_done g.S.Store _ (Rows s v (Revoke c.in-Revoke.slot c.in-Revoke.channel)) old new c.delete.result c.done-in-Revoke.result c.delete.ensures c.done-in-Revoke.ensures
+    subst (λ edit. Edits g.S.Store (CarriesOut edit) old new c.done-in-Revoke.result) (sym (c.in-Rows.is ∙ ap (λ what. Rows (in_rows s v what)) c.in-Revoke.is))
+    (edit_done g.S.Store _ (Rows (in_rows s v (Revoke c.in-Revoke.slot c.in-Revoke.channel))) old new c.delete.result c.done-in-Revoke.result c.delete.ensures c.done-in-Revoke.ensures
     (λ changed cluster b stands fits. revoked s v c.in-Revoke.slot c.in-Revoke.channel (seen g.S.Store old) (seen g.S.Store new) changed cluster b stands fits.0 fits.1.there))
 
 pub returns-in-Revoke-clause-spared : goal.returns-in-Revoke-clause-spared
@@ -118,53 +119,53 @@ returns-in-Revoke-clause-spared g c none =
 
 pub returns-in-Add-clause-carried : goal.returns-in-Add-clause-carried
 returns-in-Add-clause-carried g c =
-    let s = c.in-Rows.supplier in
-    let v = c.in-Rows.variant in
+    let s = c.in-Rows.rows.supplier in
+    let v = c.in-Rows.rows.variant in
     let f = c.in-Frame.frame in
     let n = c.in-Add.node in
     let old = c.args.tx.now in
     let new = c.insert-in-Add.new.tx in
-    subst (λ edit. Edits g.S.Store (CarriesOut edit) old new c.done-in-Add.result) (sym (c.in-Rows.is ∙ ap (Rows s v) (c.in-Frame.is ∙ ap (Frame f) c.in-Add.is)))
-    (edit_done g.S.Store _ (Rows s v (Frame f (Add n))) old new c.insert-in-Add.result c.done-in-Add.result c.insert-in-Add.ensures c.done-in-Add.ensures
+    subst (λ edit. Edits g.S.Store (CarriesOut edit) old new c.done-in-Add.result) (sym (c.in-Rows.is ∙ ap (λ what. Rows (in_rows s v what)) (c.in-Frame.is ∙ ap (Frame f) c.in-Add.is)))
+    (edit_done g.S.Store _ (Rows (in_rows s v (Frame f (Add n)))) old new c.insert-in-Add.result c.done-in-Add.result c.insert-in-Add.ensures c.done-in-Add.ensures
     (λ changed cluster b stands fits. added v s f (seen g.S.Store old) (seen g.S.Store new) cluster b fits.0 stands fits.1 n (fits_at b.nodes s (get fits.0.frames (s, f)) (Add n) fits.2)
     (subst (λ key. Changes (with_frame (row_of_frame key n)) (seen g.S.Store old) (seen g.S.Store new)) c.new-key.ensures changed)))
 
 pub returns-in-Drop-clause-carried : goal.returns-in-Drop-clause-carried
 returns-in-Drop-clause-carried g c =
-    let s = c.in-Rows.supplier in
-    let v = c.in-Rows.variant in
+    let s = c.in-Rows.rows.supplier in
+    let v = c.in-Rows.rows.variant in
     let f = c.in-Frame.frame in
-    subst (λ edit. Edits g.S.Store (CarriesOut edit) c.args.tx.now c.drop_frame.new.tx c.drop_frame.result) (sym (c.in-Rows.is ∙ ap (Rows s v) (c.in-Frame.is ∙ ap (Frame f) c.in-Drop.is)))
+    subst (λ edit. Edits g.S.Store (CarriesOut edit) c.args.tx.now c.drop_frame.new.tx c.drop_frame.result) (sym (c.in-Rows.is ∙ ap (λ what. Rows (in_rows s v what)) (c.in-Frame.is ∙ ap (Frame f) c.in-Drop.is)))
     (edit_of_frame g.S.Store v s f c.new-key.result c.new-key.ensures Drop c.args.tx.now c.drop_frame.new.tx c.drop_frame.result c.drop_frame.ensures)
 
 pub returns-in-Place-clause-carried : goal.returns-in-Place-clause-carried
 returns-in-Place-clause-carried g c =
-    let s = c.in-Rows.supplier in
-    let v = c.in-Rows.variant in
+    let s = c.in-Rows.rows.supplier in
+    let v = c.in-Rows.rows.variant in
     let f = c.in-Frame.frame in
-    subst (λ edit. Edits g.S.Store (CarriesOut edit) c.args.tx.now c.place.new.tx c.place.result) (sym (c.in-Rows.is ∙ ap (Rows s v) (c.in-Frame.is ∙ ap (Frame f) c.in-Place.is)))
+    subst (λ edit. Edits g.S.Store (CarriesOut edit) c.args.tx.now c.place.new.tx c.place.result) (sym (c.in-Rows.is ∙ ap (λ what. Rows (in_rows s v what)) (c.in-Frame.is ∙ ap (Frame f) c.in-Place.is)))
     (edit_of_frame g.S.Store v s f c.new-key.result c.new-key.ensures (Place c.in-Place.placement) c.args.tx.now c.place.new.tx c.place.result c.place.ensures)
 
 pub returns-in-Unplace-clause-carried : goal.returns-in-Unplace-clause-carried
 returns-in-Unplace-clause-carried g c =
-    let s = c.in-Rows.supplier in
-    let v = c.in-Rows.variant in
+    let s = c.in-Rows.rows.supplier in
+    let v = c.in-Rows.rows.variant in
     let f = c.in-Frame.frame in
-    subst (λ edit. Edits g.S.Store (CarriesOut edit) c.args.tx.now c.unplace.new.tx c.unplace.result) (sym (c.in-Rows.is ∙ ap (Rows s v) (c.in-Frame.is ∙ ap (Frame f) c.in-Unplace.is)))
+    subst (λ edit. Edits g.S.Store (CarriesOut edit) c.args.tx.now c.unplace.new.tx c.unplace.result) (sym (c.in-Rows.is ∙ ap (λ what. Rows (in_rows s v what)) (c.in-Frame.is ∙ ap (Frame f) c.in-Unplace.is)))
     (edit_of_frame g.S.Store v s f c.new-key.result c.new-key.ensures (Unplace c.in-Unplace.placement) c.args.tx.now c.unplace.new.tx c.unplace.result c.unplace.ensures)
 
 pub returns-in-AddSignal-clause-carried : goal.returns-in-AddSignal-clause-carried
 returns-in-AddSignal-clause-carried g c =
-    let s = c.in-Rows.supplier in
-    let v = c.in-Rows.variant in
+    let s = c.in-Rows.rows.supplier in
+    let v = c.in-Rows.rows.variant in
     let f = c.in-Frame.frame in
-    subst (λ edit. Edits g.S.Store (CarriesOut edit) c.args.tx.now c.add_signal.new.tx c.add_signal.result) (sym (c.in-Rows.is ∙ ap (Rows s v) (c.in-Frame.is ∙ ap (Frame f) c.in-AddSignal.is)))
+    subst (λ edit. Edits g.S.Store (CarriesOut edit) c.args.tx.now c.add_signal.new.tx c.add_signal.result) (sym (c.in-Rows.is ∙ ap (λ what. Rows (in_rows s v what)) (c.in-Frame.is ∙ ap (Frame f) c.in-AddSignal.is)))
     (edit_of_frame g.S.Store v s f c.new-key.result c.new-key.ensures (AddSignal c.in-AddSignal.signal) c.args.tx.now c.add_signal.new.tx c.add_signal.result c.add_signal.ensures)
 
 pub returns-in-DropSignal-clause-carried : goal.returns-in-DropSignal-clause-carried
 returns-in-DropSignal-clause-carried g c =
-    let s = c.in-Rows.supplier in
-    let v = c.in-Rows.variant in
+    let s = c.in-Rows.rows.supplier in
+    let v = c.in-Rows.rows.variant in
     let f = c.in-Frame.frame in
-    subst (λ edit. Edits g.S.Store (CarriesOut edit) c.args.tx.now c.drop_signal.new.tx c.drop_signal.result) (sym (c.in-Rows.is ∙ ap (Rows s v) (c.in-Frame.is ∙ ap (Frame f) c.in-DropSignal.is)))
+    subst (λ edit. Edits g.S.Store (CarriesOut edit) c.args.tx.now c.drop_signal.new.tx c.drop_signal.result) (sym (c.in-Rows.is ∙ ap (λ what. Rows (in_rows s v what)) (c.in-Frame.is ∙ ap (Frame f) c.in-DropSignal.is)))
     (edit_of_frame g.S.Store v s f c.new-key.result c.new-key.ensures (DropSignal c.in-DropSignal.signal) c.args.tx.now c.drop_signal.new.tx c.drop_signal.result c.drop_signal.ensures)

@@ -2,6 +2,7 @@ use Rattle.std.proofs.Common.{rules, ◌≡◌, ◌∙◌, false, arith, subst, 
 use Rattle.sqlite.specs.State.{HasCleanDisk}
 use Rattle.fr_base.proofs.SoundTables.{value_of}
 use Rattle.fr_base.specs.Tables.{get}
+use Rattle.fr_base.specs.Changes.{in_rows}
 use Rattle.fr_base.specs.declared.request.Change.TheVariants.{Frame}
 use Rattle.fr_base.specs.declared.request.FrameChange.TheVariants.{Drop}
 use Rattle.fr_world.specs.BookEdits.{applied}
@@ -41,7 +42,7 @@ returns g c =
           let stood = still_stands old read cluster b same.0.now_is stands in
           let within = same.0.mode ∙ inside in
           let gone = c.in_ok-delete.ensures.does clean_mid within stood.has in
-          on_done (Changes (with_dropped (key_of v s f)) mid new) (Stays mid new) (Stands new cluster (applied b (Rows s v (Frame f Drop)))) c.insert.result c.done.result c.done.ensures
+          on_done (Changes (with_dropped (key_of v s f)) mid new) (Stays mid new) (Stands new cluster (applied b (Rows (in_rows s v (Frame f Drop))))) c.insert.result c.done.result c.done.ensures
           (c.insert.ensures.does clean (gone.shown.mode ∙ within) gone.has) (ended_over v s f read mid new cluster b x there.0 stood is there.1 gone);
       stays = stays_then old mid new c.done.result c.insert.ensures.survives both
           (done_stays mid new c.insert.result c.done.result c.done.ensures (makes_stays (with_dropped (key_of v s f)) mid new c.insert.result c.insert.ensures.does));

@@ -7,7 +7,6 @@ use Rattle.fr_world.specs.Amends.{AreChanged}
 use Rattle.fr_world.specs.Edits.{edited}
 use Rattle.fr_world.specs.PageCells.{ArePlaced}
 use Rattle.fr_world.specs.Pages.{IsKept, frames_data, own_rows_of}
-use Rattle.fr_world.specs.declared.edit.Edit.TheVariants.{Rows}
 use Rattle.fr_world.specs.declared.page.Page.TheInside.{Inside}
 use Rattle.fr_world.specs.contracts.page.Page.{the_view}
 use Rattle.fr_world.proofs.AmendPages.{kept, released_page, node_page, grant_page, ended_page, change_made, leaves_layout}
@@ -36,8 +35,8 @@ invariant_of-self-in-NewNode-1 c = (
 pub returns-in-Grant-clause-page : goal.returns-in-Grant-clause-page
 returns-in-Grant-clause-page c =
     on_ok c.put_grant.result
-    (grant_page (the_view c.self.inside) c.args.self.now c.self.view_is c.args.edit.now c.requires.takes c.in-Rows.supplier c.in-Rows.variant c.in-Grant.node c.in-Grant.slot c.in-Grant.channel c.put_grant.new.grants.entries
-    (c.in-Rows.is ∙ ap (Rows c.in-Rows.supplier c.in-Rows.variant) c.in-Grant.is))
+    (grant_page (the_view c.self.inside) c.args.self.now c.self.view_is c.args.edit.now c.requires.takes c.in-Rows.rows c.in-Grant.node c.in-Grant.slot c.in-Grant.channel c.put_grant.new.grants.entries
+    c.in-Rows.is c.in-Grant.is)
     c.put_grant.ensures.table
 
 pub invariant_of-self-in-Grant : goal.invariant_of-self-in-Grant
@@ -51,8 +50,8 @@ invariant_of-self-in-Grant c = (
 
 pub returns-in-Revoke-clause-page : goal.returns-in-Revoke-clause-page
 returns-in-Revoke-clause-page c =
-    ended_page (the_view c.self.inside) c.args.self.now c.self.view_is c.args.edit.now c.requires.takes c.in-Rows.supplier c.in-Rows.variant c.in-Revoke.slot c.in-Revoke.channel c.end_grant.new.grants.entries
-    (c.in-Rows.is ∙ ap (Rows c.in-Rows.supplier c.in-Rows.variant) c.in-Revoke.is)
+    ended_page (the_view c.self.inside) c.args.self.now c.self.view_is c.args.edit.now c.requires.takes c.in-Rows.rows c.in-Revoke.slot c.in-Revoke.channel c.end_grant.new.grants.entries
+    c.in-Rows.is c.in-Revoke.is
     c.end_grant.ensures.table
 
 pub invariant_of-self-in-Revoke : goal.invariant_of-self-in-Revoke
@@ -75,11 +74,11 @@ IsMade aim r x = OnOk r (own_rows_of (the_view x) ≡ aim) × IsKept (the_view x
 so : (aim : OwnRows) (r q : Result ⊤ Refusal) (x y : Inside) → r ≡ q → x ≡ y → IsMade aim q y → IsMade aim r x
 so aim r q x y e f h = subst (λ s. IsMade aim s x) (sym e) (subst (IsMade aim q) (sym f) h)
 
-made : (c : goal.Joined-change-2) → IsMade (edited (own_rows_of c.args.self.now) c.args.edit.now) c.match-change-2.result c.match-change-2.self-inside
+made : (c : goal.Joined-change) → IsMade (edited (own_rows_of c.args.self.now) c.args.edit.now) c.match-change.result c.match-change.self-inside
 made c =
     let aim = edited (own_rows_of c.args.self.now) c.args.edit.now in
     let words = (the_view c.self.inside).params.payload_words in
-    elim c.match-change-2.branch [
+    elim c.match-change.branch [
       | in-Add w ↦ so aim _ _ _ _ w.result-is w.self-inside-is
           (change_made (the_view c.self.inside) c.args.self.now c.self.view_is c.args.edit.now c.requires.takes c.in-Rows.is c.in-Frame.is w.in-Add.is c.self.inside.rows.frames.entries refl
           _ w.add_frame.result w.add_frame.new.frames.entries w.add_frame.new.cells c.self.invariant.0 (on_ok w.add_frame.result (subst (λ n. AreChanged n c.in-Frame.frame (Add w.in-Add.node) c.self.inside.rows.frames.entries w.add_frame.new.frames.entries) c.payload_words-words.ensures.value) w.add_frame.ensures.ok) w.add_frame.ensures.err w.add_frame.ensures.placed)
@@ -100,8 +99,8 @@ made c =
           ⊤ (Ok tt) w.drop_signal.new.frames.entries c.self.inside.cells c.self.invariant.0 (w.drop_signal.ensures.changed words) tt (w.drop_signal.ensures.placed _ c.self.invariant.1))
     ]
 
-pub returns-after-change-2-clause-page : goal.returns-after-change-2-clause-page
-returns-after-change-2-clause-page c = (made c).0
+pub returns-after-change-clause-page : goal.returns-after-change-clause-page
+returns-after-change-clause-page c = (made c).0
 
 pub invariant_of-self-in-Frame : goal.invariant_of-self-in-Frame
 invariant_of-self-in-Frame c = let m = made c in (m.1, m.2)

@@ -1,5 +1,6 @@
 use Rattle.std.proofs.Common.{◌≡◌, ◌∙◌, ◌++◌, ◌∷◌, [], Ok, subst, sym}
 use Rattle.fr_base.specs.Parameters.{check_params}
+use Rattle.fr_base.specs.Changes.{in_rows}
 use Rattle.fr_base.specs.declared.name.Name.{Name}
 use Rattle.fr_base.specs.declared.request.Change.TheVariants as change
 use Rattle.fr_world.specs.Edits.{Takes, edited}
@@ -13,7 +14,7 @@ amend-requires c =
     let page = c.args.self.now.page in
     let what = change.Frame c.args.frame c.args.change in
     record {
-      takes = subst (λ (n : Name × Name). Takes page.variant (own_rows_of page) (Rows n.0 n.1 what)) (λ i. (sym c.supplier.ensures i, sym c.variant.ensures i))
+      takes = subst (λ (n : Name × Name). Takes page.variant (own_rows_of page) (Rows (in_rows n.0 n.1 what))) (λ i. (sym c.supplier.ensures i, sym c.variant.ensures i))
           (change-takes page (subst (λ p. check_params p ≡ Ok p) c.params.ensures c.raw-raw.ensures.checked) c.frames-frames.ensures.kept what c.requires.checked c.requires.admitted);
     }
 
@@ -25,5 +26,5 @@ returns-clause-ok c =
       variant = c.in_ok-amend.ensures.rest.1 i;
       released = c.in_ok-amend.ensures.rest.2 i;
       page = c.in_ok-amend.ensures.page i;
-      edits = (c.in_ok-push.ensures.items ∙ λ j. old.edits.items ++ Rows (c.supplier.ensures j) (c.variant.ensures j) (change.Frame c.args.frame c.args.change) ∷ []) i;
+      edits = (c.in_ok-push.ensures.items ∙ λ j. old.edits.items ++ Rows (in_rows (c.supplier.ensures j) (c.variant.ensures j) (change.Frame c.args.frame c.args.change)) ∷ []) i;
     }
