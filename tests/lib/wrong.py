@@ -107,7 +107,7 @@ def owner_of(lines, first):
     while header != (header := re.sub(r"<[^<>]*>", "", header)):
         pass
     found = IMPL.match(header)
-    return found and (rf"{found[2]}{found[1]}\w*::" if found[1] else rf"{found[2]}::")
+    return found and (rf"{found[2]}{found[1]}\w*::" if found[1] else rf"{found[2]}(?:\+[\w+]*)?::")
 
 
 def groups(edits):
