@@ -229,7 +229,9 @@ fn drop_frame(actor: &Actor, variant: &Text, frame: &Text) -> Result<Checked<'st
     Ok(of_frame(supplier, variant, frame, FrameChange::Drop))
 }
 
-// A refusal by the supplier, the variant or the frame comes before a refusal in `placed`.
+// Checks the request for a placement of a frame. `placed` is the placement that its slot, channels,
+// base and repetition make, or why they make none. A refusal by the supplier, the variant or the
+// frame comes before that.
 #[tactic(auto, unfolding(crate::proofs::ChecksLemmas::frames_open))]
 fn place(
     actor: &Actor,
@@ -245,7 +247,8 @@ fn place(
     Ok(of_frame(supplier, variant, frame, FrameChange::Place(placed?)))
 }
 
-// A refusal by the supplier, the variant or the frame comes before a refusal in `placed`.
+// Checks the request to take a placement of a frame back. `placed` is as in `place`, and its refusal
+// comes as late.
 #[tactic(auto, unfolding(crate::proofs::ChecksLemmas::frames_open))]
 fn unplace(
     actor: &Actor,

@@ -156,6 +156,15 @@ impl Config {
         self.suppliers.as_slice()
     }
 
+    /// Whether a supplier has this name.
+    pub fn has_supplier(&self, name: Name) -> bool
+        ensures { result ≡ list_any (λ s. same_text name s.name) self.now.suppliers }
+    {
+        self.suppliers()
+            .iter()
+            .any(|supplier| name == supplier.name)
+    }
+
     /// Whether the supplier may join with this key. If not: `Exists` where a supplier has the name,
     /// `KeyTaken` where the integrator or a supplier has the key, `Limit` where 64 suppliers are there;
     /// the first of these that applies.
@@ -163,14 +172,13 @@ impl Config {
     pub fn admits(&self, supplier: Name, key: Key) -> Result<(), Refusal>
         ensures { result ≡ admits_supplier self.now supplier key }
     {
-        let list = self.suppliers();
-        if has_name(list, supplier) {
+        if self.has_supplier(supplier) {
             return Err(Refusal::Exists);
         }
         if self.has_key(key) {
             return Err(Refusal::KeyTaken);
         }
-        if list.len() >= MAX_SUPPLIERS {
+        if self.suppliers().len() >= MAX_SUPPLIERS {
             return Err(Refusal::Limit);
         }
         Ok(())
@@ -196,7 +204,7 @@ impl Config {
             ⊎ (admits_supplier self.now supplier.name supplier.key ≡ Err e)) }
     {
         self.admits(supplier.name, supplier.key)?;
-        let mut suppliers = copied(alloc, self.suppliers())?;
+        let mut suppliers = copy_suppliers(alloc, self.suppliers())?;
         suppliers.insert(supplier)?;
         // The contracts of these readers say that they are a name and a key, which `Config::new` asks.
         let (_name, _key) = (supplier.name.as_str(), supplier.key.as_str());
@@ -210,7 +218,7 @@ impl Config {
     pub fn admits_key(&self, supplier: Name, key: Key) -> Result<(), Refusal>
         ensures { result ≡ admits_key self.now supplier key }
     {
-        if !has_name(self.suppliers(), supplier) {
+        if !self.has_supplier(supplier) {
             return Err(Refusal::NoSupplier);
         }
         if self.has_key(key) {
@@ -229,7 +237,7 @@ impl Config {
             ⊎ (admits_key self.now supplier key ≡ Err e)) }
     {
         self.admits_key(supplier, key)?;
-        let suppliers = rekeyed(alloc, self.suppliers(), supplier, key)?;
+        let suppliers = copy_with_key(alloc, self.suppliers(), supplier, key)?;
         // The contract of this reader says that it is a key, which `Config::new` asks.
         let _key = key.as_str();
         Ok(Config::new(self.params(), self.integrator(), suppliers))
@@ -237,18 +245,23 @@ impl Config {
 }
 
 // A copy of the list, in which the supplier of this name has this key.
-fn rekeyed(alloc: Global, list: &[Supplier], name: Name, key: Key) -> Result<Suppliers, NoMemory>
+fn copy_with_key(
+    alloc: Global,
+    list: &[Supplier],
+    name: Name,
+    key: Key,
+) -> Result<Suppliers, NoMemory>
     ensures { IfOk result (λ copy. copy ≡ map (keyed name key) list.now) }
 {
     let mut suppliers = Suppliers::new(alloc);
     for supplier in list {
-        suppliers.push(keyed(*supplier, name, key))?;
+        suppliers.push(change_key(*supplier, name, key))?;
     }
     Ok(suppliers)
 }
 
-// The supplier, with this key where it has this name.
-fn keyed(supplier: Supplier, name: Name, key: Key) -> Supplier
+// Gives the supplier of this name this key. Any other supplier stays as it is.
+fn change_key(supplier: Supplier, name: Name, key: Key) -> Supplier
     ensures { result ≡ keyed name key supplier }
 {
     if name == supplier.name {
@@ -259,7 +272,7 @@ fn keyed(supplier: Supplier, name: Name, key: Key) -> Supplier
 }
 
 // A copy of the list.
-fn copied(alloc: Global, list: &[Supplier]) -> Result<Suppliers, NoMemory>
+fn copy_suppliers(alloc: Global, list: &[Supplier]) -> Result<Suppliers, NoMemory>
     ensures { IfOk result (λ copy. copy ≡ list.now) }
 {
     let mut suppliers = Suppliers::new(alloc);
@@ -274,13 +287,6 @@ fn first_after(suppliers: &[Supplier], name: Name) -> Option<usize>
     ensures { result ≡ position (λ s. is_earlier name s.name) suppliers.now }
 {
     suppliers.iter().position(|supplier| name < supplier.name)
-}
-
-// Whether one of the suppliers has this name.
-fn has_name(suppliers: &[Supplier], name: Name) -> bool
-    ensures { result ≡ list_any (λ s. same_text name s.name) suppliers.now }
-{
-    suppliers.iter().any(|supplier| name == supplier.name)
 }
 
 // Whether the key is one of the suppliers'.

@@ -59,7 +59,7 @@ impl CycleSet {
         }
     }
 
-    /// How many cycles there are. The set has some of them.
+    /// How many cycles the cycle counter goes through, 8 to 64. The set has some of them.
     pub fn cycles(&self) -> u8
         ensures value { result ≡ self.now.count }
         ensures are_cycles { IsTrue (are_cycles self.now) }

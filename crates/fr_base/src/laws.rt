@@ -74,8 +74,8 @@ pub fn release_freezes()
     ensures { ReleaseFreezes }
 {}
 
-/// A query of a released variant, with names of their form, gives the same actor, from when it is known, the same answer
-/// ever after, unless that is `Unavailable`.
+/// Once an actor is known, each query of a released variant that `check` accepts from this actor has the same answer ever
+/// after, unless that answer is `Unavailable`.
 pub fn released_answers_stay()
     ensures { ReleasedAnswersStay }
 {}
@@ -121,9 +121,10 @@ pub fn own_export_changes_nothing()
     ensures { OwnExportChangesNothing }
 {}
 
-/// All parts of the exports of a sound book, imported into an open variant of one with the same parameters, where the
-/// supplier has the same nodes and grants and no frames, bring its frames along: first those of frames, then those of
-/// placements, then those of signals, each under a label that is free.
+/// A supplier exports its frames of a variant of a sound book, and imports all parts into an open variant of another sound
+/// book. The two books have the same parameters. In the second variant the supplier has the same nodes and grants, and no
+/// frames. The parts of frames come first, then those of placements, then those of signals, each under a label that is
+/// free. Then each import is done, and the supplier has the same frames in both variants.
 pub fn export_is_imported()
     ensures { ExportIsImported }
 {}
@@ -239,19 +240,20 @@ pub fn told_room_is_place()
     ensures { ToldRoomIsPlace }
 {}
 
-/// In a sound book what a supplier is told of room for is a placement of the cluster with the repetition that it asked
-/// for.
+/// In a sound book each placement that a supplier is told there is room for is one of the cluster, with the repetition that
+/// the supplier asked for.
 pub fn told_room_fits()
     ensures { ToldRoomFits }
 {}
 
-/// In a sound book what a supplier is told of room for is in order, by slot, channels and base, and nothing stands twice.
+/// In a sound book the placements that a supplier is told there is room for are in order, by slot, channels and base, and
+/// none of them stands twice.
 pub fn told_room_is_in_order()
     ensures { ToldRoomIsInOrder }
 {}
 
-/// In a sound book, where a supplier is told that the room is refused, each Place of the frame with this repetition is
-/// refused, on what is of the cluster, and by the same, but for `Limit`.
+/// In a sound book, where a supplier asks for the room for a frame and is refused, each Place of this frame is refused too,
+/// whichever placement of the cluster with this repetition it names. The refusal is the same, unless it was `Limit`.
 pub fn refused_room_refuses()
     ensures { RefusedRoomRefuses }
 {}

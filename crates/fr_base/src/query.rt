@@ -10,7 +10,7 @@ pub enum Query<N, M = u32> {
     Register(Inventory),
     /// A report of a variant.
     Variant { variant: N, report: Report<N, M> },
-    /// What `variant` has in place of what `from` has.
+    /// How `variant` differs from `from`: the rows that are gone, and those that are new.
     Difference { variant: N, from: N },
 }
 
@@ -45,8 +45,8 @@ pub trait QueryReader<N, M, A, E> {
 }
 
 impl<N, M> Query<N, M> {
-    /// The same query, with the names and numbers that the reader makes of its own: first the
-    /// variant's, then the report's.
+    /// The same query, with each name and number as the reader reads it, the variant's name first. The
+    /// first error ends it.
     #[tactic(auto, unfolding(crate::specs::QueryNames::IsQueryRead))]
     pub fn read<A: Drop, E: Drop, R: QueryReader<N, M, A, E>>(
         &self,

@@ -5,8 +5,10 @@ use crate::name::Name;
 use std::alloc::AllocFailed;
 use std::fmt;
 
-/// Why a request was refused. A refusal changes nothing. They are checked in the order of their numbers,
-/// but `BadKey` after `BadName`, and `KeyTaken` after `Exists`; the first that applies is answered. (Number 29, `BadRow`, is that of an import's row, and wraps the row's own refusal.)
+/// Why a request was refused. A refusal changes nothing. Refusals are checked in the order of their
+/// numbers, but `BadKey` after `BadName`, and `KeyTaken` after `Exists`; the first that applies is
+/// answered. Number 29, `BadRow`, is none of these: it is the answer where a row of a file is refused,
+/// and has the row's own refusal in it.
 #[derive(Clone, Copy, Debug, PartialEq, Eq)]
 pub enum Refusal {
     /// The request's text does not have the form of a request.

@@ -216,11 +216,11 @@ pub struct Ask {
     pub request: Request,
 }
 
-/// A request that changes the register, with checked values, by what it changes: a variant for all, a
-/// supplier's nodes, or one supplier's rows in a variant.
+/// A request that changes the register, with checked values, by what it changes: a variant for all
+/// suppliers, the list of suppliers, a supplier's key, its nodes, or its rows in a variant.
 #[derive(Clone, Copy, PartialEq, Eq)]
 pub enum Command {
-    /// The integrator's, common to all suppliers.
+    /// The integrator opens or releases a variant, for all suppliers.
     Common(CommonCommand),
     /// The integrator adds a supplier, with the key by which it is known.
     AddSupplier { supplier: Name, key: Key },

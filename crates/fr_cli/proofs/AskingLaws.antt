@@ -12,21 +12,21 @@ use Rattle.fr_base.specs.QueryNames.{query_with}
 use Rattle.fr_base.specs.declared.request.Request.{Request}
 use Rattle.fr_base.specs.declared.request.Request.TheVariants as request
 use Rattle.fr_picture.proofs.ReportLaws.{query_stays as query_leaves}
-use Rattle.fr_http.specs.Asking.{Standing}
+use Rattle.fr_world.specs.Held.{Standing}
 use Rattle.sqlite.specs.declared.file.Leftover.{Leftover}
 use Rattle.sqlite_disk.specs.declared.Disk.{Ghosts}
 use Rattle.sqlite_wal.specs.Recovery.{Image}
 use Rattle.fr_cli.specs.Asked.{asked_by}
 use Rattle.fr_cli.specs.Asking.{IsAnswer, IsForReader, IsRefusedBy, IsToldBy, Leads, Prints, asked_with, query_of}
 use Rattle.fr_cli.specs.Outcomes.{outcome_of}
-use Rattle.fr_cli.specs.Faults.{IsNotGiven, IsNotReported}
+use Rattle.fr_cli.specs.Faults.{IsNotAnswered, IsNotGiven}
 use Rattle.fr_cli.specs.Keys.{IsKeyGiven}
 use Rattle.fr_cli.specs.Performing.{Says}
 use Rattle.fr_cli.specs.Queries.{reader_of}
 use Rattle.fr_cli.specs.Reading.{Stays}
 use Rattle.fr_cli.specs.ScriptRun.{Replied}
 use Rattle.fr_cli.specs.declared.query.Inquiry.{Inquiry}
-use Rattle.fr_cli.specs.RegisterFiles.{IsAnswerOfFile, IsAnswerToGiven}
+use Rattle.fr_cli.specs.RegisterFiles.{IsAnswerOfFile, IsAnswerToGiven, LeadsInFile, StaysInFile}
 use Rattle.fr_cli.proofs.OpenedLaws.{IsOver}
 use Rattle.fr_cli.specs.declared.fault.Fault.{Fault}
 use Rattle.fr_cli.specs.declared.fault.Fault.TheVariants.{NoMemory}
@@ -88,6 +88,26 @@ module _ {D : Type 0} {g : Ghosts D} where
         (step.0, step.1, over.leaves c step.0 step.2),
   )
 
+  -- so it is with the book that it leads to, or leaves
+  pub leads_file : (held : Image) (rest : Option (Leftover D g)) (left : Leftover D g) (clean : Type 0) (old new : Standing)
+      (asks : Cluster → Book → Result Ask Refusal) → rest ≡ Some left → IsOver held left clean old new → Leads clean old new asks → LeadsInFile held rest asks
+  leads_file held rest left clean old new asks is_left over is = (
+    left,
+    (is_left, over.opened),
+    λ kept c b there sound.
+        let up = over.closes kept in
+        let led = is up c b (over.finds up c b there) sound in
+        (led.0, led.1, over.leaves c led.0 led.2),
+  )
+
+  pub stays_file : (held : Image) (rest : Option (Leftover D g)) (left : Leftover D g) (clean : Type 0) (old new : Standing)
+      → rest ≡ Some left → IsOver held left clean old new → Stays clean old new → StaysInFile held rest
+  stays_file held rest left clean old new is_left over is = (
+    left,
+    (is_left, over.opened),
+    λ kept c b there sound. let up = over.closes kept in over.leaves c b (is up c b (over.finds up c b there) sound),
+  )
+
   -- so what is printed of its answer is said of the file
   pub says_of_file : (May : Fault → Type 0) (done : Result (Vec ℕ) Failure) (held : Image) (rest : Option (Leftover D g)) (left : Leftover D g) (clean : Type 0)
       (old new : Standing) (asks : Cluster → Book → Result Ask Refusal) → rest ≡ Some left → IsOver held left clean old new → May NoMemory
@@ -107,12 +127,12 @@ module _ {D : Type 0} {g : Ghosts D} where
   -- what is said of the answer to who has the key is said of the key that is given
   pub given_says : (held : Image) (rest : Option (Leftover D g)) (word : List ℕ) (input left : Option (List ℕ)) (key : List ℕ) (request : Request)
       (done : Result (Vec ℕ) Failure) → IsKeyGiven word input left key
-      → Says (IsNotReported held rest) (IsAnswerOfFile held rest (asked_with key request)) done
-      → Says (IsNotGiven held rest word) (IsAnswerToGiven held rest word request input left) done
+      → Says (IsNotAnswered held rest (asked_with key request)) (IsAnswerOfFile held rest (asked_with key request)) done
+      → Says (IsNotGiven held rest word request input left) (IsAnswerToGiven held rest word request input left) done
   given_says held rest word input left key request (Ok text) given (answer, is, kind, said) = (answer, (key, given, is), kind, said)
   given_says held rest word input left key request (Err (failure.RefusedRows text)) given (answer, is, kind, said) = (answer, (key, given, is), kind, said)
   given_says held rest word input left key request (Err (failure.Refused line)) given (answer, is, kind, said) = (answer, (key, given, is), kind, said)
-  given_says held rest word input left key request (Err (failure.Fault fault)) given may = inl may
+  given_says held rest word input left key request (Err (failure.Fault fault)) given may = inl (key, given, may)
 
 -- the same was asked by the same
 pub asks_same : (clean : Type 0) (old new : Standing) (by who : Option Actor) (request asks : Request) (answer : Answer) → by ≡ who → request ≡ asks

@@ -12,7 +12,7 @@ use Rattle.fr_base.specs.Cluster.{Cluster}
 use Rattle.fr_desks.specs.FileDesk.{Held, IsLeftWith}
 use Rattle.fr_world.specs.Held.{Standing}
 use Rattle.fr_cli.specs.Answering.{AnswersLines, BeginWith, GoOnBehind, WasCutShort}
-use Rattle.fr_cli.specs.Incoming.{AreFirstOf, AreFirstOfAll, AreShort, EndsAsking, EndsLines, HasAnswered, HasAsked, HasHeard, HasLongLine, IsAsked, max_line}
+use Rattle.fr_cli.specs.Incoming.{AreFirstOf, AreFirstOfAll, AreShort, EndsAsking, EndsLines, HasAnswered, WasAsked, HasHeard, HasLongLine, IsAsked, max_line}
 use Rattle.fr_cli.specs.Performing.{of_script}
 use Rattle.fr_cli.specs.Script.{HasNo, max_script, request_lines}
 use Rattle.fr_cli.specs.ScriptFault.{script_fault_of}
@@ -92,7 +92,7 @@ heard_more clean first old mid new front chunk w v falls ends p q =
 
 -- all lines were answered, and more may be asked
 pub asked_on : (clean first : Type 0) (old mid new : Standing) (lines : List (List ℕ)) (a b : Option (List ℕ)) → (clean → first) → (clean → (c : Cluster) (b : Book) → mid c b → new c b)
-    → (written : List ℕ) × Appends a b written × AnswersLines first old mid lines written → HasAsked clean old new lines a b (Ok tt)
+    → (written : List ℕ) × Appends a b written × AnswersLines first old mid lines written → WasAsked clean old new lines a b (Ok tt)
 asked_on clean first old mid new lines a b falls stays all = record {
   all = (all.0, all.1, lines_stay clean first old mid new lines all.0 falls stays all.2);
   early = tt;
@@ -101,7 +101,7 @@ asked_on clean first old mid new lines a b falls stays all = record {
 
 -- all lines were answered, and the register has come to an end
 pub asked_last : (clean first : Type 0) (old mid new : Standing) (lines : List (List ℕ)) (a b : Option (List ℕ)) → (clean → first) → (clean → (c : Cluster) (b : Book) → mid c b → new c b)
-    → (written : List ℕ) × Appends a b written × AnswersLines first old mid lines written → HasAsked clean old new lines a b (Err Unavailable)
+    → (written : List ℕ) × Appends a b written × AnswersLines first old mid lines written → WasAsked clean old new lines a b (Err Unavailable)
 asked_last clean first old mid new lines a b falls stays all =
     let begin : BeginWith lines lines = ([], sym (append-nil lines)) in
     record {
@@ -112,7 +112,7 @@ asked_last clean first old mid new lines a b falls stays all =
 
 -- a fault came before all were
 pub asked_early : (clean : Type 0) (old new : Standing) (lines : List (List ℕ)) (a b : Option (List ℕ)) (fault : ScriptFault)
-    → WasCutShort clean old new (BeginWith lines) (GoOnBehind lines) a b fault → (fault ≡ NoMemory) ⊎ (fault ≡ WriteFailed) → HasAsked clean old new lines a b (Err fault)
+    → WasCutShort clean old new (BeginWith lines) (GoOnBehind lines) a b fault → (fault ≡ NoMemory) ⊎ (fault ≡ WriteFailed) → WasAsked clean old new lines a b (Err fault)
 asked_early clean old new lines a b fault early of = record {
   all = tt;
   early = cut_as clean old new (BeginWith lines) (GoOnBehind lines) (BeginWith lines) (BeginWith lines) a b fault (λ l so. so) (λ l so. (so.0 ∷ so.1, so.2)) early;
@@ -249,7 +249,7 @@ asked_none clean old input a fault of =
 -- The input has ended, and what was begun are its last lines.
 pub at_end : (clean first : Type 0) (old mid new : Standing) (input left a m b : Option (List ℕ)) (front begun written : List ℕ) (done : Result ⊤ ScriptFault)
     → (clean → first) → Consumes input left (front ++ begun) → IsAtEnd left → length (front ++ begun) ≤ max_script → EndsLines front → Appends a m written
-    → AnswersLines first old mid (request_lines front) written → AreShort (request_lines (front ++ begun)) → HasAsked clean mid new (request_lines begun) m b done
+    → AnswersLines first old mid (request_lines front) written → AreShort (request_lines (front ++ begun)) → WasAsked clean mid new (request_lines begun) m b done
     → HasAnswered clean old new input left a b done
 at_end clean first old mid new input left a m b front begun written (Ok x) falls taken end fits ends appended answered short has =
     let (more, then, last) = has.all in

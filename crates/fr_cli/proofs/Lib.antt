@@ -28,3 +28,5 @@ pub mod VisitLaws
 mod NumberedLaws
 mod EachFault
 mod CheckingLaws
+mod DeedLaws
+mod SeriesLaws

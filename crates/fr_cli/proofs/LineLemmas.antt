@@ -11,7 +11,7 @@ use Rattle.std.proofs.lemmas.List.Splits.{slice_split_at, slice_split_none, leng
 use Rattle.std.proofs.lemmas.List.Elements.{All-from_recursion}
 use Rattle.std.specs.Prelude.{nat_lt, ◌==◌, ◌≤◌, codes, slice_index}
 use Rattle.fr_cli.specs.Incoming.{AreShort, max_line}
-use Rattle.fr_cli.specs.Script.{HasNo, onto_first_line, ended_lines, is_separator, parts_of, request_lines, parts_around}
+use Rattle.fr_cli.specs.Script.{HasNo, IsFirstLine, onto_first_line, ended_lines, is_separator, parts_of, request_lines, parts_around}
 
 -- ---- the first line
 
@@ -136,11 +136,6 @@ parts_around-position c bytes =
 
 -- ---- the first line, as code takes it
 
--- what taking the first line gives: its text, and what follows its end
-pub record TakesLine (bytes text after : List ℕ) : Type 0 where
-  pub line : lines bytes ≡ text ∷ lines after
-  pub taken : (ended : List ℕ) × (bytes ≡ ended ++ after) × (ended_lines bytes ≡ ended ∷ ended_lines after) × (is_separator ended ≡ bytes_eq text (codes "---"))
-
 lines_of_parts-first : (x : List ℕ) (more : List (List ℕ)) → 0 < length more → lines_of_parts (x ∷ more) ≡ strip_carriage_return x ∷ lines_of_parts more
 lines_of_parts-first x [] h = absurd (omega (arith, h))
 lines_of_parts-first x (y ∷ more) h = refl
@@ -163,23 +158,24 @@ separator_of : (ended text : List ℕ) → lines ended ≡ text ∷ [] → is_se
 separator_of ended text e = ap (list_any (λ text. bytes_eq text (codes "---"))) e ∙ or_false (bytes_eq text (codes "---"))
 
 -- the first line has an end
-pub takes_ended : (bytes line after text : List ℕ) → bytes ≡ line ++ 10 ∷ after → HasNo 10 line → text ≡ strip_carriage_return line → TakesLine bytes text after
+pub takes_ended : (bytes line after text : List ℕ) → bytes ≡ line ++ 10 ∷ after → HasNo 10 line → text ≡ strip_carriage_return line → IsFirstLine bytes text after
 takes_ended bytes line after text whole clear is = record {
   line = ap lines whole ∙ lines_at line after clear ∙ ap (λ t. t ∷ lines after) (sym is);
-  taken = (
-    line ++ 10 ∷ [],
-    whole ∙ sym (append_assoc line (10 ∷ []) after),
-    ap ended_lines whole ∙ ended_at line after clear,
-    separator_of (line ++ 10 ∷ []) text (lines_at line [] clear ∙ ap (λ t. t ∷ []) (sym is)),
-  );
+  ended = line ++ 10 ∷ [];
+  split = whole ∙ sym (append_assoc line (10 ∷ []) after);
+  ends = ap ended_lines whole ∙ ended_at line after clear;
+  separator = separator_of (line ++ 10 ∷ []) text (lines_at line [] clear ∙ ap (λ t. t ∷ []) (sym is));
 }
 
 -- the first line has no end: it is all there is
-pub takes_last : (bytes : List ℕ) → 0 < length bytes → HasNo 10 bytes → TakesLine bytes bytes []
+pub takes_last : (bytes : List ℕ) → 0 < length bytes → HasNo 10 bytes → IsFirstLine bytes bytes []
 takes_last [] some clear = absurd (omega (arith, some))
 takes_last (b ∷ line) some clear = record {
   line = lines_last b line clear;
-  taken = (b ∷ line, sym (append-nil (b ∷ line)), ended_last b line clear, separator_of (b ∷ line) (b ∷ line) (lines_last b line clear));
+  ended = b ∷ line;
+  split = sym (append-nil (b ∷ line));
+  ends = ended_last b line clear;
+  separator = separator_of (b ∷ line) (b ∷ line) (lines_last b line clear);
 }
 
 -- ---- the parts and the requests, line by line
@@ -190,22 +186,20 @@ front_of bytes front rest whole =
     ap (λ n. take n bytes) size ∙ ap (take (length front)) whole ∙ take-append_seam front rest
 
 -- the separator stands first in what is left
-pub parts_of_found : (bytes front rest line after : List ℕ) → bytes ≡ front ++ rest → parts_of bytes ≡ with_front front (parts_of rest) → TakesLine rest line after
+pub parts_of_found : (bytes front rest line after : List ℕ) → bytes ≡ front ++ rest → parts_of bytes ≡ with_front front (parts_of rest) → IsFirstLine rest line after
     → bytes_eq line (codes "---") ≡ true → Some (take (length bytes - length rest) bytes, after) ≡ parts_of bytes
 parts_of_found bytes front rest line after whole so takes is =
-    let (ended, split, ends, separator) = takes.taken in
     let cut : take (length bytes - length rest) bytes ≡ front = front_of bytes front rest whole in
-    ap (λ l. Some (l, after)) (cut ∙ sym (append-nil front)) ∙ sym (so ∙ ap (with_front front) (parts_of_here rest ended after ends (separator ∙ is)))
+    ap (λ l. Some (l, after)) (cut ∙ sym (append-nil front)) ∙ sym (so ∙ ap (with_front front) (parts_of_here rest takes.ended after takes.ends (takes.separator ∙ is)))
 
 -- another line stands first in what is left
-pub parts_of_passed : (bytes front rest line after : List ℕ) → bytes ≡ front ++ rest → parts_of bytes ≡ with_front front (parts_of rest) → TakesLine rest line after
+pub parts_of_passed : (bytes front rest line after : List ℕ) → bytes ≡ front ++ rest → parts_of bytes ≡ with_front front (parts_of rest) → IsFirstLine rest line after
     → bytes_eq line (codes "---") ≡ false → (longer : List ℕ) × (bytes ≡ longer ++ after) × (parts_of bytes ≡ with_front longer (parts_of after))
-parts_of_passed bytes front rest line after whole so takes is =
-    let (ended, split, ends, separator) = takes.taken in (
-      front ++ ended,
-      whole ∙ ap (λ l. front ++ l) split ∙ sym (append_assoc front ended after),
-      so ∙ ap (with_front front) (parts_of_later rest ended after ends (separator ∙ is)) ∙ with_front-append front ended (parts_of after),
-    )
+parts_of_passed bytes front rest line after whole so takes is = (
+  front ++ takes.ended,
+  whole ∙ ap (λ l. front ++ l) takes.split ∙ sym (append_assoc front takes.ended after),
+  so ∙ ap (with_front front) (parts_of_later rest takes.ended after takes.ends (takes.separator ∙ is)) ∙ with_front-append front takes.ended (parts_of after),
+)
 
 -- nothing is left
 pub parts_of_missing : (bytes front rest : List ℕ) → parts_of bytes ≡ with_front front (parts_of rest) → rest ≡ [] → None ≡ parts_of bytes

@@ -7,7 +7,7 @@ use Rattle.std.specs.Str.{bytes_eq}
 use Rattle.fr_base.specs.Refusals.{name_of, number_of}
 use Rattle.fr_base.specs.declared.refusal.Refusal.{Refusal}
 use Rattle.fr_base.specs.declared.refusal.Refusal.TheVariants as refusal
-use Rattle.fr_cli.specs.Numbers.{meant, named_in, numbered, pairs_of}
+use Rattle.fr_cli.specs.Numbers.{meant_word, named_in, numbered, pairs_of}
 
 -- the row that is found has the name
 pub named_found : (word : List ℕ) (rows : List (Bor (List ℕ) × Bor (List ℕ))) (row : Bor (List ℕ) × Bor (List ℕ)) → find (λ r. bytes_eq r.0.now word) rows ≡ Some row → named_in (pairs_of rows) word ≡ row.1.now
@@ -29,7 +29,7 @@ named_missing word (r ∷ rs) found =
       | false ↦ λ is. named_missing word rs is
     ] found
 
-pub numbers : (r : Refusal) → meant (decimal (number_of r)) ≡ name_of r
+pub numbers : (r : Refusal) → meant_word (decimal (number_of r)) ≡ name_of r
 unfolding numbered digits
 numbers refusal.BadText = refl
 numbers refusal.UnknownKey = refl

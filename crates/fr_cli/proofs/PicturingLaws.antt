@@ -6,7 +6,8 @@ use Rattle.fr_base.specs.declared.refusal.Refusal.TheVariants.{UnknownKey}
 use Rattle.fr_picture.specs.declared.plan.Plan.{Plan}
 use Rattle.fr_picture.specs.Frames.{MayRefusePlan}
 use Rattle.fr_picture.specs.Plans.{IsPlan}
-use Rattle.fr_picture.specs.Reports.{Reads, Standing}
+use Rattle.fr_picture.specs.Reports.{Reads}
+use Rattle.fr_world.specs.Held.{Standing}
 use Rattle.fr_cli.specs.Picturing.{plans_for}
 use Rattle.fr_cli.specs.Reading.{IsRead}
 

@@ -1,12 +1,10 @@
 -- What is printed of what was read of a register, and of one in a file.
-use Rattle.std.proofs.Common.{◌≡◌, List, ℕ, Option, Ok, Err, Some, Result, refl, subst, sym}
+use Rattle.std.proofs.Common.{◌≡◌, List, ℕ, Option, Ok, Err, Some, Result, subst, sym}
 use Rattle.std.specs.Global.{Vec}
-use Rattle.fr_base.specs.Book.{Book}
-use Rattle.fr_base.specs.Cluster.{Cluster}
 use Rattle.fr_base.specs.declared.actor.Actor.{Actor}
 use Rattle.fr_base.specs.declared.answer.Answer.TheVariants as answer
 use Rattle.fr_base.specs.declared.refusal.Refusal.{Refusal}
-use Rattle.fr_http.specs.Asking.{Standing}
+use Rattle.fr_world.specs.Held.{Standing}
 use Rattle.sqlite.specs.declared.file.Leftover.{Leftover}
 use Rattle.sqlite_disk.specs.declared.Disk.{Ghosts}
 use Rattle.sqlite_wal.specs.Recovery.{Image}

@@ -5,21 +5,21 @@ use Rattle.sqlite_disk.specs.declared.Disk.{Ghosts}
 use Rattle.sqlite_wal.specs.Recovery.{Image}
 use Rattle.fr_cli.specs.Faults.{IsCaused, IsNotMade, IsNotMigrated, IsNotOpened}
 use Rattle.fr_cli.specs.declared.fault.Fault.TheVariants.{Register}
-use Rattle.fr_store.specs.Refused.{IsRefusedBy, IsUnavailable, NeedsNone, Refusing, makes, migrates, opens}
+use Rattle.fr_store.specs.Refused.{IsRefusedBy, IsSpared, IsUnavailable, NeedsNone, Refusing, makes, migrates, opens}
 use Rattle.fr_store.specs.declared.fault.StoreFault.{StoreFault}
 
 module _ {D : Type 0} {g : Ghosts D} (held : Image) where
   -- for such a cause
-  is_caused : (call : Refusing) (Without : StoreFault → Type 0) (rest : Option (Leftover D g)) (fault : StoreFault) → IsRefusedBy call Without held fault rest
-      → IsCaused held rest call.files Without fault
-  is_caused call Without None fault h = h.lost refl
-  is_caused call Without (Some left) fault h = λ clean. let said = h.left clean in (said.cause, λ other. said.untouched other)
+  is_caused : (call : Refusing) (Without : StoreFault → Type 0) (rest : Option (Leftover D g)) (fault : StoreFault) → ((left : Leftover D g) → IsSpared fault left → call.spares fault left)
+      → IsRefusedBy call Without held fault rest → IsCaused held rest call.files Without fault
+  is_caused call Without None fault spares h = h.lost refl
+  is_caused call Without (Some left) fault spares h = λ clean. let said = h.left clean in (said.cause, λ spared. said.stays (spares left spared))
 
   pub not_opened : (rest : Option (Leftover D g)) (fault : StoreFault) → IsRefusedBy opens NeedsNone held fault rest → IsNotOpened held rest (Register fault)
-  not_opened rest fault h = (h.tells, is_caused opens NeedsNone rest fault h)
+  not_opened rest fault h = (h.tells, is_caused opens NeedsNone rest fault (λ left spared. spared) h)
 
   pub not_migrated : (rest : Option (Leftover D g)) (fault : StoreFault) → IsRefusedBy migrates NeedsNone held fault rest → IsNotMigrated held rest (Register fault)
-  not_migrated rest fault h = (h.tells, is_caused migrates NeedsNone rest fault h)
+  not_migrated rest fault h = (h.tells, is_caused migrates NeedsNone rest fault (λ left spared. spared) h)
 
   pub not_made : (rest : Option (Leftover D g)) (fault : StoreFault) → IsRefusedBy makes IsUnavailable held fault rest → IsNotMade held rest (Register fault)
-  not_made rest fault h = (fault, refl, h.tells, is_caused makes IsUnavailable rest fault h)
+  not_made rest fault h = (fault, refl, h.tells, is_caused makes IsUnavailable rest fault (λ left spared. spared) h)

@@ -7,7 +7,7 @@ use Rattle.fr_base.specs.Book.{opening}
 use Rattle.fr_base.specs.Cluster.{ClusterFile, IsWellFormed}
 use Rattle.fr_text.specs.ClusterFile.{config_of}
 use Rattle.fr_world.specs.Held.{Standing}
-use Rattle.fr_cli.specs.Answering.{Anything, HasWritten}
+use Rattle.fr_cli.specs.Answering.{Anything, WasWritten}
 use Rattle.fr_cli.specs.Output.{IsAnsweredTo, IsCutShort, IsOutputTo, LacksMemory}
 use Rattle.fr_cli.specs.Runs.{IsRunOf}
 use Rattle.fr_cli.specs.Script.{max_script, parts_of, request_lines}
@@ -19,6 +19,11 @@ use Rattle.fr_cli.specs.declared.script_fault.ScriptFault.TheVariants.{NoMemory,
 on_script : (P : List ℕ → Type 0) (script : Option (List ℕ)) (bytes : List ℕ) → IfSome script (λ all. bytes ≡ all) → P bytes → IfSome script P
 on_script P None bytes whole so = tt
 on_script P (Some s) bytes whole so = subst P whole so
+
+-- what was written to a writer was written to the same one
+pub written_at : {W : Type 0} (contents : W → Option (List ℕ)) (clean : Type 0) (old new : Standing) (lines : List (List ℕ)) (held same : W) (now : Option (List ℕ)) (done : Result ⊤ ScriptFault)
+    → held ≡ same → WasWritten clean old new lines (contents held) now done → WasWritten clean old new lines (contents same) now done
+written_at contents clean old new lines held same now done is was = subst (λ w. WasWritten clean old new lines (contents w) now done) is was
 
 -- A script of these parts, whose cluster file is read so.
 pub record HasParts (script : List ℕ) (f : ClusterFile) (requests : List ℕ) : Type 0 where
@@ -74,7 +79,7 @@ no_write_failed e = absurd cc
 
 pub run_of : (clean : Type 0) (old new : Standing) (script left a b : Option (List ℕ)) (bytes requests : List ℕ) (f : ClusterFile) (done : Result ⊤ ScriptFault)
     → clean → IfSome script (λ all. bytes ≡ all) → IsAtEnd left → HasParts bytes f requests → old f.cluster (opening f)
-    → HasWritten clean old new (request_lines requests) a b done → IsRunOf script left a b done
+    → WasWritten clean old new (request_lines requests) a b done → IsRunOf script left a b done
 run_of clean old new script left a b bytes requests f (Ok x) is whole end has stands w = record {
   output =
       let (written, appended, answered) = w.all in

@@ -70,7 +70,7 @@ serves_then clean first old mid new visits visit falls p q = λ is c b stands so
 
 -- ---- what was told
 
-appends-kept : (a b c : Option (List ℕ)) (bs : List ℕ) → Keeps a b → Appends b c bs → Appends a c bs
+pub appends-kept : (a b c : Option (List ℕ)) (bs : List ℕ) → Keeps a b → Appends b c bs → Appends a c bs
 appends-kept None b c bs p q = tt
 appends-kept (Some x) None c bs p q = absurd p
 appends-kept (Some x) (Some y) None bs p q = absurd q
@@ -78,7 +78,7 @@ appends-kept (Some x) (Some y) (Some z) bs p q = q ∙ ap (λ l. l ++ bs) p
 
 tells-kept : (a b c : Option (List ℕ)) (done : Result Served LinkFault) → Keeps a b → TellsEnd b c done → TellsEnd a c done
 tells-kept a b c (Ok _) p q = Keeps-trans a b c p q
-tells-kept a b c (Err fault) p q = (q.0, q.1, q.2, appends-kept a b c q.0 p q.3)
+tells-kept a b c (Err fault) p q = (q.0, q.1, appends-kept a b c q.0 p q.2)
 
 -- The end of one was told.
 pub tells_one : (a b : Option (List ℕ)) (visit : Visit) (done : Result Served LinkFault) → visit.done ≡ done → TellsEnd a b done → TellsEach a b (visit ∷ [])

@@ -1,22 +1,26 @@
 -- Answered lines: the bytes are the lines' answers, a line for each, and the lines a run from the sound book for which
 -- the register stood; it now stands for the book after them. How they are cut short by a fault: the first lines were
 -- carried out, and but for the end of one answer all is written.
-use Rattle.std.specs.Prelude.{◌≡◌, ◌⊎◌, ℕ, List, ◌∷◌, ◌++◌, length, Option, Result, Err, OnOk, IfErr, ⊤}
+use Rattle.std.specs.Prelude.{◌≡◌, ◌⊎◌, ℕ, List, ◌∷◌, ◌++◌, length, Option, Result, Err, OnOk, IfErr, IfOk, ⊤}
 use Rattle.std.specs.Io.KnownBytes.{Appends}
+use Rattle.std.specs.declared.io.Write as Write
 use Rattle.fr_base.specs.Book.{Book}
 use Rattle.fr_base.specs.Cluster.{Cluster}
 use Rattle.fr_base.specs.Sound.{IsSound}
 use Rattle.fr_base.specs.declared.answer.Answer.{Answer}
+use Rattle.fr_base.specs.declared.desk.Desk as Desk
 use Rattle.fr_base.specs.declared.refusal.Refusal.{Refusal}
 use Rattle.fr_base.specs.declared.refusal.Refusal.TheVariants.{Unavailable}
 use Rattle.fr_base.specs.declared.request.Ask.{Ask}
 use Rattle.fr_cli.specs.Asked.{ask_in}
 use Rattle.fr_cli.specs.Outcomes.{line_of}
 use Rattle.fr_cli.specs.Output.{text_of_answers}
+use Rattle.fr_cli.specs.Script.{request_lines}
 use Rattle.fr_cli.specs.ScriptRun.{AreAnswered, Replied}
 use Rattle.fr_cli.specs.declared.script_fault.ScriptFault.{ScriptFault}
 use Rattle.fr_cli.specs.declared.script_fault.ScriptFault.TheVariants.{NoMemory, WriteFailed}
 use Rattle.fr_http.specs.Connection.{InSound}
+use Rattle.fr_text.specs.declared.output.Output.{Output}
 use Rattle.fr_world.specs.Held.{Standing}
 
 -- What the line asks was read so, in a sound book; or memory was wanting.
@@ -27,6 +31,10 @@ Reads old line read = (read ≡ Err Unavailable) ⊎ ((c : Cluster) (b : Book) �
 abbrev pub AnswersLine : Standing → Standing → List ℕ → Answer → Type 0
 AnswersLine old new line answer = (c : Cluster) (b : Book) → old c b → IsSound c b →
     (last : Book) × new c last × Replied c b (ask_in c b line) answer last
+
+-- The line was answered so, as long as the register is clean; or a fault came.
+abbrev pub GivesAnswer : {E : Type 0} → List ℕ → Type 0 → Standing → Standing → Result Answer E → Type 0
+GivesAnswer line clean old new given = clean → IfOk given (AnswersLine old new line)
 
 -- Whatever is so.
 abbrev pub Anything : Standing
@@ -65,7 +73,14 @@ abbrev pub GoOnBehind : List (List ℕ) → List (List ℕ) → Type 0
 GoOnBehind lines front = (line : List ℕ) × (left : List (List ℕ)) × (lines ≡ front ++ line ∷ left)
 
 -- What was written of the lines' answers, by how that ended: all; or, where there was no memory for a line or a write failed, those before.
-pub record HasWritten (clean : Type 0) (old new : Standing) (lines : List (List ℕ)) (a b : Option (List ℕ)) (done : Result ⊤ ScriptFault) : Type 0 where
+pub record WasWritten (clean : Type 0) (old new : Standing) (lines : List (List ℕ)) (a b : Option (List ℕ)) (done : Result ⊤ ScriptFault) : Type 0 where
   pub all : OnOk done ((written : List ℕ) × Appends a b written × AnswersLines clean old new lines written)
   pub early : IfErr done (WasCutShort clean old new (BeginWith lines) (GoOnBehind lines) a b)
   pub faults : IfErr done (λ fault. (fault ≡ NoMemory) ⊎ (fault ≡ WriteFailed))
+
+-- A register was asked what these lines ask, and the answers were written so to an output. The register was clean before if it is now, and
+-- the output has the same writer still.
+pub record HasWritten {D W : Type 0} (desk : Desk.Ghosts D) (writer : Write.Ghosts W) (lines : List ℕ) (old new : D) (held now : Output W) (done : Result ⊤ ScriptFault) : Type 0 where
+  pub written : WasWritten (desk.clean new) (desk.stands old) (desk.stands new) (request_lines lines) (writer.contents held.writer.now) (writer.contents now.writer.now) done
+  pub falls : desk.clean new → desk.clean old
+  pub same_writer : now.writer.ghost_name ≡ held.writer.ghost_name

@@ -11,7 +11,7 @@ use Rattle.fr_base.specs.declared.refusal.Refusal.{Refusal}
 use Rattle.fr_base.specs.declared.refusal.Refusal.TheVariants.{NoSupplier, UnknownKey}
 use Rattle.fr_base.specs.declared.request.Ask.{Ask}
 use Rattle.fr_base.specs.declared.request.Request.{Request}
-use Rattle.fr_http.specs.Asking.{Standing}
+use Rattle.fr_world.specs.Held.{Standing}
 use Rattle.fr_http.specs.Connection.{InSound}
 use Rattle.fr_cli.specs.Asked.{asked_by}
 use Rattle.fr_cli.specs.Outcomes.{line_of, outcome_of, printed_of}

@@ -31,10 +31,14 @@ IsChecked bytes (Err (failure.Refused line)) = (fault : ConfigFault) × (place :
     × (line.items ≡ word_line (config_fault_word fault ++ codes ": " ++ place))
 IsChecked bytes (Err (failure.Fault fault)) = fault ≡ NoMemory
 
--- whether a key may be somebody's, and the text is a request, whoever asks
+-- whether the key may be somebody's, and the text is a request, whoever asks
+abbrev pub is_fine_ask : List ℕ → List ℕ → Bool
+is_fine_ask key text = is_key key && is_fine_request text
+
+-- whether the line's parts are such a key and such a text
 abbrev pub is_fine_parts : Option (List ℕ × List ℕ) → Bool
 is_fine_parts None = false
-is_fine_parts (Some parts) = is_key parts.0 && is_fine_request parts.1
+is_fine_parts (Some parts) = is_fine_ask parts.0 parts.1
 
 -- Whether a line is a key and a request, and no longer than one that comes in may be. An empty one is passed over.
 unfoldable pub is_fine_line : List ℕ → Bool

@@ -1,11 +1,14 @@
 -- Ending: the status with which a job ends, and what standard output and standard error get. When its file failed to
 -- close.
-use Rattle.std.specs.Prelude.{◌≡◌, ◌≢◌, ◌⊎◌, [], ℕ, List, ◌++◌, codes, Option, Some, None, Result, Ok, Err, ⊤}
+use Rattle.std.specs.Prelude.{◌≡◌, ◌≢◌, ◌⊎◌, [], ℕ, List, ◌++◌, codes, Option, Some, None, Result, Ok, Err, OnErr, OnOk, ⊤}
 use Rattle.std.specs.Global.{Vec}
 use Rattle.std.specs.Io.KnownBytes.{Appends, Keeps}
+use Rattle.std.specs.declared.io.Write as Write
 use Rattle.sqlite.specs.declared.file.Leftover.{Leftover}
 use Rattle.sqlite.specs.declared.file.Leftover.TheVariants as left
 use Rattle.sqlite_disk.specs.declared.Disk.{Ghosts}
+use Rattle.fr_http.specs.Connection.{AppendsFront}
+use Rattle.fr_text.specs.declared.output.Output.{Output}
 use Rattle.fr_cli.specs.Faults.{fault_word}
 use Rattle.fr_cli.specs.declared.failure.Failure.{Failure}
 use Rattle.fr_cli.specs.declared.failure.Failure.TheVariants as failure
@@ -21,13 +24,19 @@ status_of (Err _) = 1
 abbrev pub word_line : List ℕ → List ℕ
 word_line word = codes "slotplan: " ++ word ++ codes "\n"
 
--- A front of the text was written, or all of it.
-abbrev pub AppendsFront : Option (List ℕ) → Option (List ℕ) → List ℕ → Type 0
-AppendsFront old new text = (written : List ℕ) × (missing : List ℕ) × (text ≡ written ++ missing) × Appends old new written
-
 -- A front of the text was written, and not all of it.
 abbrev pub AppendsLess : Option (List ℕ) → Option (List ℕ) → List ℕ → Type 0
 AppendsLess old new text = (written : List ℕ) × (missing : List ℕ) × (text ≡ written ++ missing) × (missing ≢ []) × Appends old new written
+
+-- What a print of the text wrote: all of it, or less. That is always a front of it.
+pub record Prints {E : Type 0} (text : List ℕ) (old new : Option (List ℕ)) (done : Result ⊤ E) : Type 0 where
+  pub ok : OnOk done (Appends old new text)
+  pub err : OnErr done (AppendsLess old new text)
+  pub front : AppendsFront old new text
+
+-- The line that names a fault was written, as far as it can be.
+abbrev pub NamesFault : {X : Type 0} → List ℕ → Option (List ℕ) → Option (List ℕ) → X → Type 0
+NamesFault word old new done = AppendsFront old new (word_line word)
 
 -- Nothing is said of what was done; of a fault its line, as far as it can be written.
 abbrev pub Tells : Option (List ℕ) → Option (List ℕ) → Result ⊤ Fault → Type 0
@@ -47,6 +56,13 @@ IsTold (Ok text) out out' err err' status = IsPrinted text.items out out' err er
 IsTold (Err (failure.RefusedRows text)) out out' err err' status = (status ≡ 1) × ((printed : ℕ) × IsPrinted text.items out out' err err' printed)
 IsTold (Err (failure.Refused line)) out out' err err' status = (status ≡ 1) × Keeps out out' × AppendsFront err err' line.items
 IsTold (Err (failure.Fault fault)) out out' err err' status = (status ≡ 1) × Keeps out out' × AppendsFront err err' (word_line (fault_word fault))
+
+-- A call prints to standard output, and tells to an output of standard error: this is so of the bytes that standard output and standard
+-- error held and hold, and of what the call gives. It is the same standard error still.
+pub record TellsOn {O E X : Type 0} (out : Write.Ghosts O) (err : Write.Ghosts E)
+    (Does : Option (List ℕ) → Option (List ℕ) → Option (List ℕ) → Option (List ℕ) → X → Type 0) (old new : O) (held now : Output E) (given : X) : Type 0 where
+  pub does : Does (out.contents old) (out.contents new) (err.contents held.writer.now) (err.contents now.writer.now) given
+  pub same_err : now.writer.ghost_name ≡ held.writer.ghost_name
 
 -- What is left of a job's file is the store that it had, since it failed to close, or to open.
 abbrev pub FailedToClose : {D : Type 0} {g : Ghosts D} → Option (Leftover D g) → Type 0

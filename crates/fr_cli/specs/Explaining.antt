@@ -4,7 +4,7 @@ use Rattle.std.specs.Prelude.{◌≡◌, ◌++◌, ℕ, List, [], ◌∷◌, cod
 use Rattle.std.specs.Borrow.{Bor}
 use Rattle.std.specs.Global.{Vec}
 use Rattle.fr_guide.specs.Explaining.{Explains, ListsAlike, ListsAll}
-use Rattle.fr_cli.specs.Numbers.{meant}
+use Rattle.fr_cli.specs.Numbers.{meant_word}
 use Rattle.fr_cli.specs.declared.failure.Failure.{Failure}
 use Rattle.fr_cli.specs.declared.failure.Failure.TheVariants as failure
 use Rattle.fr_cli.specs.declared.fault.Fault.TheVariants.{NoMemory}
@@ -25,7 +25,7 @@ IsExplained None (Ok text) = ListsAll text.items
 IsExplained None (Err (failure.RefusedRows text)) = ⊥
 IsExplained None (Err (failure.Refused line)) = ⊥
 IsExplained None (Err (failure.Fault fault)) = fault ≡ NoMemory
-IsExplained (Some word) (Ok text) = Explains (meant word.now) (Some text)
+IsExplained (Some word) (Ok text) = Explains (meant_word word.now) (Some text)
 IsExplained (Some word) (Err (failure.RefusedRows text)) = ⊥
-IsExplained (Some word) (Err (failure.Refused line)) = Explains (meant word.now) None × IsUnknown word.now line.items
+IsExplained (Some word) (Err (failure.Refused line)) = Explains (meant_word word.now) None × IsUnknown word.now line.items
 IsExplained (Some word) (Err (failure.Fault fault)) = fault ≡ NoMemory

@@ -1,21 +1,30 @@
 -- Job's faults: the word of each fault that ends a job or a connection, which of them may end which job, and for what
 -- cause a register's file is refused.
-use Rattle.std.specs.Prelude.{◌≡◌, ◌≢◌, ◌⊎◌, ℕ, List, Option, Some, None, codes, Err}
+use Rattle.std.specs.Prelude.{◌≡◌, ◌≢◌, ◌⊎◌, ℕ, List, Option, Some, None, codes, Result, Err}
 use Rattle.sqlite.specs.Files.{IsCleanLeft}
 use Rattle.sqlite.specs.declared.file.Leftover.{Leftover}
 use Rattle.sqlite_disk.specs.declared.Disk.{Ghosts}
 use Rattle.sqlite_wal.specs.Recovery.{Image}
-use Rattle.fr_base.specs.Cluster.{ClusterFile}
-use Rattle.fr_desks.specs.FileDesk.{BarsMigration, HoldStill}
+use Rattle.fr_base.specs.Book.{Book}
+use Rattle.fr_base.specs.Cluster.{Cluster, ClusterFile}
+use Rattle.fr_base.specs.declared.refusal.Refusal.{Refusal}
+use Rattle.fr_base.specs.declared.request.Ask.{Ask}
+use Rattle.fr_base.specs.declared.request.Request.{Request}
+use Rattle.fr_desks.specs.FileDesk.{BarsMigration}
+use Rattle.fr_cli.specs.Asking.{asked_with}
+use Rattle.fr_cli.specs.Deliveries.{request_with}
+use Rattle.fr_cli.specs.Keys.{IsKeyGiven}
+use Rattle.fr_cli.specs.RegisterFiles.{LeadsInFile, StaysInFile}
 use Rattle.fr_cli.specs.ScriptFault.{script_fault_of, script_fault_word}
 use Rattle.fr_cli.specs.Texts.{IsClusterAt, IsUnread, Readings, max_config, max_rows}
+use Rattle.fr_cli.specs.declared.delivery.Delivery.{Delivery}
 use Rattle.fr_cli.specs.declared.fault.Fault.{Fault}
 use Rattle.fr_cli.specs.declared.input.InputFault.{InputFault}
 use Rattle.fr_cli.specs.declared.fault.Fault.TheVariants.{Script, Config, Register, CannotOpen, CannotListen, NoMemory, WriteFailed}
 use Rattle.fr_http.specs.declared.fault.LinkFault.{LinkFault}
 use Rattle.fr_http.specs.declared.fault.LinkFault.TheVariants as link
 use Rattle.fr_store.specs.Opening.{ExplainsFiles, ForbidsFiles}
-use Rattle.fr_store.specs.Refused.{NeedsNone}
+use Rattle.fr_store.specs.Refused.{HoldsStill, IsSpared, NeedsNone}
 use Rattle.fr_store.specs.declared.fault.StoreFault.{StoreFault}
 use Rattle.fr_store.specs.declared.fault.StoreFault.TheVariants as store
 use Rattle.fr_text.specs.ClusterFile.{config_fault_word, config_of}
@@ -63,10 +72,10 @@ IfLeft (Some left) P Q = Q left
 
 -- Of the files that held this, and of what is left of them, each fault of a job. As long as nobody else wrote to them.
 module _ {D : Type 0} {g : Ghosts D} (held : Image) (rest : Option (Leftover D g)) where
-  -- Where files are left clean the fault came for such a cause, and but for Unavailable they still hold their database. Where nothing is left
-  -- the fault is such a one.
+  -- Where something is left clean the fault came for such a cause. Files that are left still hold their database, also after a crash; where they
+  -- were not opened, or a store is left, that is told but for Unavailable. Where nothing is left the fault is such a one.
   abbrev pub IsCaused : (Image → StoreFault → Type 0) → (StoreFault → Type 0) → StoreFault → Type 0
-  IsCaused Why Without fault = IfLeft rest (Without fault) (λ left. IsCleanLeft left → Why held fault × (fault ≢ store.Unavailable → HoldStill held left))
+  IsCaused Why Without fault = IfLeft rest (Without fault) (λ left. IsCleanLeft left → Why held fault × (IsSpared fault left → HoldsStill held left))
 
   -- For this a register's file is not made of a cluster file: it has a table, or making it failed.
   abbrev pub IsNotMade : Fault → Type 0
@@ -89,18 +98,30 @@ module _ {D : Type 0} {g : Ghosts D} (held : Image) (rest : Option (Leftover D g
   IsNotOpened (Register fault) = (fault ≢ store.NotEmpty) × IsCaused ExplainsFiles NeedsNone fault
   IsNotOpened _ = ⊥
 
-  -- For this no report is given: the register is not opened, or memory is wanting.
+  -- For this no report is given: the register is not opened; or it is, and memory is wanting then, and what is left holds the same book.
   abbrev pub IsNotReported : Fault → Type 0
-  IsNotReported fault = IsNotOpened fault ⊎ (fault ≡ NoMemory)
+  IsNotReported fault = IsNotOpened fault ⊎ ((fault ≡ NoMemory) × StaysInFile held rest)
 
-  -- For this nothing is asked as who has the key that is given: no report would be given; or the key that stands on standard input
-  -- cannot be read, and then the register's file is not opened.
-  abbrev pub IsNotGiven : List ℕ → Fault → Type 0
-  IsNotGiven key fault = IsNotReported fault
-      ⊎ ((key ≡ codes "-") × ((of : InputFault) × (fault ≡ Script (script_fault_of of))) × (rest ≡ None))
+  -- For this no answer to what was asked is given: the register is not opened; or it is, and memory is wanting then, and what
+  -- is left holds the same book, or the one after this was asked.
+  abbrev pub IsNotAnswered : (Cluster → Book → Result Ask Refusal) → Fault → Type 0
+  IsNotAnswered asks fault = IsNotOpened fault ⊎ ((fault ≡ NoMemory) × LeadsInFile held rest asks)
+
+  -- For this no answer is given to what is asked as who has the key that is given: it is not answered; or the key that stands on
+  -- standard input cannot be read, and then the register's file is not opened.
+  abbrev pub IsNotGiven : List ℕ → Request → Option (List ℕ) → Option (List ℕ) → Fault → Type 0
+  IsNotGiven word request input left fault =
+      ((key : List ℕ) × IsKeyGiven word input left key × IsNotAnswered (asked_with key request) fault)
+      ⊎ ((word ≡ codes "-") × ((of : InputFault) × (fault ≡ Script (script_fault_of of))) × (rest ≡ None))
+
+  -- For this a file of rows with these bytes is not delivered: memory is wanting for its request, and then the register's file is not
+  -- opened; or no answer is given to its request.
+  abbrev pub IsNotSent : Delivery → List ℕ → Option (List ℕ) → Option (List ℕ) → Fault → Type 0
+  IsNotSent delivery body input left fault = ((fault ≡ NoMemory) × (rest ≡ None))
+      ⊎ IsNotGiven delivery.key.now (request_with delivery body) input left fault
 
   -- For this the file of rows at the path is not delivered: it cannot be read, and then the register's file is not opened; or it
-  -- was read, and nothing is asked.
-  abbrev pub IsNotDelivered : Readings → List ℕ → List ℕ → Fault → Type 0
-  IsNotDelivered read path key fault = (IsUnread read path fault × (rest ≡ None))
-      ⊎ ((body : List ℕ) × read.front max_rows path body × IsNotGiven key fault)
+  -- was read, and what was read is not delivered.
+  abbrev pub IsNotDelivered : Readings → Delivery → Option (List ℕ) → Option (List ℕ) → Fault → Type 0
+  IsNotDelivered read delivery input left fault = (IsUnread read delivery.file.now fault × (rest ≡ None))
+      ⊎ ((body : List ℕ) × read.front max_rows delivery.file.now body × IsNotSent delivery body input left fault)

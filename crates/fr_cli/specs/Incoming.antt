@@ -1,8 +1,11 @@
 -- Requests that come in: all requests of an input are answered, or the first of them before a fault comes. Those of a
 -- register in a file are answered from the book that the file held, and what is left holds the book after them.
-use Rattle.std.specs.Prelude.{◌≡◌, ◌⊎◌, ◌<◌, ◌≤◌, ℕ, List, ◌++◌, length, Option, Some, Result, Err, IfErr, IfSome, IsErrOf, OnOk, ⊤}
+use Rattle.std.specs.Prelude.{◌≡◌, ◌⊎◌, ◌<◌, ◌≤◌, ℕ, List, ◌++◌, length, Option, Result, Err, IfErr, IfSome, IsErrOf, OnOk, ⊤}
 use Rattle.std.specs.Io.KnownBytes.{Appends, Consumes, IsAtEnd, Keeps}
 use Rattle.std.specs.List.{AllByRecursion}
+use Rattle.std.specs.declared.io.Write as Write
+use Rattle.fr_base.specs.declared.desk.Desk as Desk
+use Rattle.fr_text.specs.declared.output.Output.{Output}
 use Rattle.sqlite.specs.Files.{IsCleanLeft}
 use Rattle.sqlite.specs.declared.file.Leftover.{Leftover}
 use Rattle.sqlite_disk.specs.declared.Disk.{Ghosts}
@@ -22,7 +25,7 @@ use Rattle.fr_cli.specs.declared.script_fault.ScriptFault.TheVariants.{NoMemory,
 
 -- These are the first requests of the input.
 abbrev pub AreFirstOf : List (List ℕ) → List ℕ → Type 0
-AreFirstOf lines input = (left : List (List ℕ)) × (request_lines input ≡ lines ++ left)
+AreFirstOf lines input = BeginWith (request_lines input) lines
 
 -- These are the first requests of these bytes, whatever follows them.
 abbrev pub AreFirstOfAll : List ℕ → List (List ℕ) → Type 0
@@ -37,10 +40,17 @@ abbrev pub EndsAsking : ScriptFault → Type 0
 EndsAsking fault = (fault ≡ NoMemory) ⊎ ((fault ≡ WriteFailed) ⊎ (fault ≡ Unavailable))
 
 -- The lines were answered, and more may be asked; or a fault came, and the first of them were.
-pub record HasAsked (clean : Type 0) (old new : Standing) (lines : List (List ℕ)) (a b : Option (List ℕ)) (done : Result ⊤ ScriptFault) : Type 0 where
+pub record WasAsked (clean : Type 0) (old new : Standing) (lines : List (List ℕ)) (a b : Option (List ℕ)) (done : Result ⊤ ScriptFault) : Type 0 where
   pub all : OnOk done ((written : List ℕ) × Appends a b written × AnswersLines clean old new lines written)
   pub early : IfErr done (WasCutShort clean old new (BeginWith lines) (BeginWith lines) a b)
   pub faults : IfErr done EndsAsking
+
+-- A register was asked what these lines ask, and the answers were written to an output; then more may be asked, or a fault came. The register
+-- was clean before if it is now, and the output has the same writer still.
+pub record HasAsked {D W : Type 0} (desk : Desk.Ghosts D) (writer : Write.Ghosts W) (lines : List ℕ) (old new : D) (held now : Output W) (done : Result ⊤ ScriptFault) : Type 0 where
+  pub asked : WasAsked (desk.clean new) (desk.stands old) (desk.stands new) (request_lines lines) (writer.contents held.writer.now) (writer.contents now.writer.now) done
+  pub falls : desk.clean new → desk.clean old
+  pub same_writer : now.writer.ghost_name ≡ held.writer.ghost_name
 
 -- how many bytes a line that comes in has at most, without its line feed
 abbrev pub max_line : ℕ

@@ -14,7 +14,7 @@ use Rattle.fr_cli.specs.Faults.{IsNotCreated, IsNotDelivered, IsNotMigrated, IsN
 use Rattle.fr_cli.specs.Incoming.{IsAsked}
 use Rattle.fr_cli.specs.Performing.{Says, of_script}
 use Rattle.fr_cli.specs.Picturing.{plans_for}
-use Rattle.fr_cli.specs.Queries.{named}
+use Rattle.fr_cli.specs.Queries.{reader_named}
 use Rattle.fr_cli.specs.Reading.{PrintsRead}
 use Rattle.fr_cli.specs.RegisterFiles.{IsAnswerOfFile, IsCreated, IsDeliveryToFile, IsMoved, IsReadOfFile}
 use Rattle.fr_cli.specs.Runs.{IsRunOf}
@@ -81,9 +81,9 @@ module _ {D : Type 0} {g : Ghosts D} (held : Image) (rest : Option (Leftover D g
   IsPerformed (job.Report db query) s status = (done : Result (Vec ℕ) Failure) × Shows done s status
       × Says (IsNotReported held rest) (IsForReader (IsAnswerOfFile held rest (query_of query))) done × read.none × Quiet s
   IsPerformed (job.Picture db variant supplier) s status = (done : Result (Vec ℕ) Failure) × Shows done s status
-      × PrintsRead (IsNotReported held rest) (IsReadOfFile held rest (plans_for (named supplier) variant.now)) IsPage done × read.none × Quiet s
+      × PrintsRead (IsNotReported held rest) (IsReadOfFile held rest (plans_for (reader_named supplier) variant.now)) IsPage done × read.none × Quiet s
   IsPerformed (job.Deliver db delivery) s status = (done : Result (Vec ℕ) Failure) × Shows done s status
-      × Says (IsNotDelivered held rest read delivery.file.now delivery.key.now) (IsDeliveryToFile held rest read delivery s.input.old s.input.new) done
+      × Says (IsNotDelivered held rest read delivery s.input.old s.input.new) (IsDeliveryToFile held rest read delivery s.input.old s.input.new) done
       × (delivery.key.now ≢ codes "-" → Keeps s.input.old s.input.new) × comings.none
   IsPerformed (job.Check file) s status = (done : Result (Vec ℕ) Failure) × Shows done s status × IsCheckedFile read file done × Quiet s × (rest ≡ None)
   IsPerformed (job.Explain word) s status = (done : Result (Vec ℕ) Failure) × Shows done s status × IsExplained word done × read.none × Quiet s × (rest ≡ None)

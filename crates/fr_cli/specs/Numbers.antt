@@ -51,9 +51,9 @@ named_in [] word = word
 named_in (row ∷ rows) word = if bytes_eq row.0 word then row.1 else named_in rows word
 
 -- the word that is meant
-abbrev pub meant : List ℕ → List ℕ
-meant word = named_in numbered word
+abbrev pub meant_word : List ℕ → List ℕ
+meant_word word = named_in numbered word
 
 -- Each refusal's number means its name.
 abbrev pub EachNumberIsNamed : Type 0
-EachNumberIsNamed = (refusal : Refusal) → meant (decimal (number_of refusal)) ≡ name_of refusal
+EachNumberIsNamed = (refusal : Refusal) → meant_word (decimal (number_of refusal)) ≡ name_of refusal

@@ -10,12 +10,12 @@ use Rattle.fr_base.specs.declared.request.Request.TheVariants as request
 use Rattle.fr_cli.specs.declared.query.Inquiry.{Inquiry}
 
 -- who asks: the integrator where no supplier is named, else the supplier of this name; a text that is no name is nobody's
-abbrev pub named : Option (Bor (List ℕ)) → Option Actor
-named None = Some Integrator
-named (Some name) = if is_name name.now then Some (Supplier name.now) else None
+abbrev pub reader_named : Option (Bor (List ℕ)) → Option Actor
+reader_named None = Some Integrator
+reader_named (Some name) = if is_name name.now then Some (Supplier name.now) else None
 
 abbrev pub reader_of : Inquiry → Option Actor
-reader_of inquiry = named inquiry.supplier
+reader_of inquiry = reader_named inquiry.supplier
 
 -- what is asked
 abbrev pub request_for : Inquiry → Request

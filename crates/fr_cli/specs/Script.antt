@@ -1,6 +1,6 @@
 -- Script: all before the first line `---` is the cluster file; each later line that is not empty is a request, its key
 -- before the first space and its text after it.
-use Rattle.std.specs.Prelude.{ℕ, ◌≡◌, ◌==◌, nat_lt, Bool, false, if◌then◌else◌, Option, Some, None, List, [], ◌∷◌, length, filter, codes}
+use Rattle.std.specs.Prelude.{ℕ, ◌≡◌, ◌==◌, nat_lt, Bool, false, if◌then◌else◌, Option, Some, None, List, [], ◌∷◌, ◌++◌, length, filter, codes}
 use Rattle.std.specs.List.{AllByRecursion, list_any, concat, before_first, after_first}
 use Rattle.std.specs.Str.{bytes_eq}
 use Rattle.std.specs.Str.Lines.{lines}
@@ -28,6 +28,14 @@ unfoldable pub parts_of : List ℕ → Option (List ℕ × List ℕ)
 parts_of bytes =
     let all = ended_lines bytes in
     if list_any is_separator all then Some (concat (before_first is_separator all), concat (after_first is_separator all)) else None
+
+-- This is the text of the first line of the bytes, and this follows that line: the bytes are the line, with its end, and what follows it.
+pub record IsFirstLine (bytes text after : List ℕ) : Type 0 where
+  pub line : lines bytes ≡ text ∷ lines after
+  pub ended : List ℕ
+  pub split : bytes ≡ ended ++ after
+  pub ends : ended_lines bytes ≡ ended ∷ ended_lines after
+  pub separator : is_separator ended ≡ bytes_eq text (codes "---")
 
 -- the requests after the separator's line: the lines that are not empty, without their ends
 unfoldable pub request_lines : List ℕ → List (List ℕ)

@@ -1,26 +1,29 @@
 -- Server: its connections are exchanges with the register, one after another, with the bytes that were read and written; how
 -- each ended, and to which book they lead. Of each that failed a line is told. Those of a register in a file lead from the book that the file held, and
 -- what is left holds the book after them. The line of a server that listens is printed.
-use Rattle.std.specs.Prelude.{◌≡◌, ◌⊎◌, ◌≤◌, ℕ, List, [], ◌∷◌, length, map, Option, Some, Result, Err, IfErr, MatchResult, OnOk, ⊤}
+use Rattle.std.specs.Prelude.{◌≡◌, ◌⊎◌, ◌≤◌, ℕ, List, [], ◌∷◌, length, map, Option, Result, Err, IfErr, MatchResult, OnOk, ⊤}
 use Rattle.std.specs.Io.KnownBytes.{Appends, Keeps}
+use Rattle.std.specs.declared.io.Write as Write
 use Rattle.sqlite.specs.Files.{IsCleanLeft}
 use Rattle.sqlite.specs.declared.file.Leftover.{Leftover}
 use Rattle.sqlite_disk.specs.declared.Disk.{Ghosts}
 use Rattle.sqlite_wal.specs.Recovery.{Image}
 use Rattle.fr_base.specs.Book.{Book}
 use Rattle.fr_desks.specs.FileDesk.{Held, IsLeftWith}
-use Rattle.fr_http.specs.Connection.{InSound}
+use Rattle.fr_http.specs.Connection.{AppendsFront, InSound}
 use Rattle.fr_http.specs.Exchanges.{AreExchanged, Exchange, IsExchange}
 use Rattle.fr_http.specs.declared.fault.LinkFault.{LinkFault}
 use Rattle.fr_http.specs.declared.serve.Served.{Served}
 use Rattle.fr_world.specs.Held.{Standing}
-use Rattle.fr_cli.specs.Endings.{AppendsFront, word_line}
+use Rattle.fr_cli.specs.Endings.{word_line}
 use Rattle.fr_cli.specs.Faults.{IsNotOpened, link_word}
 use Rattle.fr_cli.specs.Performing.{listening}
 use Rattle.fr_cli.specs.Opened.{IsLeftOf}
-use Rattle.fr_cli.specs.Visits.{Visit, visit_of}
+use Rattle.fr_cli.specs.Visits.{MayListen, Visit, visit_of}
 use Rattle.fr_cli.specs.declared.fault.Fault.{Fault}
 use Rattle.fr_cli.specs.declared.fault.Fault.TheVariants.{CannotListen, NoMemory, Register, WriteFailed}
+use Rattle.fr_cli.specs.declared.listener.Listener as Listener
+use Rattle.fr_cli.specs.declared.serving.Service.{Service}
 use Rattle.fr_store.specs.declared.fault.StoreFault.TheVariants.{Unavailable}
 
 -- In each sound book for which the register stood, as long as it is clean, there was an exchange with exactly these bytes, which ended so, and
@@ -66,6 +69,10 @@ pub record HasServed (clean : Type 0) (old new : Standing) (count : ℕ) (said d
 abbrev pub IsAnnounced : Type 0 → ℕ → Option (List ℕ) → Option (List ℕ) → Result ⊤ Fault → Type 0
 IsAnnounced listens port a b done =
     AppendsFront a b (listening port) × OnOk done (Appends a b (listening port)) × (Keeps a b ⊎ listens)
+
+-- The same of a listener and of standard output, before and after.
+abbrev pub Announces : {L R W O : Type 0} → Listener.Ghosts L R W → Write.Ghosts O → Service → L → O → O → Result ⊤ Fault → Type 0
+Announces listener out service first old new done = IsAnnounced (MayListen listener service.port first) service.port (out.contents old) (out.contents new) done
 
 -- The register was not opened, nothing was printed or told, and this stayed as it was; or its file was opened, which held a register, and connections that
 -- came in so were served: as long as nobody else wrote to the file, from the book that it held, and what is left holds the book after them. The line that says where

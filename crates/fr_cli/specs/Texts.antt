@@ -1,6 +1,7 @@
 -- Texts: what is read of the files of the command line that are texts. A file is opened by its path. All is read that its
 -- reader has, where that is known; or of a file of rows a front, one byte more than it may have.
-use Rattle.std.specs.Prelude.{◌≡◌, ◌⊎◌, ◌≤◌, ℕ, List, length, take, IfSome, Ok}
+use Rattle.std.specs.Global.{Vec}
+use Rattle.std.specs.Prelude.{◌≡◌, ◌⊎◌, ◌≤◌, ℕ, List, length, take, IfErr, IfOk, IfSome, Ok, Result}
 use Rattle.std.specs.declared.io.Read as Read
 use Rattle.fr_base.specs.Cluster.{ClusterFile}
 use Rattle.fr_text.specs.ClusterFile.{config_of}
@@ -49,6 +50,17 @@ readings {F} {R} files reader old new = record {
 -- for what it has.
 abbrev pub IsUnread : Readings → List ℕ → Fault → Type 0
 IsUnread read path fault = ((fault ≡ CannotOpen) × (read.none ⊎ read.opened path)) ⊎ ((fault ≡ NoMemory) × read.opened path)
+
+module _ {F R : Type 0} (files : TextFiles.Ghosts F R) (reader : Read.Ghosts R) where
+  -- A call read the file at the path, which has so many bytes at most; or not, for such a cause.
+  pub record ReadsWhole (most : ℕ) (path : List ℕ) (old new : F) (done : Result (Vec ℕ) Fault) : Type 0 where
+    pub whole : IfOk done (λ text. (readings files reader old new).whole most path text.items)
+    pub fault : IfErr done (IsUnread (readings files reader old new) path)
+
+  -- A call read so many bytes of the file at the path, or all, if it has fewer; or none, for such a cause.
+  pub record ReadsFront (most : ℕ) (path : List ℕ) (old new : F) (done : Result (Vec ℕ) Fault) : Type 0 where
+    pub front : IfOk done (λ text. (readings files reader old new).front most path text.items)
+    pub fault : IfErr done (IsUnread (readings files reader old new) path)
 
 -- The file at the path was read, and is this cluster file.
 abbrev pub IsClusterAt : Readings → List ℕ → ClusterFile → Type 0

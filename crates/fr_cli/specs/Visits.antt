@@ -1,11 +1,17 @@
 -- Visits: what is read of a connection and written to it, and how it ended. When connections come in at a listener one after
 -- another, each is closed before the next one comes in, and these are what happened on them.
-use Rattle.std.specs.Prelude.{◌≡◌, ◌⊎◌, ℕ, List, [], ◌∷◌, Result}
-use Rattle.std.specs.Io.KnownBytes.{Appends, Consumes}
-use Rattle.std.specs.declared.io.Read as Read
-use Rattle.std.specs.declared.io.Write as Write
-use Rattle.fr_http.specs.Exchanges.{Exchange}
+use Rattle.std.specs.Prelude.{◌≡◌, ◌⊎◌, ℕ, true, List, [], ◌∷◌, Option, Result, Err, IfErr, IsErrOf, OnOk, ⊤}
+use Rattle.std.specs.Io.KnownBytes.{Appends, Consumes, IsAtEnd}
+use Rattle.std.specs.declared.io.Error.{Error}
+use Rattle.fr_base.specs.declared.actor.Actor.{Actor}
+use Rattle.fr_http.specs.Connection.{ReadsNoMore, WasFlushed, is_silent}
+use Rattle.fr_http.specs.Exchanges.{Exchange, IsInterim}
+use Rattle.fr_http.specs.Outcome.{IsOutcome}
+use Rattle.fr_http.specs.Reads.{IsReadWithin, Reads}
 use Rattle.fr_http.specs.declared.fault.LinkFault.{LinkFault}
+use Rattle.fr_http.specs.declared.fault.LinkFault.TheVariants.{Truncated}
+use Rattle.fr_http.specs.declared.fault.Unasked.TheVariants.{Fault}
+use Rattle.fr_http.specs.declared.input.TheConstants.{MAX_READS}
 use Rattle.fr_http.specs.declared.serve.Served.{Served}
 use Rattle.fr_cli.specs.declared.listener.Listener as Listener
 
@@ -19,9 +25,23 @@ pub record Visit : Type 0 where
 abbrev pub visit_of : Exchange → Visit
 visit_of x = record { read = x.read; written = x.written; done = x.done }
 
-module _ {L R W : Type 0} (listener : Listener.Ghosts L R W) (reader : Read.Ghosts R) (writer : Write.Ghosts W) where
+-- what is said of a source: the bytes that it has left, and how a read may go
+abbrev pub SourceGhosts : Type 0 → Type 1
+SourceGhosts R = record { remaining : R → Option (List ℕ); reads : Reads R }
+
+-- what is said of a sink: the bytes that it was given, and how a write or a flush may go
+abbrev pub SinkGhosts : Type 0 → Type 1
+SinkGhosts W = record {
+  contents : W → Option (List ℕ);
+  writes : W → List ℕ → Result ℕ Error → W → Type 0;
+  flushes : W → Result ⊤ Error → W → Type 0;
+}
+
+module _ {L R W : Type 0} (listener : Listener.Ghosts L R W) (reader : SourceGhosts R) (writer : SinkGhosts W) where
   -- A connection came in, which is to last so many seconds at most. Exactly these bytes were read of it, and exactly these were written
-  -- to it, and then it was closed, as one that ended so.
+  -- to it, and then it was closed, as one that ended so. No more was read than a request may have, and in no more reads than a connection may take. A
+  -- fault of reading comes only for its cause: that of an input cut short only where the input was at its end, and more had to come. Behind a fault
+  -- that is none of writing no more than the interim reply was written. Where it was served, the last call of its sink was a flush.
   pub record IsVisited (seconds : ℕ) (old : L) (visit : Visit) (new : L) : Type 0 where
     pub input : R
     pub output : W
@@ -31,6 +51,12 @@ module _ {L R W : Type 0} (listener : Listener.Ghosts L R W) (reader : Read.Ghos
     pub accepted : listener.accepts old seconds input output between
     pub consumed : Consumes (reader.remaining input) (reader.remaining input_left) visit.read
     pub appended : Appends (writer.contents output) (writer.contents output_made) visit.written
+    pub bound : ReadsNoMore visit.read
+    pub within : IsReadWithin reader.reads MAX_READS input input_left visit.done
+    pub truncated : IsErrOf visit.done Truncated
+        → IsAtEnd (reader.remaining input_left) × ((who : List ℕ → Option Actor) → IsOutcome who visit.read visit.written (Err (Fault Truncated)))
+    pub silent : IfErr visit.done (λ fault. is_silent fault ≡ true → IsInterim visit.read visit.written)
+    pub flushed : OnOk visit.done (WasFlushed writer.flushes output_made)
     pub closed : listener.closes between input_left output_made visit.done new
 
   -- So connections came in, one after another, and no other.
@@ -61,7 +87,7 @@ pub record Comings : Type 1 where
   pub deaf : ℕ → Type 0
 
 -- those that came in while one listener became another
-abbrev pub comings : {L R W : Type 0} → Listener.Ghosts L R W → Read.Ghosts R → Write.Ghosts W → L → L → Comings
+abbrev pub comings : {L R W : Type 0} → Listener.Ghosts L R W → SourceGhosts R → SinkGhosts W → L → L → Comings
 comings listener reader writer old new = record {
   none = new ≡ old;
   at = λ port seconds visits. AreVisitedAt listener reader writer port seconds old visits new;

@@ -1,5 +1,5 @@
 //! Requests on standard input, asked of the register in a file.
-ghost use Rattle.std.specs.Prelude.{◌≡◌, ◌⊎◌, OnOk};
+ghost use Rattle.std.specs.Prelude.{OnOk};
 ghost use Rattle.std.specs.Io.KnownBytes.{IsAtEnd};
 ghost use Rattle.sqlite_wal.specs.Files.{image_at};
 ghost use Rattle.fr_cli.specs.Incoming.{HasAnswered, IsAsked};
@@ -8,17 +8,16 @@ use crate::fault::{Fault, of_script};
 use crate::guarded::Guarded;
 use crate::incoming::answer_input;
 use crate::script_fault::ScriptFault;
-use crate::watch::Watch;
 use fr_base::Desk;
 use fr_desks::{Left, file_desk};
 use fr_office::Office;
 use fr_world::Records;
 use sqlite::Start;
-use std::io::{self, ErrorKind, Read, Write};
+use std::io::{Read, Write};
 
-/// Answers the requests on standard input over the register in the file at `db`, and gives what is left of that, closed. Where
-/// another file stands in the place of the register's, a request is answered `Unavailable`, and it ends so. `start` says what is
-/// supposed of the file.
+/// Answers the requests on standard input by the register in the file at `db`. Closes that file, and gives what is left of it.
+/// Where another file stands in its place, a request is answered `Unavailable`, and the run ends with that fault. `start` says
+/// what the file held as it was opened.
 pub fn ask_file<S: Start, R: Read, O: Write>(
     rt: &HostRuntime,
     db: &str,
@@ -38,7 +37,7 @@ pub fn ask_file<S: Start, R: Read, O: Write>(
     }
 }
 
-// Answers the requests over the register, whose file is at `db`, and gives it back.
+// Answers the requests by the register, whose file is at `db`, and gives the register back.
 fn ask_office<R: Records, I: Read, O: Write>(
     rt: &HostRuntime,
     db: &str,
@@ -53,21 +52,11 @@ fn ask_office<R: Records, I: Read, O: Write>(
         result.0 }
     ensures end { OnOk result.0 (IsAtEnd (I.remaining input.new)) }
 {
-    let watch = match Watch::new(rt, db) {
-        Ok(watch) => watch,
-        Err(error) => return (Err(unwatched(&error)), office),
-    };
-    let mut guarded = Guarded::new(office, watch);
-    let asked = answer_input(rt.alloc(), &mut guarded, input, out);
-    (asked, guarded.into_office())
-}
-
-// Why files are not watched: memory is short, or they are not where they were opened.
-fn unwatched(error: &io::Error) -> ScriptFault
-    ensures { (result ≡ ScriptFault.NoMemory) ⊎ (result ≡ ScriptFault.Unavailable) }
-{
-    match error.kind() {
-        ErrorKind::OutOfMemory => ScriptFault::NoMemory,
-        _ => ScriptFault::Unavailable,
+    match Guarded::new(rt, db, office) {
+        Ok(mut guarded) => {
+            let asked = answer_input(rt.alloc(), &mut guarded, input, out);
+            (asked, guarded.into_office())
+        }
+        Err((fault, office)) => (Err(ScriptFault::from(fault)), office),
     }
 }

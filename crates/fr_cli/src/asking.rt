@@ -15,7 +15,7 @@ use fr_base::{Actor, Answer, Ask, Desk, NoMemory, Refusal, Request};
 use fr_text::write_lines;
 use std::alloc::Global;
 
-/// The report of a variant, as who asks reads it.
+/// The report for which the query asks, as its reader sees it.
 pub fn report_on<D: Desk>(
     alloc: Global,
     desk: &mut D,
@@ -29,10 +29,10 @@ pub fn report_on<D: Desk>(
 {
     let request = query.request(alloc)?;
     let given = ask_as(alloc, desk, query.reader(), request);
-    told(alloc, &for_reader(given))
+    tell_answer(alloc, &for_reader(given))
 }
 
-/// Asks for a change, or for a trial, as who has the key, and gives what is printed of the answer.
+/// Asks for a change or a trial, as whoever has the key, and gives what is printed of the answer.
 pub fn change<D: Desk>(
     alloc: Global,
     desk: &mut D,
@@ -46,10 +46,10 @@ pub fn change<D: Desk>(
         (asked_with key.now request) }
 {
     let answer = ask_by(alloc, desk, key, request);
-    told(alloc, &answer)
+    tell_answer(alloc, &answer)
 }
 
-// Asks as who has the key.
+// Asks as whoever has the key.
 fn ask_by<D: Desk>(alloc: Global, desk: &mut D, key: &[u8], request: Request) -> Answer
     ensures falls { D.clean desk.new → D.clean desk.old }
     ensures answers { IsAnswer (D.clean desk.new) (D.stands desk.old) (D.stands desk.new)
@@ -59,7 +59,7 @@ fn ask_by<D: Desk>(alloc: Global, desk: &mut D, key: &[u8], request: Request) ->
     ask_as(alloc, desk, actor, request)
 }
 
-// Asks as this actor. Nobody is refused.
+// Asks as this actor. Where there is none, the answer is `UnknownKey`.
 fn ask_as<D: Desk>(alloc: Global, desk: &mut D, actor: Option<Actor>, request: Request) -> Answer
     ensures falls { D.clean desk.new → D.clean desk.old }
     ensures answers { IsAnswer (D.clean desk.new) (D.stands desk.old) (D.stands desk.new)
@@ -71,7 +71,7 @@ fn ask_as<D: Desk>(alloc: Global, desk: &mut D, actor: Option<Actor>, request: R
     }
 }
 
-// The answer as a reader is told it whom the command line names. No key was given, so nobody of that name is `NoSupplier`.
+// The answer to a reader whom the command line names. No key was given, so `NoSupplier` stands for `UnknownKey`.
 fn for_reader(answer: Answer) -> Answer
     ensures { result ≡ for_reader answer }
 {
@@ -81,8 +81,8 @@ fn for_reader(answer: Answer) -> Answer
     answer
 }
 
-// How a job ends that was answered so, and what is printed of it.
-fn told(alloc: Global, answer: &Answer) -> Result<Vec<u8>, Failure>
+// What is printed of the answer: as the text of a job that is done, or as the failure of one that is not.
+fn tell_answer(alloc: Global, answer: &Answer) -> Result<Vec<u8>, Failure>
     ensures { IsToldBy answer.now result }
 {
     match outcome_of(answer) {
@@ -90,7 +90,7 @@ fn told(alloc: Global, answer: &Answer) -> Result<Vec<u8>, Failure>
         Outcome::RefusedRows => Err(Failure::RefusedRows {
             text: printed_of(alloc, answer)?,
         }),
-        Outcome::Refused => Err(refused(alloc, answer)),
+        Outcome::Refused => Err(tell_refusal(alloc, answer)),
     }
 }
 
@@ -104,15 +104,15 @@ fn printed_of(alloc: Global, answer: &Answer) -> Result<Vec<u8>, NoMemory>
     }
 }
 
-/// The failure of a job in which a reader, whom the command line names, was refused so.
+/// The failure of a job in which this was refused to a reader whom the command line names.
 pub fn refused_reader(alloc: Global, refusal: Refusal) -> Failure
     ensures { IsRefusedBy (for_reader (Answer.Refused refusal)) result }
 {
-    refused(alloc, &for_reader(Answer::Refused(refusal)))
+    tell_refusal(alloc, &for_reader(Answer::Refused(refusal)))
 }
 
-// The failure of a job that was answered so.
-fn refused(alloc: Global, answer: &Answer) -> Failure
+// The failure of a job that was refused with this answer.
+fn tell_refusal(alloc: Global, answer: &Answer) -> Failure
     ensures { IsRefusedBy answer.now result }
 {
     match line_of(alloc, answer) {

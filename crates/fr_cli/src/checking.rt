@@ -47,7 +47,7 @@ fn read<F: TextFiles>(alloc: Global, files: &mut F, file: TextFile<'_>) -> Resul
     }
 }
 
-// What is said of such a file with this text.
+// What is said of the text of such a file.
 fn check_as(alloc: Global, file: TextFile<'_>, text: &[u8]) -> Result<Vec<u8>, Failure>
     ensures { IsCheckedAs file.entry text.now result }
 {
@@ -58,19 +58,19 @@ fn check_as(alloc: Global, file: TextFile<'_>, text: &[u8]) -> Result<Vec<u8>, F
     }
 }
 
-// The line of the figures of a cluster file with this text.
+// A line with the figures of the cluster file; or, as a refusal, the line on its fault.
 fn check_config(alloc: Global, text: &[u8]) -> Result<Vec<u8>, Failure>
     ensures { IsChecked text.now result }
 {
     match examine(alloc, text)? {
-        Finding::Good { text } => Ok(ended(text)?),
+        Finding::Good { text } => Ok(with_line_end(text)?),
         Finding::Bad { text } => Err(Failure::Refused {
             line: fault_line(alloc, &text)?,
         }),
     }
 }
 
-// How many requests there are, none with a fault; or each fault.
+// A line that says how many requests there are, if none has a fault; else, as a refusal, a line for each fault.
 fn check_requests(alloc: Global, text: &[u8]) -> Result<Vec<u8>, Failure>
     ensures { AreChecked (AreToldOfRequests text.now) (fine_requests text.now) result }
 {
@@ -79,7 +79,7 @@ fn check_requests(alloc: Global, text: &[u8]) -> Result<Vec<u8>, Failure>
     tell(alloc, &told, "requests", count)
 }
 
-// How many rows stand below the header, none with a fault; or each fault.
+// A line that says how many rows stand below the header, if none has a fault; else, as a refusal, a line for each fault.
 fn check_rows(alloc: Global, text: &[u8]) -> Result<Vec<u8>, Failure>
     ensures { AreChecked (AreToldOfRows text.now) fine_rows result }
 {
@@ -88,7 +88,7 @@ fn check_rows(alloc: Global, text: &[u8]) -> Result<Vec<u8>, Failure>
     tell(alloc, &told, "rows", count)
 }
 
-// Each fault of these; or, where there is none, that so many have none.
+// A line that says that so many have no fault, if none of these has one; else, as a refusal, a line for each fault.
 fn tell(alloc: Global, told: &[LineFaults], what: &str, count: usize) -> Result<Vec<u8>, Failure>
     ensures { AreChecked (λ x. x ≡ told.now) (λ x. fine_line what.now count) result }
 {
@@ -102,14 +102,14 @@ fn tell(alloc: Global, told: &[LineFaults], what: &str, count: usize) -> Result<
 }
 
 // The text with a line's end.
-fn ended(mut text: Vec<u8>) -> Result<Vec<u8>, NoMemory>
+fn with_line_end(mut text: Vec<u8>) -> Result<Vec<u8>, NoMemory>
     ensures { IfOk result (λ line. line.items ≡ text.items ++ codes "\n") }
 {
     text.push(b'\n')?;
     Ok(text)
 }
 
-// The line that says this of a fault.
+// The line on a fault of which this is said.
 fn fault_line(alloc: Global, text: &[u8]) -> Result<Vec<u8>, NoMemory>
     ensures { IfOk result (λ line. line.items ≡ word_line text.now) }
 {

@@ -1,8 +1,9 @@
 //! What is told where the register file of a job fails to close.
 ghost use Rattle.std.specs.Prelude.{◌≡◌, ◌≢◌, ◌⊎◌};
 ghost use Rattle.std.specs.Io.KnownBytes.{Keeps};
-ghost use Rattle.fr_cli.specs.Endings.{AppendsFront, FailedToClose, word_line};
+ghost use Rattle.fr_cli.specs.Endings.{FailedToClose, word_line};
 ghost use Rattle.fr_cli.specs.Faults.{store_word};
+ghost use Rattle.fr_http.specs.Connection.{AppendsFront};
 
 use crate::fault::Fault;
 use crate::printing::end;
@@ -12,8 +13,8 @@ use fr_text::Output;
 use sqlite::{Leftover, Start};
 use std::io::Write;
 
-/// The status that the process ends with, after a job whose status this is, and that left this of its register file. Where
-/// the job was done, and the file failed to close, it is 1, and that is told; what the job printed stands.
+/// The process's status, by the job's status and what the job left of its register file. Where the job was done and the file
+/// failed to close, the process's status is 1, and the fault's word is printed; what the job printed stands.
 pub fn end_closed<S: Start, E: Write>(status: u8, left: &Left<S>, err: &mut E) -> u8
     ensures failed { status ≡ 0 → FailedToClose left.now
         → (result ≡ 1) × AppendsFront (E.contents err.old) (E.contents err.new)

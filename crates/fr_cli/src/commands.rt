@@ -10,10 +10,10 @@ use std::alloc::{AllocError, Global};
 /// The greatest port of TCP.
 pub const MAX_PORT: u32 = 65_535;
 
-/// How many connections are served at most, and where no number is given.
+/// How many connections are served at most, and so many where no number is given.
 pub const MAX_CONNECTIONS: u32 = 1_000_000;
 
-/// How many seconds a connection may be allowed at most.
+/// The most seconds that a connection may last.
 pub const MAX_SECONDS: u32 = 3_600;
 
 /// The program's command line: a subcommand for each thing that it does.
@@ -398,7 +398,7 @@ fn owner<'a>(alloc: Global) -> Arg<'a>
         .action(ArgAction::Set)
 }
 
-// The supplier as which a report is read.
+// The supplier that reads a report.
 fn supplier<'a>(alloc: Global) -> Arg<'a>
     ensures { (rule_of result ≡ app.supplier) × (result.global ≡ false) }
 {

@@ -23,8 +23,8 @@ pub const CONFIG_BYTES: usize = 1_048_576;
 /// The mode of a file that its owner alone may read and write.
 const OWNER_ALONE: u32 = 0o600;
 
-/// Makes the register of the cluster file at `config` in the file at `db`, and gives what is left of that.
-/// The cluster file is one of `files`. `start` says what is supposed of the register's.
+/// Makes the register of the cluster file at `config` in the file at `db`, and gives what is left of the latter.
+/// The cluster file is one of `files`. `start` says what the register's file held as it was opened.
 pub fn create<S: Start, F: TextFiles>(
     rt: &HostRuntime,
     db: &str,
@@ -43,7 +43,7 @@ pub fn create<S: Start, F: TextFiles>(
     }
 }
 
-// Makes the register of this cluster in the file at `db`. A file that is made for it is its owner's alone.
+// Makes the register of this cluster in the file at `db`. A file that is made for it is read and written by its owner alone.
 fn make<S: Start>(
     rt: &HostRuntime,
     db: &str,
@@ -60,8 +60,8 @@ fn make<S: Start>(
     }
 }
 
-// Makes an empty file at a path where there is none, which nobody but its owner may read or write: a register's file
-// has all keys. The log gets the modes of the file. Where it cannot be made, the register cannot either, and that is told.
+// Makes an empty file at the path, if there is none. Nobody but its owner may read or write it: a register's file has all keys.
+// The log gets the file's mode. Where the file cannot be made, the register cannot be made either, and that is told.
 fn make_private(rt: &HostRuntime, path: &str) {
     let _ = OpenOptions::new()
         .write(true)

@@ -1,11 +1,11 @@
-//! The delivery of a file of rows to the register in another, as the command line gives it.
+//! Delivers a file of rows to the register in another file, as the command line says.
 ghost use Rattle.std.specs.Prelude.{◌≡◌, ◌≢◌, codes};
 ghost use Rattle.std.specs.Io.KnownBytes.{Keeps};
 ghost use Rattle.std.specs.Str.Lines.{lines};
 ghost use Rattle.sqlite_wal.specs.Files.{image_at};
 ghost use Rattle.fr_cli.specs.Asking.{asked_with};
 ghost use Rattle.fr_cli.specs.Deliveries.{request_with};
-ghost use Rattle.fr_cli.specs.Faults.{IsNotDelivered, IsNotGiven, IsNotReported};
+ghost use Rattle.fr_cli.specs.Faults.{IsNotAnswered, IsNotDelivered, IsNotGiven, IsNotSent};
 ghost use Rattle.fr_cli.specs.Keys.{first_of};
 ghost use Rattle.fr_cli.specs.Performing.{Says};
 ghost use Rattle.fr_cli.specs.RegisterFiles.{IsAnswerOfFile, IsAnswerToGiven, IsDeliveryToFile};
@@ -25,7 +25,7 @@ use fr_desks::{Left, file_desk};
 use sqlite::Start;
 use std::io::Read;
 
-/// How much of a file of rows is read: one byte more than it may have.
+/// How many bytes of a file of rows are read at most: one more than it may have.
 pub const FILE_BYTES: usize = 65_537;
 
 /// The word in the place of a key that says that the key stands on standard input.
@@ -37,9 +37,9 @@ const KEY_BOUNDS: ReadBounds = ReadBounds {
     reads: 100_000,
 };
 
-/// Delivers a file of rows to the register in the file at `db`, and gives what is left of that, closed. The file of rows is
-/// one of `files`, and read first, then the key, if it stands on standard input. `start` says what is supposed of the register's
-/// file.
+/// Delivers a file of rows to the register in the file at `db`. Closes that file, and gives what is left of it. The file of rows
+/// is one of `files`. It is read first, then the key, if that stands on standard input. `start` says what the register's file
+/// held as it was opened.
 pub fn deliver_file<S: Start, F: TextFiles, R: Read>(
     rt: &HostRuntime,
     db: &str,
@@ -49,8 +49,9 @@ pub fn deliver_file<S: Start, F: TextFiles, R: Read>(
     input: &mut R,
 ) -> (Result<Vec<u8>, Failure>, Left<S>)
     ensures says { let read = readings F.TextFiles F.Reader.Read files.old files.new in
-        Says (IsNotDelivered (image_at S.Start) result.1 read delivery.entry.file.now
-        delivery.entry.key.now) (IsDeliveryToFile (image_at S.Start) result.1 read delivery.entry
+        Says (IsNotDelivered (image_at S.Start) result.1 read delivery.entry
+        (R.remaining input.old) (R.remaining input.new))
+        (IsDeliveryToFile (image_at S.Start) result.1 read delivery.entry
         (R.remaining input.old) (R.remaining input.new)) result.0 }
     ensures quiet { delivery.entry.key.now ≢ codes "-"
         → Keeps (R.remaining input.old) (R.remaining input.new) }
@@ -70,7 +71,8 @@ fn deliver<S: Start, R: Read>(
     body: &[u8],
     input: &mut R,
 ) -> (Result<Vec<u8>, Failure>, Left<S>)
-    ensures says { Says (IsNotGiven (image_at S.Start) result.1 delivery.entry.key.now)
+    ensures says { Says (IsNotSent (image_at S.Start) result.1 delivery.entry body.now
+        (R.remaining input.old) (R.remaining input.new))
         (IsAnswerToGiven (image_at S.Start) result.1 delivery.entry.key.now
         (request_with delivery.entry body.now) (R.remaining input.old) (R.remaining input.new))
         result.0 }
@@ -83,7 +85,7 @@ fn deliver<S: Start, R: Read>(
     }
 }
 
-// Asks the register in a file for a change, as who has the key that is given.
+// Asks the register in a file for a change. The key stands on the command line, or on standard input.
 fn change_given<S: Start, R: Read>(
     rt: &HostRuntime,
     db: &str,
@@ -92,7 +94,8 @@ fn change_given<S: Start, R: Read>(
     request: Request,
     input: &mut R,
 ) -> (Result<Vec<u8>, Failure>, Left<S>)
-    ensures says { Says (IsNotGiven (image_at S.Start) result.1 key.now)
+    ensures says { Says (IsNotGiven (image_at S.Start) result.1 key.now request
+        (R.remaining input.old) (R.remaining input.new))
         (IsAnswerToGiven (image_at S.Start) result.1 key.now request (R.remaining input.old)
         (R.remaining input.new)) result.0 }
     ensures quiet { key.now ≢ codes "-" → Keeps (R.remaining input.old) (R.remaining input.new) }
@@ -109,7 +112,7 @@ fn change_given<S: Start, R: Read>(
     }
 }
 
-// The first line, without its end, of bytes that may have none.
+// The first line of the bytes, without its end. It is empty where there are no bytes.
 fn first_line(bytes: &[u8]) -> &[u8]
     ensures { result.now ≡ first_of (lines bytes.now) }
 {
@@ -119,7 +122,7 @@ fn first_line(bytes: &[u8]) -> &[u8]
     }
 }
 
-// Asks the register in a file for a change, as who has the key.
+// Asks the register in a file for a change, as whoever has the key.
 fn change_file<S: Start>(
     rt: &HostRuntime,
     db: &str,
@@ -127,7 +130,7 @@ fn change_file<S: Start>(
     key: &[u8],
     request: Request,
 ) -> (Result<Vec<u8>, Failure>, Left<S>)
-    ensures { Says (IsNotReported (image_at S.Start) result.1)
+    ensures { Says (IsNotAnswered (image_at S.Start) result.1 (asked_with key.now request))
         (IsAnswerOfFile (image_at S.Start) result.1 (asked_with key.now request)) result.0 }
 {
     match file_desk::open(rt, db, start) {

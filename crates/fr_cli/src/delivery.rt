@@ -12,20 +12,20 @@ pub struct Delivery<'a> {
     pub key: &'a str,
     /// The variant into which the file's rows go.
     pub variant: &'a str,
-    /// As what they go there.
+    /// How the variant takes the rows.
     pub kind: DeliveryKind<'a>,
     /// The file.
     pub file: &'a str,
 }
 
-/// As what the rows of a file go into a variant.
+/// How a variant takes the rows of a file.
 #[derive(Clone, Copy, PartialEq, Eq)]
 pub enum DeliveryKind<'a> {
     /// As an import, which is kept under this label.
     Import { label: &'a str },
-    /// In place of what the frames that they name have.
+    /// In place of the earlier rows of the frames that they name.
     Replacement,
-    /// Not at all: it is told what would become of each of them, in place of what the frames have, or as an import.
+    /// Not taken: the fate of each row is told, in a replacement if `replaces`, else in an import.
     Trial { replaces: bool },
 }
 

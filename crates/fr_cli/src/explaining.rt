@@ -3,29 +3,29 @@ ghost use Rattle.std.specs.Prelude.{◌≡◌, IfOk};
 ghost use Rattle.fr_cli.specs.Explaining.{IsExplained, IsUnknown, hint};
 
 use crate::failure::Failure;
-use crate::numbers::meant;
+use crate::numbers::meant_word;
 use fr_base::NoMemory;
 use fr_guide::{alike, explanation, overview};
 use std::alloc::Global;
 
-/// What the word means, or the refusal that has this number, or where none is given, each word with a line. A word that is not
-/// explained is refused, with the lines of those that begin alike.
+/// What the word means, or the refusal of this number. Where no word is given, all words are listed, with a line on each. A word
+/// that is not explained is refused, with the lines on the words that begin alike.
 pub fn explain_word(alloc: Global, word: Option<&str>) -> Result<Vec<u8>, Failure>
     ensures { IsExplained word.entry result }
 {
     let Some(word) = word else {
         return Ok(overview(alloc)?);
     };
-    match explanation(alloc, meant(word))? {
+    match explanation(alloc, meant_word(word))? {
         Some(text) => Ok(text),
         None => Err(Failure::Refused {
-            line: unknown(alloc, word)?,
+            line: unknown_text(alloc, word)?,
         }),
     }
 }
 
 // What is said of a word that is not explained.
-fn unknown(alloc: Global, word: &str) -> Result<Vec<u8>, NoMemory>
+fn unknown_text(alloc: Global, word: &str) -> Result<Vec<u8>, NoMemory>
     ensures { IfOk result (λ text. IsUnknown word.now text.items) }
 {
     let alike = alike(alloc, word)?;

@@ -12,13 +12,13 @@ use fr_text::{ConfigFault, WriteFailed};
 /// Why a job was not done, other than by a refusal.
 #[derive(Clone, Copy, Debug, PartialEq, Eq)]
 pub enum Fault {
-    /// The run of the script ended early.
+    /// What stands on standard input was not read to its end, or not answered: a script, requests or a key.
     Script(ScriptFault),
-    /// The cluster file is none.
+    /// The text of the cluster file has a fault.
     Config(ConfigFault),
-    /// The register could not be made or opened.
+    /// The register could not be made, opened, migrated or closed, or came to an end while it was served.
     Register(StoreFault),
-    /// A file could not be opened or read within its bounds.
+    /// A text file could not be opened, or not be read within its bounds.
     CannotOpen,
     /// The port could not be bound, or a connection not be accepted.
     CannotListen,
@@ -45,7 +45,7 @@ impl Fault {
     }
 }
 
-/// How the run of a script's lines ends, as a job.
+/// How a job ends, by how the run of its requests ended.
 pub fn of_script(done: Result<(), ScriptFault>) -> Result<(), Fault>
     ensures { result ≡ of_script done }
 {
@@ -55,6 +55,7 @@ pub fn of_script(done: Result<(), ScriptFault>) -> Result<(), Fault>
     }
 }
 
+// The name of a register's fault.
 fn store_word(fault: StoreFault) -> &'static str
     ensures { result.now ≡ store_word fault }
 {

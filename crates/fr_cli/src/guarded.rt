@@ -1,17 +1,17 @@
 //! A register whose files are watched: where others stand in their place, nothing is read from it or written to it.
-ghost use Rattle.std.specs.Prelude.{◌≡◌};
+ghost use Rattle.std.specs.Prelude.{◌≡◌, IfErr, IfOk};
 ghost use Rattle.fr_base.specs.Book.{Book};
 ghost use Rattle.fr_base.specs.Cluster.{Cluster};
 
 use crate::lasting::Lasting;
-use crate::watch::Watch;
+use crate::watch::{Watch, WatchFault};
 use fr_base::{Actor, Answer, Ask, Config, Desk, Refusal};
 use fr_office::Office;
 use fr_world::Records;
 use std::alloc::Global;
 
-/// The office of a register whose files are watched. While the files at its path are those that it left there it
-/// answers as the office does; else it answers `Unavailable` where nothing in the request itself refuses it.
+/// The office of a register whose files are watched. While the files at its path are those that it left there, it
+/// answers as the office does. Else it answers `Unavailable` where nothing in the request itself refuses it.
 pub(crate) struct Guarded<'a, R: Records> {
     office: Office<R>,
     watch: Watch<'a>,
@@ -20,14 +20,22 @@ pub(crate) struct Guarded<'a, R: Records> {
 }
 
 impl<'a, R: Records> Guarded<'a, R> {
-    /// Guards the office by this watch of its files.
-    pub fn new(office: Office<R>, watch: Watch<'a>) -> Guarded<'a, R>
-        ensures { result.office ≡ office }
+    /// Guards the office by a watch of its files, at `db`. Where they cannot be watched, the office is given back.
+    pub fn new(
+        rt: &'a HostRuntime,
+        db: &'a str,
+        office: Office<R>,
+    ) -> Result<Guarded<'a, R>, (WatchFault, Office<R>)>
+        ensures ok { IfOk result (λ guarded. guarded.office ≡ office) }
+        ensures err { IfErr result (λ failed. failed.1 ≡ office) }
     {
-        Guarded {
-            office,
-            watch,
-            has_failed: false,
+        match Watch::new(rt, db) {
+            Ok(watch) => Ok(Guarded {
+                office,
+                watch,
+                has_failed: false,
+            }),
+            Err(fault) => Err((fault, office)),
         }
     }
 
@@ -43,7 +51,7 @@ impl<'a, R: Records> Guarded<'a, R> {
         office
     }
 
-    // Whether the register tells its variants. One that a fault has shut tells nothing any more.
+    // Whether the register can still list its variants. One that a fault has shut cannot.
     fn tells(&mut self, alloc: Global) -> bool
         ensures falls { ⟦<Guarded<'a, R> as Desk>⟧.clean self.new
             → ⟦<Guarded<'a, R> as Desk>⟧.clean self.old }
@@ -79,8 +87,8 @@ impl<R: Records> Desk for Guarded<'_, R> {
     }
 }
 
-// It comes to an end where other files stand in the place of its own; or where it was `Unavailable` and does not even
-// tell its variants, since a fault has shut it.
+// The register comes to an end where other files stand in the place of its own; or where its last answer was `Unavailable`
+// and it cannot list its variants, since a fault has shut it.
 impl<R: Records> Lasting for Guarded<'_, R> {
     fn lasts(&mut self, alloc: Global) -> bool {
         if !self.watch.holds() {

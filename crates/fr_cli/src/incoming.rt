@@ -2,7 +2,7 @@
 ghost use Rattle.std.specs.Prelude.{◌≡◌, ◌⊎◌, ◌≤◌, ◌++◌, vec_len, IfErr, OnOk};
 ghost use Rattle.std.specs.Io.KnownBytes.{IsAtEnd};
 ghost use Rattle.fr_cli.specs.Incoming.{EndsAsking, HasAnswered, HasAsked, HasHeard};
-ghost use Rattle.fr_cli.specs.Script.{HasNo, request_lines};
+ghost use Rattle.fr_cli.specs.Script.{HasNo};
 ghost use Rattle.fr_cli.specs.ScriptFault.{script_fault_of};
 ghost use Rattle.fr_cli.specs.declared.input.InputFault.{InputFault};
 
@@ -18,8 +18,8 @@ use std::io::{Read, Write};
 /// How many bytes a line has at most, without its line feed.
 pub const LINE_BYTES: usize = 1_048_576;
 
-/// Answers requests that come in, a line each, in order. All lines are answered; or a fault ends it, and what was answered
-/// stays. It ends with `Unavailable` behind the answer after which the register has come to an end. The bounds are those of a
+/// Answers requests that come in, a line each, in order. All lines are answered; or a fault ends the run, and what was answered
+/// stays. The fault is `Unavailable` behind the answer after which the register came to an end. The bounds are those of a
 /// script, [`SCRIPT_BYTES`] bytes and [`SCRIPT_READS`] reads, and [`LINE_BYTES`] for each line. A line that has no end
 /// when the bounds are met or a read fails is not answered.
 ///
@@ -71,8 +71,8 @@ fn answer_pieces<D: Lasting, R: Read, W: Write>(
     Err(ScriptFault::TooManyReads)
 }
 
-// Answers each line that the piece ends, the first of which was begun before. What follows the last of them
-// begins the next line. What is begun has no line's end in it, before and after.
+// Answers each line that ends in the piece; the first of them begins with `begun`. What follows the last of them is begun
+// then. No line ends in `begun`, before and after.
 fn answer_piece<D: Lasting, W: Write>(
     alloc: Global,
     desk: &mut D,
@@ -101,18 +101,14 @@ fn answer_piece<D: Lasting, W: Write>(
     Ok(append(begun, rest, LINE_BYTES)?)
 }
 
-// Answers the requests. If there were any, it then makes sure that more may be asked.
+// Answers the requests. If there were any, and the register cannot be asked any more, the fault is `Unavailable`.
 fn answer_requests<D: Lasting, W: Write>(
     alloc: Global,
     desk: &mut D,
     requests: &[u8],
     output: &mut Output<'_, W>,
 ) -> Result<(), ScriptFault>
-    ensures falls { D.clean desk.new → D.clean desk.old }
-    ensures asked { HasAsked (D.clean desk.new) (D.stands desk.old) (D.stands desk.new)
-        (request_lines requests.now) (W.contents output.old.writer.now)
-        (W.contents output.new.writer.now) result }
-    ensures same { output.new.writer.ghost_name ≡ output.old.writer.ghost_name }
+    ensures { HasAsked D.Desk W.Write requests.now desk.old desk.new output.old output.new result }
 {
     write_answers(alloc, desk, requests, output)?;
     if RequestLines::new(requests).next().is_none() {

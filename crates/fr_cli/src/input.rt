@@ -1,9 +1,10 @@
 //! A whole input, read within bounds.
-ghost use Rattle.std.specs.Prelude.{◌≡◌, ◌↔◌, ◌⊎◌, ℕ, List, ◌+◌, ◌<◌, ◌≤◌, ◌++◌, length, vec_len, IfSome, IfOk, IfErr, OnOk, IsErrOf};
-ghost use Rattle.std.specs.Io.KnownBytes.{Consumes, IsAtEnd};
-ghost use Rattle.fr_cli.specs.Keys.{TakesLine};
+ghost use Rattle.std.specs.Prelude.{◌≡◌, ◌↔◌, ◌⊎◌, ◌+◌, ◌<◌, ◌≤◌, ◌++◌, length, vec_len, IfOk, IfErr, OnOk, IsErrOf};
+ghost use Rattle.std.specs.Io.KnownBytes.{IsAtEnd};
+ghost use Rattle.fr_cli.specs.Inputs.{Exceeds, IsAllOf, ReadsLine, TakesFront};
 ghost use Rattle.fr_cli.specs.ScriptFault.{script_fault_of};
 ghost use Rattle.fr_cli.specs.declared.input.InputFault.{InputFault};
+ghost use Rattle.fr_cli.specs.declared.input.InputFault.TheVariants.{NoMemory, TooLong};
 
 use crate::lines::split_once;
 use crate::script_fault::ScriptFault;
@@ -71,14 +72,11 @@ impl From<InputFault> for ScriptFault {
 /// Reads a whole script: at most [`SCRIPT_BYTES`] bytes, in at most [`SCRIPT_READS`] reads. The
 /// faults are those of [`read_within`].
 pub fn read_all<R: Read>(alloc: Global, reader: &mut R) -> Result<Vec<u8>, ScriptFault>
-    ensures whole { IfOk result (λ script.
-        IfSome (R.remaining reader.old) (λ all. script.items ≡ all)) }
+    ensures whole { IfOk result (λ script. IsAllOf R.Read reader.old script.items) }
     ensures bound { IfOk result (λ script. vec_len script ≤ SCRIPT_BYTES) }
     ensures end { OnOk result (IsAtEnd (R.remaining reader.new)) }
-    ensures too_long { IsErrOf result ScriptFault.TooLong
-        → IfSome (R.remaining reader.old) (λ all. SCRIPT_BYTES < length all) }
-    ensures taken { (front : List ℕ)
-        × Consumes (R.remaining reader.old) (R.remaining reader.new) front }
+    ensures too_long { IsErrOf result ScriptFault.TooLong → Exceeds R.Read reader.old SCRIPT_BYTES }
+    ensures taken { TakesFront R.Read reader.old reader.new }
     ensures fault { IfErr result (λ fault. (input : InputFault) × (fault ≡ script_fault_of input)) }
 {
     let bounds = ReadBounds {
@@ -96,14 +94,11 @@ pub fn read_within<R: Read>(
     reader: &mut R,
     bounds: ReadBounds,
 ) -> Result<Vec<u8>, InputFault>
-    ensures whole { IfOk result (λ input.
-        IfSome (R.remaining reader.old) (λ all. input.items ≡ all)) }
+    ensures whole { IfOk result (λ input. IsAllOf R.Read reader.old input.items) }
     ensures bound { IfOk result (λ input. vec_len input ≤ bounds.bytes) }
     ensures end { OnOk result (IsAtEnd (R.remaining reader.new)) }
-    ensures too_long { IsErrOf result InputFault.TooLong
-        → IfSome (R.remaining reader.old) (λ all. bounds.bytes < length all) }
-    ensures taken { (front : List ℕ)
-        × Consumes (R.remaining reader.old) (R.remaining reader.new) front }
+    ensures too_long { IsErrOf result TooLong → Exceeds R.Read reader.old bounds.bytes }
+    ensures taken { TakesFront R.Read reader.old reader.new }
 {
     let mut input = Vec::new(alloc);
     let mut piece = [0u8; PIECE_BYTES];
@@ -124,11 +119,9 @@ pub fn read_line<R: Read>(
     reader: &mut R,
     bounds: ReadBounds,
 ) -> Result<Vec<u8>, InputFault>
-    ensures line { IfOk result (λ front.
-        TakesLine (R.remaining reader.old) (R.remaining reader.new) front.items) }
+    ensures line { IfOk result (λ front. ReadsLine R.Read reader.old reader.new front.items) }
     ensures bound { IfOk result (λ front. vec_len front ≤ bounds.bytes) }
-    ensures taken { (front : List ℕ)
-        × Consumes (R.remaining reader.old) (R.remaining reader.new) front }
+    ensures taken { TakesFront R.Read reader.old reader.new }
 {
     let mut front = Vec::new(alloc);
     let mut piece = [0u8; PIECE_BYTES];
@@ -152,10 +145,8 @@ pub fn append(input: &mut Vec<u8>, piece: &[u8], bound: usize) -> Result<(), Inp
     requires { vec_len input.old ≤ bound }
     ensures ok { OnOk result (input.new.items ≡ input.old.items ++ piece.now) }
     ensures within { vec_len input.new ≤ bound }
-    ensures too_long { IsErrOf result InputFault.TooLong ↔
-        (bound < vec_len input.old + length piece.now) }
-    ensures fault { IfErr result
-        (λ fault. (fault ≡ InputFault.TooLong) ⊎ (fault ≡ InputFault.NoMemory)) }
+    ensures too_long { IsErrOf result TooLong ↔ (bound < vec_len input.old + length piece.now) }
+    ensures fault { IfErr result (λ fault. (fault ≡ TooLong) ⊎ (fault ≡ NoMemory)) }
 {
     if bound - input.len() < piece.len() {
         return Err(InputFault::TooLong);

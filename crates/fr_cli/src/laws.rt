@@ -1,8 +1,14 @@
-//! Laws of a script's answers, and of the words of faults: lines that are answered one after another are a run of the
-//! register, and come to one end; each fault's word is explained, and each refusal's number means its name.
+//! Laws of a script's answers, of the words of faults, and of jobs: lines that are answered one after another are a run of the
+//! register, and come to one end; each fault's word is explained, and each refusal's number means its name; what jobs ask, one
+//! after another at one register's file, is a run of the register too, whatever stops come between them.
 ghost use Rattle.fr_cli.specs.Numbers.{EachNumberIsNamed};
 ghost use Rattle.fr_cli.specs.Laws.{AnsweredLinesAreARun, AvailableAnswersAreSteps, EachFaultIsExplained};
 ghost use Rattle.fr_cli.specs.OutputLaws.{AnsweredLinesAreOne, OutputIsOne};
+ghost use Rattle.fr_cli.specs.Series.{JobLeads, JobsAreKept, MadeIsHeld};
+
+use crate::listener::Listener;
+use crate::text_files::TextFiles;
+use sqlite_disk::Disk;
 
 /// What answered lines ask, each as the book then stood, is a run of the register with their answers.
 pub fn answered_lines_are_a_run()
@@ -33,4 +39,24 @@ pub fn each_number_is_named()
 /// Each word of a fault that ends a job or a connection is explained.
 pub fn each_fault_is_explained()
     ensures { EachFaultIsExplained }
+{}
+
+/// A register's file that was made, and that is opened next as it is or as a crash left it, holds the book of a new register. That is
+/// the register of the cluster file that was read.
+pub fn made_is_held<D: Disk, F: TextFiles, L: Listener>()
+    ensures { MadeIsHeld D.Disk F.TextFiles F.Reader.Read L.Listener L.Reader.Source L.Writer.Sink }
+{}
+
+/// What a job asked the register of a file, by what the job read and printed, leads from the book that the file held to the one that
+/// it holds next: the book after what was asked, and where the file failed to close at most one request more. Or the job ended as one
+/// that did not open the file.
+pub fn job_leads<D: Disk, F: TextFiles, L: Listener>()
+    ensures { JobLeads D.Disk F.TextFiles F.Reader.Read L.Listener L.Reader.Source L.Writer.Sink }
+{}
+
+/// What jobs did, one after another at one file, with crashes in them and between them, leads from the book that the file held at
+/// first to the one after all that they asked, with one request more at most behind each whose file failed to close. To each
+/// supplier all was answered as if it were alone, and at most one frame is sent in a cell.
+pub fn jobs_are_kept()
+    ensures { JobsAreKept }
 {}

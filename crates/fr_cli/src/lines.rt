@@ -1,10 +1,9 @@
 //! The parts of a script, and the lines of its requests.
-ghost use Rattle.std.specs.Prelude.{◌≡◌, ◌↔◌, ◌==◌, ℕ, List, [], ◌∷◌, ◌++◌, IsNone, IfSome, codes, position};
+ghost use Rattle.std.specs.Prelude.{◌≡◌, ◌↔◌, ◌==◌, [], IsNone, IfSome, position};
 ghost use Rattle.std.specs.Option.{option_map};
-ghost use Rattle.std.specs.Str.{bytes_eq};
-ghost use Rattle.std.specs.Str.Lines.{lines, strip_carriage_return};
+ghost use Rattle.std.specs.Str.Lines.{strip_carriage_return};
 ghost use Rattle.std.specs.Iterator.{YieldsFirstRef, item_count};
-ghost use Rattle.fr_cli.specs.Script.{ended_lines, is_separator, key_and_text, parts_around, parts_of, request_lines};
+ghost use Rattle.fr_cli.specs.Script.{IsFirstLine, key_and_text, parts_around, parts_of, request_lines};
 
 /// The line between a script's cluster file and its requests.
 const SEPARATOR: &[u8] = b"---";
@@ -30,12 +29,7 @@ pub fn split_script(bytes: &[u8]) -> Option<(&[u8], &[u8])>
 /// there are no bytes.
 pub fn next_line(bytes: &[u8]) -> Option<(&[u8], &[u8])>
     ensures none { IsNone result ↔ (bytes.now ≡ []) }
-    ensures line { IfSome result (λ x. lines bytes.now ≡ x.0.now ∷ lines x.1.now) }
-
-    // The bytes are the line, with its end, and what follows it.
-    ensures taken { IfSome result (λ x. (ended : List ℕ) × (bytes.now ≡ ended ++ x.1.now)
-        × (ended_lines bytes.now ≡ ended ∷ ended_lines x.1.now)
-        × (is_separator ended ≡ bytes_eq x.0.now (codes "---"))) }
+    ensures first { IfSome result (λ x. IsFirstLine bytes.now x.0.now x.1.now) }
 {
     if bytes.is_empty() {
         return None;
@@ -98,7 +92,7 @@ pub fn key_and_text(line: &[u8]) -> Option<(&[u8], &[u8])>
     split_once(line, b' ')
 }
 
-/// What stands before the first such byte, and what stands after it. `None` where there is none.
+/// What stands before the first byte of this value, and what stands after it. `None` where there is none.
 pub fn split_once(bytes: &[u8], byte: u8) -> Option<(&[u8], &[u8])>
     ensures { option_map (λ x. (x.0.now, x.1.now)) result ≡ parts_around byte bytes.now }
 {
@@ -106,7 +100,7 @@ pub fn split_once(bytes: &[u8], byte: u8) -> Option<(&[u8], &[u8])>
     Some((&bytes[..at], &bytes[at + 1..]))
 }
 
-/// The index of the first such byte.
+/// The index of the first byte of this value.
 fn index_of(bytes: &[u8], byte: u8) -> Option<usize>
     ensures { result ≡ position (λ b. b == byte) bytes.now }
 {

@@ -1,33 +1,34 @@
 //! A port at which the connections of a server come in.
-use fr_http::{LinkFault, Served};
-use std::io::{self, Read, Write};
+use fr_http::{LinkFault, Served, Source};
+use fr_text::Sink;
+use std::io;
 
-/// Connections come in at it, one after another. Each has two ends: one gives what comes in, the other takes what goes out.
-/// What a server is proved to do, it is proved to do at each listener, whatever may come in at it.
+/// A port at which connections come in, one after another. Each has two ends: one gives what comes in, the other takes what
+/// goes out. What a server is proved to do, it is proved to do at each listener, whatever may come in at it.
 pub trait Listener {
     ghost use Rattle.std.specs.Prelude.{◌≡◌, ℕ, Result, IfOk, OnOk, OnErr};
     ghost use Rattle.fr_http.specs.declared.fault.LinkFault.{LinkFault as Fault};
     ghost use Rattle.fr_http.specs.declared.serve.Served.{Served as Reply};
 
     /// Gives the bytes that come in.
-    type Reader: Read + Drop;
+    type Reader: Source + Drop;
 
     /// Takes the bytes that go out.
-    type Writer: Write + Drop;
+    type Writer: Sink + Drop;
 
-    /// So it may come to listen at a port.
+    /// What listening at a port may make of it.
     ghost listens: { Self → ℕ → Self → Type 0 };
 
-    /// So it may refuse to listen at a port.
+    /// When it may refuse to listen at a port.
     ghost refuses: { Self → ℕ → Type 0 };
 
-    /// So a connection with these ends may come in, which is to last so many seconds at most.
+    /// What accepting a connection with these ends may make of it; the connection is to last so many seconds at most.
     ghost accepts: { Self → ℕ → Self.Reader → Self.Writer → Self → Type 0 };
 
-    /// So no further connection may come in.
+    /// When no further connection can come in.
     ghost ends: { Self → Type 0 };
 
-    /// So the connection may end whose ends these are now, and that was served so.
+    /// What closing a connection may make of it: by its two ends, and how it was served.
     ghost closes: { Self → Self.Reader → Self.Writer → Result Reply Fault → Self → Type 0 };
 
     /// Listens at the port.
@@ -40,7 +41,7 @@ pub trait Listener {
         ensures ok { IfOk result (λ made. accepts self.old seconds made.0 made.1 self.new) }
         ensures err { OnErr result (ends self.old × (self.new ≡ self.old)) };
 
-    /// Ends the connection that was served so. What its client sent behind its request may be read before.
+    /// Closes the connection, by how it was served. What its client sent behind its request may be read before.
     fn close(
         &mut self,
         reader: Self::Reader,

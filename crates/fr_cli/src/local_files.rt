@@ -3,7 +3,7 @@ use crate::text_files::TextFiles;
 use std::fs::{self, File};
 use std::io::{self, ErrorKind};
 
-/// The files of the file system. A folder or a pipe is none: the end of a pipe may never come.
+/// The files of the file system. A folder or a pipe is not one of them: the end of a pipe may never come.
 ///
 /// No contract of the standard library says what a file gives, or that it is the one at the path.
 /// So at this type a clause says of a text only that a file was opened. That its bytes are those of

@@ -8,15 +8,17 @@ use std::io::{self, ErrorKind, Read};
 use std::net::{Ipv4Addr, Shutdown, TcpListener, TcpStream};
 use std::time::Duration;
 
-/// How much of what a client sends behind its request is read at once, how often, and for how many
-/// seconds in all: a socket that is closed before that is read might lose the reply.
+/// How many bytes of what a client sends behind its request are read at once. A socket that is closed before they are
+/// read might lose the reply.
 const REST_BYTES: usize = 4096;
 
+/// The most reads of what a client sends behind its request.
 const REST_READS: u32 = 256;
 
+/// The most seconds for which what a client sends behind its request is read.
 const REST_SECONDS: u64 = 1;
 
-/// How many connections in a row may be gone before they are accepted.
+/// How many connections in a row may be given up by their clients before they are accepted.
 const ACCEPT_TRIES: u32 = 1_000_000;
 
 /// The number of the system's error of a connection whose protocol failed, for which there is no `ErrorKind`.
@@ -39,7 +41,7 @@ impl<'a> LocalListener<'a> {
         LocalListener { rt, listener: None }
     }
 
-    /// One at which the connections of this listener come in.
+    /// One that listens at this socket.
     pub fn of(rt: &'a HostRuntime, listener: TcpListener) -> LocalListener<'a>
         ensures { result.listener ≡ Some listener }
     {
@@ -111,13 +113,13 @@ fn next_stream(listener: &TcpListener) -> io::Result<TcpStream> {
     Err(io::Error::from(ErrorKind::ConnectionAborted))
 }
 
-// Whether it is the connection that failed and not the socket on which connections come.
+// Whether the connection failed, and not the socket at which connections come in.
 fn was_given_up(error: &io::Error) -> bool {
     error.kind() == ErrorKind::ConnectionAborted || error.raw_os_error() == Some(EPROTO)
 }
 
 // Ends the reply, and reads what the client sent behind its request. Where the request was not read to its
-// end, what is still to come is waited for.
+// end, it waits for the rest.
 fn finish(rt: &HostRuntime, stream: TcpStream, was_read: bool) -> io::Result<()> {
     stream.shutdown(Shutdown::Write)?;
     stream.set_nonblocking(was_read)?;

@@ -1,11 +1,11 @@
 //! The numbers of refusals, which are explained as their names are.
 ghost use Rattle.std.specs.Prelude.{◌≡◌, find, option_copied};
 ghost use Rattle.std.specs.Str.{bytes_eq};
-ghost use Rattle.fr_cli.specs.Numbers.{meant, numbered, pairs_of};
+ghost use Rattle.fr_cli.specs.Numbers.{meant_word, numbered, pairs_of};
 
 /// The word that is meant: for a refusal's number the refusal's name, else the word itself.
-pub fn meant(word: &str) -> &str
-    ensures { result.now ≡ meant word.now }
+pub fn meant_word(word: &str) -> &str
+    ensures { result.now ≡ meant_word word.now }
 {
     match find(&rows(), word) {
         Some(row) => row.1,

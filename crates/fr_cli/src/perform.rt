@@ -5,18 +5,19 @@ ghost use Rattle.std.specs.Global.{Vec};
 ghost use Rattle.std.specs.Io.KnownBytes.{Appends, Keeps};
 ghost use Rattle.sqlite_wal.specs.Files.{image_at};
 ghost use Rattle.fr_cli.specs.Asking.{IsForReader, query_of};
-ghost use Rattle.fr_cli.specs.Endings.{AppendsFront, IsPrinted, Tells, status_of};
+ghost use Rattle.fr_cli.specs.Endings.{IsPrinted, Tells, status_of};
 ghost use Rattle.fr_cli.specs.Faults.{IsNotMigrated, IsNotReported};
 ghost use Rattle.fr_cli.specs.Jobs.{IsPerformed};
 ghost use Rattle.fr_cli.specs.Performing.{Says, of_script};
 ghost use Rattle.fr_cli.specs.Picturing.{plans_for};
 ghost use Rattle.fr_picture.specs.Pages.{IsPage};
-ghost use Rattle.fr_cli.specs.Queries.{named};
+ghost use Rattle.fr_cli.specs.Queries.{reader_named};
 ghost use Rattle.fr_cli.specs.Reading.{PrintsRead};
 ghost use Rattle.fr_cli.specs.RegisterFiles.{IsAnswerOfFile, IsMoved, IsReadOfFile};
 ghost use Rattle.fr_cli.specs.Runs.{IsRunOf};
 ghost use Rattle.fr_cli.specs.Texts.{readings};
 ghost use Rattle.fr_cli.specs.Visits.{comings};
+ghost use Rattle.fr_http.specs.Connection.{AppendsFront};
 ghost use Rattle.fr_cli.specs.declared.failure.Failure.{Failure as Ended};
 ghost use Rattle.fr_cli.specs.declared.fault.Fault.{Fault as Word};
 ghost use Rattle.fr_cli.specs.declared.query.Inquiry.{Inquiry};
@@ -61,7 +62,7 @@ pub fn perform<S: Start, F: TextFiles, R: Read, O: Write, E: Write, L: Listener>
 ) -> (u8, Left<S>)
     ensures { IsPerformed (image_at S.Start) result.1
         (readings F.TextFiles F.Reader.Read files.old files.new)
-        (comings L.Listener L.Reader.Read L.Writer.Write listener.old listener.new) job.now record {
+        (comings L.Listener L.Reader.Source L.Writer.Sink listener.old listener.new) job.now record {
           input = record { old = R.remaining input.old; new = R.remaining input.new };
           out = record { old = O.contents out.old; new = O.contents out.new };
           err = record { old = E.contents err.old; new = E.contents err.new };
@@ -199,8 +200,8 @@ fn picture_file<S: Start>(
     supplier: Option<&str>,
 ) -> (Result<Vec<u8>, Failure>, Left<S>)
     ensures { PrintsRead (IsNotReported (image_at S.Start) result.1)
-        (IsReadOfFile (image_at S.Start) result.1 (plans_for (named supplier.entry) variant.now))
-        IsPage result.0 }
+        (IsReadOfFile (image_at S.Start) result.1
+        (plans_for (reader_named supplier.entry) variant.now)) IsPage result.0 }
 {
     match file_desk::open(rt, db, start) {
         Ok(mut desk) => {

@@ -2,13 +2,13 @@
 ghost use Rattle.std.specs.Prelude.{◌≡◌};
 ghost use Rattle.fr_picture.specs.Pages.{IsPage};
 ghost use Rattle.fr_cli.specs.Picturing.{plans_for};
-ghost use Rattle.fr_cli.specs.Queries.{named};
+ghost use Rattle.fr_cli.specs.Queries.{reader_named};
 ghost use Rattle.fr_cli.specs.Reading.{IsRead, PrintsRead, Stays};
 ghost use Rattle.fr_cli.specs.declared.fault.Fault.TheVariants.{NoMemory as Lacking};
 
 use crate::asking::refused_reader;
 use crate::failure::Failure;
-use crate::query::named;
+use crate::query::reader_named;
 use fr_base::{Actor, Desk, Refusal};
 use fr_picture::{Plan, View, read_plan, write_page};
 use std::alloc::Global;
@@ -23,16 +23,16 @@ pub fn picture<D: Desk>(
     ensures falls { D.clean desk.new → D.clean desk.old }
     ensures prints { PrintsRead (λ fault. fault ≡ Lacking)
         (IsRead (D.clean desk.new) (D.stands desk.old) (D.stands desk.new)
-        (plans_for (named supplier.entry) variant.now)) IsPage result }
+        (plans_for (reader_named supplier.entry) variant.now)) IsPage result }
     ensures stays { Stays (D.clean desk.new) (D.stands desk.old) (D.stands desk.new) }
 {
-    match plan_for(alloc, desk, variant, named(supplier)) {
+    match plan_for(alloc, desk, variant, reader_named(supplier)) {
         Ok(plan) => Ok(write_page(alloc, &plan)?.into_bytes()),
         Err(refusal) => Err(refused_reader(alloc, refusal)),
     }
 }
 
-// The variant's plan, as the reader sees it. Nobody is `UnknownKey`.
+// The variant's plan, as the reader sees it; `UnknownKey` where there is no reader.
 fn plan_for<D: Desk>(
     alloc: Global,
     desk: &mut D,

@@ -1,7 +1,7 @@
 //! What is printed of a job on standard output and standard error, and its status.
-ghost use Rattle.std.specs.Prelude.{◌≡◌, ◌≤◌, OnErr, OnOk};
-ghost use Rattle.std.specs.Io.KnownBytes.{Appends};
-ghost use Rattle.fr_cli.specs.Endings.{AppendsFront, AppendsLess, IsPrinted, IsTold, Tells, status_of, word_line};
+ghost use Rattle.std.specs.Prelude.{◌≡◌, ◌≤◌};
+ghost use Rattle.fr_http.specs.Calls.{WritesTo};
+ghost use Rattle.fr_cli.specs.Endings.{IsPrinted, IsTold, NamesFault, Prints, Tells, TellsOn, status_of};
 
 use crate::failure::Failure;
 use crate::fault::Fault;
@@ -14,9 +14,7 @@ pub fn tell<O: Write, E: Write>(
     out: &mut O,
     err: &mut Output<'_, E>,
 ) -> u8
-    ensures told { IsTold done (O.contents out.old) (O.contents out.new)
-        (E.contents err.old.writer.now) (E.contents err.new.writer.now) result }
-    ensures same { err.new.writer.ghost_name ≡ err.old.writer.ghost_name }
+    ensures { TellsOn O.Write E.Write (IsTold done) out.old out.new err.old err.new result }
 {
     match done {
         Ok(text) => print_all(&text, out, err),
@@ -34,12 +32,12 @@ pub fn tell<O: Write, E: Write>(
 
 /// Prints a whole text, and gives the status.
 pub fn print_all<O: Write, E: Write>(text: &[u8], out: &mut O, err: &mut Output<'_, E>) -> u8
-    ensures printed { IsPrinted text.now (O.contents out.old) (O.contents out.new)
-        (E.contents err.old.writer.now) (E.contents err.new.writer.now) result }
-    ensures same { err.new.writer.ghost_name ≡ err.old.writer.ghost_name }
+    ensures { TellsOn O.Write E.Write (IsPrinted text.now) out.old out.new err.old err.new result }
 {
-    let done = print(text, &mut Output::new(out));
-    end(done.map_err(Fault::from), err)
+    match print(text, &mut Output::new(out)) {
+        Ok(()) => 0,
+        Err(WriteFailed) => end(Err(Fault::WriteFailed), err),
+    }
 }
 
 /// The status of a job that ended so. The fault's word is printed.
@@ -59,23 +57,15 @@ pub fn end<E: Write>(done: Result<(), Fault>, err: &mut Output<'_, E>) -> u8
 
 /// Writes the text.
 pub fn print<W: Write>(text: &[u8], output: &mut Output<'_, W>) -> Result<(), WriteFailed>
-    ensures ok { OnOk result (Appends (W.contents output.old.writer.now)
-        (W.contents output.new.writer.now) text.now) }
-    ensures err { OnErr result (AppendsLess (W.contents output.old.writer.now)
-        (W.contents output.new.writer.now) text.now) }
-    ensures front { AppendsFront (W.contents output.old.writer.now)
-        (W.contents output.new.writer.now) text.now }
-    ensures same { output.new.writer.ghost_name ≡ output.old.writer.ghost_name }
+    ensures { WritesTo W.Write (Prints text.now) output.old output.new result }
 {
     output.write_all(text)
 }
 
 /// Writes the line that names a fault. The line has retries of its own.
 pub fn print_word<W: Write>(word: &str, output: &mut Output<'_, W>) -> Result<(), WriteFailed>
-    ensures front { AppendsFront (W.contents output.old.writer.now)
-        (W.contents output.new.writer.now) (word_line word.now) }
+    ensures front { WritesTo W.Write (NamesFault word.now) output.old output.new result }
     ensures retries { output.new.retries ≤ WRITE_RETRIES }
-    ensures same { output.new.writer.ghost_name ≡ output.old.writer.ghost_name }
 {
     output.restore_retries();
     output.write_all(b"slotplan: ")?;

@@ -1,6 +1,6 @@
 //! A query of a register, and who asks it.
 ghost use Rattle.std.specs.Prelude.{◌≡◌, IfOk};
-ghost use Rattle.fr_cli.specs.Queries.{named, reader_of, request_for};
+ghost use Rattle.fr_cli.specs.Queries.{reader_named, reader_of, request_for};
 
 use fr_base::{Actor, Name, NoMemory, Query, QueryReader, Request, Text};
 use std::alloc::Global;
@@ -19,7 +19,7 @@ impl Inquiry<'_> {
     pub fn reader(self) -> Option<Actor>
         ensures { result ≡ reader_of self.entry }
     {
-        named(self.supplier)
+        reader_named(self.supplier)
     }
 
     /// What is asked.
@@ -31,7 +31,7 @@ impl Inquiry<'_> {
     }
 }
 
-// Copies of the names in a query, and its numbers as they are.
+// Reads a query: its names are copied, its numbers stay as they are.
 #[derive(Drop)]
 struct Copies {
     alloc: Global,
@@ -56,8 +56,8 @@ impl<'a> QueryReader<&'a str, u32, Text, NoMemory> for Copies {
 }
 
 /// Who reads a report: the supplier of this name, or the integrator where none is named. A text that is no name is nobody's.
-pub fn named(supplier: Option<&str>) -> Option<Actor>
-    ensures { result ≡ named supplier.entry }
+pub fn reader_named(supplier: Option<&str>) -> Option<Actor>
+    ensures { result ≡ reader_named supplier.entry }
 {
     match supplier {
         Some(name) => Name::read(name).map(Actor::Supplier),

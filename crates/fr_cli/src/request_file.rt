@@ -1,9 +1,8 @@
 //! What is wrong with the lines of a file of requests.
-ghost use Rattle.std.specs.Prelude.{◌≡◌, ◌&&◌, IfOk, false};
+ghost use Rattle.std.specs.Prelude.{◌≡◌, IfOk, false};
 ghost use Rattle.fr_base.specs.Names.{is_key};
 ghost use Rattle.fr_guide.specs.Faults.{are_none};
-ghost use Rattle.fr_guide.specs.Requests.{is_fine_request};
-ghost use Rattle.fr_cli.specs.Checking.{AreToldOfRequests, is_fine_line};
+ghost use Rattle.fr_cli.specs.Checking.{AreToldOfRequests, is_fine_ask, is_fine_line};
 
 use crate::incoming::LINE_BYTES;
 use crate::lines::{key_and_text, next_line};
@@ -14,7 +13,7 @@ use std::alloc::Global;
 /// What some editors write at the beginning of a file.
 const BYTE_ORDER_MARK: &[u8] = b"\xef\xbb\xbf";
 
-/// What is wrong with the lines of requests, for each line that is none: why it is, whoever asks. An empty line is passed over.
+/// What is wrong with each line that is no request, whoever asks. An empty line is passed over.
 pub fn request_faults(alloc: Global, bytes: &[u8]) -> Result<Vec<LineFaults>, NoMemory>
     ensures { IfOk result (λ told. AreToldOfRequests bytes.now told.items) }
 {
@@ -51,8 +50,7 @@ fn line_faults(alloc: Global, line: &[u8]) -> Result<Vec<String>, NoMemory>
 
 // What is wrong with a key and the text behind it.
 fn part_faults(alloc: Global, key: &[u8], text: &[u8]) -> Result<Vec<String>, NoMemory>
-    ensures { IfOk result (λ faults.
-        are_none faults.items ≡ (is_key key.now && is_fine_request text.now)) }
+    ensures { IfOk result (λ faults. are_none faults.items ≡ is_fine_ask key.now text.now) }
 {
     let mut faults = text_faults(alloc, text, key.len() + 1)?;
     if !is_key(key) {
@@ -71,7 +69,7 @@ fn is_key(bytes: &[u8]) -> bool
     }
 }
 
-// What is said of a key that is none. It is not shown.
+// What is said of a text in a key's place that is no key. The text is not shown.
 fn no_key(alloc: Global, key: &[u8]) -> Result<String, NoMemory> {
     let hint = if key.starts_with(BYTE_ORDER_MARK) {
         ": a byte order mark stands before it"

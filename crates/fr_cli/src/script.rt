@@ -1,13 +1,10 @@
 //! Runs a script: reads it whole, splits it, and writes the answer to each of its requests.
-ghost use Rattle.fr_cli.specs.Answering.{HasWritten};
 ghost use Rattle.fr_cli.specs.Runs.{IsRunOf};
-ghost use Rattle.fr_cli.specs.Script.{request_lines};
 
 use crate::answering::write_answers;
 use crate::input::read_all;
 use crate::lines::split_script;
 use crate::script_fault::ScriptFault;
-use fr_base::Desk;
 use fr_desks::MemoryDesk;
 use fr_text::{Output, read_config};
 use std::alloc::Global;
@@ -19,11 +16,11 @@ use std::io::{Read, Write};
 /// memory for a request comes after whole answers to all before it, and a failed write may cut an
 /// answer short.
 ///
-/// Each supplier is answered as if it were alone. A register that the cluster file makes with this
-/// supplier alone, given the supplier's lines, those without a key or with nobody's, as its own is before it
-/// joins, and those of the integrator's that were done and are common or name the supplier, answers
-/// them alike, line by line; a line that was answered `Unavailable` is left out. And after each line
-/// at most one frame is sent in a cycle, slot and channel of a variant, by the node that holds the
+/// Each supplier is answered as if it were alone. Take a register that the cluster file makes with this
+/// supplier alone. Give it the supplier's lines; those without a key or with nobody's, as the supplier's own
+/// is before it joins; and those of the integrator's that were done and are common or name the supplier.
+/// It answers them alike, line by line; a line that was answered `Unavailable` is left out. And after each
+/// line at most one frame is sent in a cycle, slot and channel of a variant, by the node that holds the
 /// grant.
 pub fn run_script<R: Read, W: Write>(
     alloc: Global,
@@ -39,20 +36,7 @@ pub fn run_script<R: Read, W: Write>(
     let Ok(mut desk) = MemoryDesk::new(alloc, &config) else {
         return Err(ScriptFault::Unavailable);
     };
-    answer_requests(alloc, &mut desk, requests, writer)
-}
-
-// Answers the requests. All that is written shares the retries of one output.
-fn answer_requests<D: Desk, W: Write>(
-    alloc: Global,
-    desk: &mut D,
-    requests: &[u8],
-    writer: &mut W,
-) -> Result<(), ScriptFault>
-    ensures falls { D.clean desk.new → D.clean desk.old }
-    ensures written { HasWritten (D.clean desk.new) (D.stands desk.old) (D.stands desk.new)
-        (request_lines requests.now) (W.contents writer.old) (W.contents writer.new) result }
-{
+    // All that is written shares the retries of one output.
     let mut output = Output::new(writer);
-    write_answers(alloc, desk, requests, &mut output)
+    write_answers(alloc, &mut desk, requests, &mut output)
 }

@@ -6,7 +6,7 @@ use fr_base::NoMemory;
 use fr_text::{ConfigFault, WriteFailed};
 use std::fmt;
 
-/// Why the run of a script ended before all its lines were answered. When a read or a write fails, or the reads are too
+/// Why the run of a script, or of requests that come in, ended before all lines were answered. When a read or a write fails, or the reads are too
 /// many, no clause says.
 #[derive(Clone, Copy, Debug, PartialEq, Eq)]
 pub enum ScriptFault {
@@ -18,7 +18,7 @@ pub enum ScriptFault {
     ReadFailed,
     /// No line is `---`.
     NoSeparator,
-    /// The cluster file is none.
+    /// The text of the cluster file has a fault.
     Config(ConfigFault),
     /// The register in memory could not be made; or one in a file has come to an end: others stand in its files' place, or a
     /// fault has shut it.

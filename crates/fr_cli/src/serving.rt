@@ -3,16 +3,17 @@ ghost use Rattle.std.specs.Prelude.{◌≡◌, ◌⊎◌, ◌∷◌, [], false, 
 ghost use Rattle.std.specs.Io.KnownBytes.{Appends};
 ghost use Rattle.sqlite_wal.specs.Files.{image_at};
 ghost use Rattle.fr_cli.specs.Performing.{listening};
-ghost use Rattle.fr_cli.specs.Serving.{HasServed, IsAnnounced, IsServed, ServesOne, TellsEach, TellsEnd};
-ghost use Rattle.fr_cli.specs.Visits.{AreVisited, AreVisitedAt, IsDeaf, IsVisited, MayListen, Visit};
+ghost use Rattle.fr_cli.specs.Serving.{Announces, HasServed, IsAnnounced, IsServed, ServesOne, TellsEach, TellsEnd};
+ghost use Rattle.fr_cli.specs.Visits.{AreVisited, IsVisited, Visit, comings};
+ghost use Rattle.fr_cli.specs.declared.fault.Fault.TheVariants.{CannotListen, Register};
 ghost use Rattle.fr_http.specs.Exchanges.{was_asked};
+ghost use Rattle.fr_store.specs.declared.fault.StoreFault.TheVariants.{Unavailable};
 
 use crate::fault::{Fault, link_word};
 use crate::guarded::Guarded;
 use crate::lasting::Lasting;
 use crate::listener::Listener;
 use crate::printing::{print, print_word};
-use crate::watch::Watch;
 use fr_base::Desk;
 use fr_desks::{Left, file_desk};
 use fr_http::{LinkFault, Served, serve_one};
@@ -22,7 +23,7 @@ use fr_text::Output;
 use fr_world::Records;
 use sqlite::Start;
 use std::alloc::Global;
-use std::io::{self, ErrorKind, Write};
+use std::io::{self, Write};
 
 /// How a register is served.
 #[derive(Clone, Copy)]
@@ -35,11 +36,10 @@ pub struct Service {
     pub seconds: u32,
 }
 
-/// Serves the register in the file at `db`, one connection after another, and ends after so many
-/// connections as the service has. A connection's fault is printed, and the next one is served. Where another file stands in the
-/// place of the register's, a request is answered `Unavailable`, and the server ends so; also where a fault has shut the register.
-/// What is answered is what came in at the listener, and nothing else.
-/// It gives what is left of the file, closed. `start` says what is supposed of it.
+/// Serves the register in the file at `db`: as many connections as the service has, one after another. A connection's fault is
+/// printed, and the next connection is served. Where another file stands in the place of the register's, or a fault has shut the
+/// register, a request is answered `Unavailable`, and the server ends with that fault. What came in at the listener is answered,
+/// and nothing else. Closes the file, and gives what is left of it. `start` says what the file held as it was opened.
 pub fn serve<S: Start, L: Listener, O: Write, E: Write>(
     rt: &HostRuntime,
     db: &str,
@@ -49,12 +49,12 @@ pub fn serve<S: Start, L: Listener, O: Write, E: Write>(
     out: &mut O,
     err: &mut Output<'_, E>,
 ) -> (Result<(), Fault>, Left<S>)
-    ensures announced { IsAnnounced (MayListen L.Listener service.port listener.old) service.port
-        (O.contents out.old) (O.contents out.new) result.0 }
-    ensures served { IsServed (image_at S.Start) result.1 service.port service.count
-        (listener.new ≡ listener.old) (IsDeaf L.Listener service.port listener.old listener.new)
-        (λ visits. AreVisitedAt L.Listener L.Reader.Read L.Writer.Write service.port service.seconds
-        listener.old visits listener.new) (O.contents out.old) (O.contents out.new)
+    ensures announced { Announces L.Listener O.Write service listener.old out.old out.new result.0 }
+    ensures served { let came = comings L.Listener L.Reader.Source L.Writer.Sink listener.old
+        listener.new in
+        IsServed (image_at S.Start) result.1 service.port service.count came.none
+        (came.deaf service.port) (came.at service.port service.seconds)
+        (O.contents out.old) (O.contents out.new)
         (E.contents err.old.writer.now) (E.contents err.new.writer.now) result.0 }
     ensures same { err.new.writer.ghost_name ≡ err.old.writer.ghost_name }
 {
@@ -67,7 +67,7 @@ pub fn serve<S: Start, L: Listener, O: Write, E: Write>(
     }
 }
 
-// Serves the register, whose file is at `db`, and gives it back.
+// Serves the register, whose file is at `db`, and gives the register back.
 fn serve_office<R: Records, L: Listener, O: Write, E: Write>(
     rt: &HostRuntime,
     db: &str,
@@ -78,33 +78,21 @@ fn serve_office<R: Records, L: Listener, O: Write, E: Write>(
     err: &mut Output<'_, E>,
 ) -> (Result<(), Fault>, Office<R>)
     ensures falls { ⟦<Office<R> as Desk>⟧.clean result.1 → ⟦<Office<R> as Desk>⟧.clean office }
-    ensures announced { IsAnnounced (MayListen L.Listener service.port listener.old) service.port
-        (O.contents out.old) (O.contents out.new) result.0 }
+    ensures announced { Announces L.Listener O.Write service listener.old out.old out.new result.0 }
     ensures served { let it = ⟦<Office<R> as Desk>⟧ in
+        let came = comings L.Listener L.Reader.Source L.Writer.Sink listener.old listener.new in
         HasServed (it.clean result.1) (it.stands office) (it.stands result.1) service.count
         (Appends (O.contents out.old) (O.contents out.new) (listening service.port))
-        (IsDeaf L.Listener service.port listener.old listener.new)
-        (λ visits. AreVisitedAt L.Listener L.Reader.Read L.Writer.Write
-        service.port service.seconds listener.old visits listener.new)
+        (came.deaf service.port) (came.at service.port service.seconds)
         (E.contents err.old.writer.now) (E.contents err.new.writer.now) result.0 }
     ensures same { err.new.writer.ghost_name ≡ err.old.writer.ghost_name }
 {
-    let watch = match Watch::new(rt, db) {
-        Ok(watch) => watch,
-        Err(error) => return (Err(watch_fault(&error)), office),
-    };
-    let mut guarded = Guarded::new(office, watch);
-    let done = listen(rt.alloc(), &mut guarded, service, listener, out, err);
-    (done, guarded.into_office())
-}
-
-// Why files are not watched: memory is short, or they are not where they were opened.
-fn watch_fault(error: &io::Error) -> Fault
-    ensures { (result ≡ Fault.NoMemory) ⊎ (result ≡ Fault.Register StoreFault.Unavailable) }
-{
-    match error.kind() {
-        ErrorKind::OutOfMemory => Fault::NoMemory,
-        _ => Fault::Register(StoreFault::Unavailable),
+    match Guarded::new(rt, db, office) {
+        Ok(mut guarded) => {
+            let done = listen(rt.alloc(), &mut guarded, service, listener, out, err);
+            (done, guarded.into_office())
+        }
+        Err((fault, office)) => (Err(Fault::from(fault)), office),
     }
 }
 
@@ -118,13 +106,12 @@ fn listen<D: Lasting, L: Listener, O: Write, E: Write>(
     err: &mut Output<'_, E>,
 ) -> Result<(), Fault>
     ensures falls { D.clean desk.new → D.clean desk.old }
-    ensures announced { IsAnnounced (MayListen L.Listener service.port listener.old) service.port
-        (O.contents out.old) (O.contents out.new) result }
-    ensures served { HasServed (D.clean desk.new) (D.stands desk.old) (D.stands desk.new)
-        service.count (Appends (O.contents out.old) (O.contents out.new) (listening service.port))
-        (IsDeaf L.Listener service.port listener.old listener.new)
-        (λ visits. AreVisitedAt L.Listener L.Reader.Read L.Writer.Write
-        service.port service.seconds listener.old visits listener.new)
+    ensures announced { Announces L.Listener O.Write service listener.old out.old out.new result }
+    ensures served { let came = comings L.Listener L.Reader.Source L.Writer.Sink listener.old
+        listener.new in
+        HasServed (D.clean desk.new) (D.stands desk.old) (D.stands desk.new) service.count
+        (Appends (O.contents out.old) (O.contents out.new) (listening service.port))
+        (came.deaf service.port) (came.at service.port service.seconds)
         (E.contents err.old.writer.now) (E.contents err.new.writer.now) result }
     ensures same { err.new.writer.ghost_name ≡ err.old.writer.ghost_name }
 {
@@ -136,8 +123,8 @@ fn listen<D: Lasting, L: Listener, O: Write, E: Write>(
 // Begins to listen at the port.
 fn begin<L: Listener>(listener: &mut L, port: u16) -> Result<(), Fault>
     ensures ok { OnOk result (L.listens listener.old port listener.new) }
-    ensures err { IfErr result (λ fault. (fault ≡ Fault.CannotListen)
-        × L.refuses listener.old port × (listener.new ≡ listener.old)) }
+    ensures fault { IfErr result (λ fault. fault ≡ CannotListen) }
+    ensures refused { OnErr result (L.refuses listener.old port × (listener.new ≡ listener.old)) }
 {
     listener.listen(port).map_err(|_| Fault::CannotListen)
 }
@@ -151,7 +138,7 @@ fn announce<O: Write>(alloc: Global, port: u16, out: &mut O) -> Result<(), Fault
     Ok(print(line.as_bytes(), &mut Output::new(out))?)
 }
 
-// Serves so many connections, or fewer, where the register comes to an end.
+// Serves as many connections as the service has; or fewer, where the register comes to an end.
 fn answer_all<D: Lasting, L: Listener, E: Write>(
     alloc: Global,
     listener: &mut L,
@@ -162,10 +149,9 @@ fn answer_all<D: Lasting, L: Listener, E: Write>(
     ensures falls { D.clean desk.new → D.clean desk.old }
     ensures served { HasServed (D.clean desk.new) (D.stands desk.old) (D.stands desk.new)
         service.now.count ⊤ (L.ends listener.new) (λ visits.
-        AreVisited L.Listener L.Reader.Read L.Writer.Write service.now.seconds listener.old visits
+        AreVisited L.Listener L.Reader.Source L.Writer.Sink service.now.seconds listener.old visits
         listener.new) (E.contents err.old.writer.now) (E.contents err.new.writer.now) result }
-    ensures fault { IfErr result
-        (λ fault. (fault ≡ Fault.CannotListen) ⊎ (fault ≡ Fault.Register StoreFault.Unavailable)) }
+    ensures fault { IfErr result (λ fault. (fault ≡ CannotListen) ⊎ (fault ≡ Register Unavailable)) }
     ensures same { err.new.writer.ghost_name ≡ err.old.writer.ghost_name }
 {
     for _ in 0..service.count {
@@ -177,7 +163,7 @@ fn answer_all<D: Lasting, L: Listener, E: Write>(
     Ok(())
 }
 
-// Serves the next connection, and tells of its fault. The answer is whether another can be served.
+// Serves the next connection, and prints the word of its fault, if it has one. Gives whether another can be served.
 fn answer_next<D: Lasting, L: Listener, E: Write>(
     alloc: Global,
     listener: &mut L,
@@ -187,12 +173,13 @@ fn answer_next<D: Lasting, L: Listener, E: Write>(
 ) -> Result<bool, Fault>
     ensures falls { D.clean desk.new → D.clean desk.old }
     ensures served { OnOk result ((visit : Visit)
-        × IsVisited L.Listener L.Reader.Read L.Writer.Write seconds listener.old visit listener.new
+        × IsVisited L.Listener L.Reader.Source L.Writer.Sink seconds listener.old visit listener.new
         × ServesOne (D.clean desk.new) (D.stands desk.old) (D.stands desk.new) visit
         × TellsEach (E.contents err.old.writer.now) (E.contents err.new.writer.now) (visit ∷ [])) }
-    ensures fault { IfErr result
-        (λ fault. (fault ≡ Fault.CannotListen) × L.ends listener.old × (listener.new ≡ listener.old)
-        × (desk.new ≡ desk.old) × (E.contents err.new.writer.now ≡ E.contents err.old.writer.now)) }
+    ensures fault { IfErr result (λ fault. fault ≡ CannotListen) }
+    ensures ended { OnErr result (L.ends listener.old × (listener.new ≡ listener.old)) }
+    ensures stays { OnErr result (desk.new ≡ desk.old) }
+    ensures quiet { OnErr result (E.contents err.new.writer.now ≡ E.contents err.old.writer.now) }
     ensures same { err.new.writer.ghost_name ≡ err.old.writer.ghost_name }
 {
     match serve_next(alloc, listener, seconds, desk) {
@@ -204,7 +191,7 @@ fn answer_next<D: Lasting, L: Listener, E: Write>(
     }
 }
 
-// Tells the fault of a connection, if one ended it.
+// Prints the word of the fault that ended a connection, if one did.
 fn tell_end<E: Write>(done: Result<Served, LinkFault>, err: &mut Output<'_, E>)
     ensures told { TellsEnd (E.contents err.old.writer.now) (E.contents err.new.writer.now) done }
     ensures same { err.new.writer.ghost_name ≡ err.old.writer.ghost_name }
@@ -215,7 +202,8 @@ fn tell_end<E: Write>(done: Result<Served, LinkFault>, err: &mut Output<'_, E>)
 }
 
 /// Serves the next connection: one exchange with the register, which then stands for the book after it. The exchange has
-/// exactly the bytes that were read of the connection and those that were written to it. It is an error where no connection
+/// exactly the bytes that were read of the connection and those that were written to it. How often it is read, why it ended by
+/// a fault and that its reply is flushed is promised as of [`serve_one`]. It is an error where no connection
 /// could be accepted; then all is as it was. The connection is to last so many seconds at most: no clause speaks of time.
 pub fn serve_next<D: Desk, L: Listener>(
     alloc: Global,
@@ -225,13 +213,13 @@ pub fn serve_next<D: Desk, L: Listener>(
 ) -> io::Result<Result<Served, LinkFault>>
     ensures falls { D.clean desk.new → D.clean desk.old }
     ensures served { IfOk result (λ done. (visit : Visit) × (visit.done ≡ done)
-        × IsVisited L.Listener L.Reader.Read L.Writer.Write seconds listener.old visit listener.new
+        × IsVisited L.Listener L.Reader.Source L.Writer.Sink seconds listener.old visit listener.new
         × ServesOne (D.clean desk.new) (D.stands desk.old) (D.stands desk.new) visit) }
 
     // Where the register was not asked it is as it was.
     ensures stays { IfOk result (λ done. was_asked done ≡ false → desk.new ≡ desk.old) }
-    ensures none { OnErr result (L.ends listener.old × (listener.new ≡ listener.old)
-        × (desk.new ≡ desk.old)) }
+    ensures ended { OnErr result (L.ends listener.old × (listener.new ≡ listener.old)) }
+    ensures kept { OnErr result (desk.new ≡ desk.old) }
 {
     let (mut reader, mut writer) = listener.accept(seconds)?;
     let done = serve_one(alloc, &mut reader, &mut writer, desk);

@@ -1,6 +1,6 @@
 //! A file whose text is checked.
 
-/// What a file is to be, and its path.
+/// A file by its path, and what its text is to be.
 #[derive(Clone, Copy, PartialEq, Eq)]
 pub enum TextFile<'a> {
     /// A cluster file.

@@ -9,7 +9,7 @@ pub trait TextFiles {
     /// Gives the bytes of a file.
     type Reader: Read + Drop;
 
-    /// So a reader of the file at this path may be opened.
+    /// What opening the file at a path may come to: its reader, and the files after it.
     ghost opens: { Self → List ℕ → Self.Reader → Self → Type 0 };
 
     /// Opens the file at the path.

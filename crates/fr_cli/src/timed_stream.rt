@@ -34,7 +34,7 @@ impl<'a> TimedStream<'a> {
     }
 
     // How long the next call may wait.
-    fn left(&self) -> io::Result<Duration> {
+    fn time_left(&self) -> io::Result<Duration> {
         let end = self.end.ok_or(io::Error::from(ErrorKind::TimedOut))?;
         let left = end.saturating_duration_since(Instant::now(self.rt)?);
         if left.is_zero() {
@@ -54,14 +54,14 @@ fn end_of(rt: &HostRuntime, time: Duration) -> Option<Instant> {
 
 impl Read for TimedStream<'_> {
     fn read(&mut self, buf: &mut [u8]) -> io::Result<usize> {
-        self.stream.set_read_timeout(Some(self.left()?))?;
+        self.stream.set_read_timeout(Some(self.time_left()?))?;
         self.stream.read(buf)
     }
 }
 
 impl Write for TimedStream<'_> {
     fn write(&mut self, buf: &[u8]) -> io::Result<usize> {
-        self.stream.set_write_timeout(Some(self.left()?))?;
+        self.stream.set_write_timeout(Some(self.time_left()?))?;
         self.stream.write(buf)
     }
 

@@ -1,6 +1,9 @@
 //! The files at an open register's path: whether they are still those that were there.
-ghost use Rattle.std.specs.Prelude.{◌≡◌};
+ghost use Rattle.std.specs.Prelude.{◌≡◌, ◌⊎◌};
 
+use crate::fault::Fault;
+use crate::script_fault::ScriptFault;
+use fr_store::StoreFault;
 use std::fs;
 use std::io::{self, ErrorKind};
 use std::os::unix::fs::MetadataExt;
@@ -13,6 +16,55 @@ pub(crate) struct Watch<'a> {
     rt: &'a HostRuntime,
     db: &'a str,
     seen: Sight,
+}
+
+/// Why a register's files are not watched.
+#[derive(Clone, Copy, Debug, PartialEq, Eq)]
+pub(crate) enum WatchFault {
+    /// There was no memory to look at them.
+    NoMemory,
+    /// They cannot be looked at where they were opened.
+    Unavailable,
+}
+
+impl From<io::Error> for WatchFault {
+    ghost use Rattle.std.specs.Prelude.{⊤};
+
+    ghost from_gives = { λ _ _. ⊤ };
+
+    fn from(error: io::Error) -> Self {
+        match error.kind() {
+            ErrorKind::OutOfMemory => Self::NoMemory,
+            _ => Self::Unavailable,
+        }
+    }
+}
+
+impl From<WatchFault> for Fault {
+    ghost use Rattle.fr_cli.specs.declared.fault.Fault.TheVariants.{NoMemory, Register};
+    ghost use Rattle.fr_store.specs.declared.fault.StoreFault.TheVariants.{Unavailable};
+
+    ghost from_gives = { λ _ fault. (fault ≡ NoMemory) ⊎ (fault ≡ Register Unavailable) };
+
+    fn from(fault: WatchFault) -> Self {
+        match fault {
+            WatchFault::NoMemory => Self::NoMemory,
+            WatchFault::Unavailable => Self::Register(StoreFault::Unavailable),
+        }
+    }
+}
+
+impl From<WatchFault> for ScriptFault {
+    ghost use Rattle.fr_cli.specs.declared.script_fault.ScriptFault.TheVariants.{NoMemory, Unavailable};
+
+    ghost from_gives = { λ _ fault. (fault ≡ NoMemory) ⊎ (fault ≡ Unavailable) };
+
+    fn from(fault: WatchFault) -> Self {
+        match fault {
+            WatchFault::NoMemory => Self::NoMemory,
+            WatchFault::Unavailable => Self::Unavailable,
+        }
+    }
 }
 
 /// What is seen of a register's files.
@@ -62,7 +114,7 @@ impl Mark {
 
 impl<'a> Watch<'a> {
     /// Watches the files at this path from now on.
-    pub fn new(rt: &'a HostRuntime, db: &'a str) -> io::Result<Watch<'a>> {
+    pub fn new(rt: &'a HostRuntime, db: &'a str) -> Result<Watch<'a>, WatchFault> {
         let seen = look(rt, db)?;
         Ok(Watch { rt, db, seen })
     }

@@ -78,7 +78,7 @@ pub enum Job<'a> {
 pub enum WordFault {
     /// They ask for help or for the version, which is this text.
     Help { text: String },
-    /// They are not as the program is called: this text says how it is.
+    /// They do not fit the command line: this text says how the program is called.
     Usage { text: String },
     /// There was no memory to read them.
     NoMemory,
@@ -110,13 +110,13 @@ fn read<'a>(alloc: Global, words: &'a [String]) -> Result<Job<'a>, Error>
     let matches = program.try_get_matches_from_mut(words)?;
     match job_of(&matches) {
         Some(job) => Ok(job),
-        None => Err(program.error(ErrorKind::ValueValidation, wanted(&matches))?),
+        None => Err(program.error(ErrorKind::ValueValidation, missing_object(&matches))?),
     }
 }
 
 // What is said of words that `clap` takes and that name no job: those of `export` name no rows, or those of `check` no
 // file or several.
-fn wanted(matches: &ArgMatches<'_>) -> &'static str {
+fn missing_object(matches: &ArgMatches<'_>) -> &'static str {
     match matches.subcommand() {
         Some(("export", _)) => NO_ROWS,
         _ => NO_FILE,
@@ -259,7 +259,7 @@ fn export_job<'a>(found: &ArgMatches<'a>) -> Option<Job<'a>>
     report_job(found, Report::Export { header, part })
 }
 
-// The header of the records that are wanted.
+// The header of the records to export.
 fn header(found: &ArgMatches<'_>) -> Option<Header>
     ensures { IsHeaderIn result (rows_of (found_of found.now)) }
 {

@@ -1,9 +1,8 @@
 -- Left, found: as long as nobody else writes to the files, those that are left hold a book, and so does whatever a
 -- crash leaves of them. What is found stands for the book that the files held, and is a register that was in them. What
--- is opened is what was left, or what a crash leaves of it. Why files are not migrated, and that files still hold the
--- database that they held.
+-- is opened is what was left, or what a crash leaves of it. Why files are not migrated.
 use Rattle.std.specs.Prelude.{◌≡◌, ◌⊎◌, List}
-use Rattle.sqlite.specs.Effect.{Database, IsDatabase}
+use Rattle.sqlite.specs.Effect.{Database}
 use Rattle.sqlite.specs.Files.{HoldsDatabase, image_of}
 use Rattle.sqlite.specs.Tree.{Trees}
 use Rattle.sqlite.specs.declared.file.Leftover.{Leftover}
@@ -22,7 +21,7 @@ use Rattle.fr_office.specs.Crashed.{IsNear}
 use Rattle.fr_store.specs.Crashes.{HoldsOne, IsForOne}
 use Rattle.fr_store.specs.Opening.{RefusesFiles}
 use Rattle.fr_store.specs.Store.{IsRegisterFor, IsRegisterOf}
-use Rattle.fr_store.specs.StoreFiles.{HoldsBook, IsFound, IsHeld, database_of, image_left}
+use Rattle.fr_store.specs.StoreFiles.{HoldsBook, IsFound, database_of}
 use Rattle.fr_store.specs.declared.fault.StoreFault.{StoreFault}
 use Rattle.fr_tables.specs.Asking.{old_schema_number}
 
@@ -47,10 +46,6 @@ abbrev pub IsLeftWith : {D : Type 0} {g : Ghosts D} → Leftover D g → Standin
 IsLeftWith {D} {g} (left.Files files) c b = LeavesBook g files c b
 IsLeftWith (left.Unopened files) c b = ⊥
 IsLeftWith (left.Store it) c b = FindsNear it c b
-
--- If files held a database, those that are left still hold it.
-abbrev pub HoldStill : {D : Type 0} {g : Ghosts D} → Image → Leftover D g → Type 0
-HoldStill held left = (d : Database) → IsDatabase d → HoldsDatabase held d.trees → IsHeld (image_left left) d
 
 -- why files are not migrated, whatever they hold
 abbrev pub BarsMigration : Image → StoreFault → Type 0

@@ -45,7 +45,7 @@ pub fn create<S: Start>(
         IsRefusedBy makes IsUnavailable (image_at S.Start) e.0 e.1) }
 {
     let desk = new_desk(rt, path, config, start)?;
-    match closed(desk) {
+    match close_register(desk) {
         Ok(files) => Ok(files),
         Err(store) => Err((StoreFault::Unavailable, Some(Leftover::Store(store)))),
     }
@@ -122,14 +122,14 @@ pub fn close<S: Start>(desk: FileDesk<S>) -> Leftover<FileFrom<S>>
     ensures book { (c : Cluster) (b : Book) → ⟦<FileDesk<S> as Desk>⟧.stands desk c b
         → IsLeftWith result c b }
 {
-    match closed(desk) {
+    match close_register(desk) {
         Ok(files) => Leftover::Files(files),
         Err(store) => Leftover::Store(store),
     }
 }
 
 // Closes the register: its files, or the store that is left of them where they fail to close.
-fn closed<S: Start>(desk: FileDesk<S>) -> Result<Files<FileFrom<S>>, FileStore<FileFrom<S>>>
+fn close_register<S: Start>(desk: FileDesk<S>) -> Result<Files<FileFrom<S>>, FileStore<FileFrom<S>>>
     ensures clean { IfOk result (λ files. AreClean ⟦<FileFrom<S> as Disk>⟧ files.log files.db
         → ⟦<FileDesk<S> as Desk>⟧.clean desk) }
     ensures still { IfErr result

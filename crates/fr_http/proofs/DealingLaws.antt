@@ -14,9 +14,8 @@ use Rattle.fr_base.specs.declared.request.Ask.{Ask}
 use Rattle.fr_picture.specs.Frames.{MayRefusePlan}
 use Rattle.fr_picture.specs.Pages.{IsPage}
 use Rattle.fr_picture.specs.Plans.{IsPlan}
-use Rattle.fr_picture.specs.Reports.{Reads}
+use Rattle.fr_picture.specs.Reports.{Reads, Standing}
 use Rattle.fr_picture.specs.declared.plan.Plan.{Plan}
-use Rattle.fr_http.specs.Asking.{Standing}
 use Rattle.fr_http.specs.Connection.{HasDealt, HasDrawn}
 use Rattle.fr_http.specs.Exchanges.{Answered, Drawn}
 use Rattle.fr_http.specs.Reply.{answer_reply, page_reply}
@@ -38,7 +37,7 @@ module _ (clean : Type 0) (old new : Standing) where
 
   module _ (reader : Actor) (variant : List ℕ) where
     -- a plan was drawn
-    pub page_dealt : (page : Vec ℕ) → HasDrawn clean old new reader variant (Ok page) → HasDealt clean old new (demand.Picture reader variant) (page_reply page.items)
+    pub page_dealt : (page : Vec ℕ) → HasDrawn reader variant clean old new (Ok page) → HasDealt clean old new (demand.Picture reader variant) (page_reply page.items)
     page_dealt page (Ok plan, is, drawn) = record {
       dealing = Drawn reader variant (Ok plan);
       is_asked = refl;
@@ -48,7 +47,7 @@ module _ (clean : Type 0) (old new : Standing) where
     page_dealt page (Err refusal, is, drawn) = absurd cc
 
     -- there was no plan
-    pub refusal_dealt : (refusal : Refusal) → HasDrawn clean old new reader variant (Err refusal)
+    pub refusal_dealt : (refusal : Refusal) → HasDrawn reader variant clean old new (Err refusal)
         → HasDealt clean old new (demand.Picture reader variant) (answer_reply Get (answer.Refused refusal))
     refusal_dealt refusal (Ok plan, is, drawn) = absurd is
     refusal_dealt refusal (Err same, is, drawn) =
@@ -66,13 +65,13 @@ module _ (clean : Type 0) (old new : Standing) where
     Read r = clean → Reads old new r (λ c b plan. IsPlan c b reader variant plan) (λ c b e. MayRefusePlan c b reader variant e)
 
     -- the plan was read, and its page written
-    pub page_drawn : (plan : Plan) (page : Vec ℕ) → Read (Ok plan) → IsPage plan page.items → HasDrawn clean old new reader variant (Ok page)
+    pub page_drawn : (plan : Plan) (page : Vec ℕ) → Read (Ok plan) → IsPage plan page.items → HasDrawn reader variant clean old new (Ok page)
     page_drawn plan page read is = (Ok plan, is, λ cl c b stood sound. read cl c b stood sound)
 
     -- there was no memory for the page
-    pub page_lacked : (plan : Plan) → Read (Ok plan) → HasDrawn clean old new reader variant (Err Unavailable)
+    pub page_lacked : (plan : Plan) → Read (Ok plan) → HasDrawn reader variant clean old new (Err Unavailable)
     page_lacked plan read = (Err Unavailable, refl, λ cl c b stood sound. ((read cl c b stood sound).0, inl refl))
 
     -- the plan was refused
-    pub plan_refused : (refusal : Refusal) → Read (Err refusal) → HasDrawn clean old new reader variant (Err refusal)
+    pub plan_refused : (refusal : Refusal) → Read (Err refusal) → HasDrawn reader variant clean old new (Err refusal)
     plan_refused refusal read = (Err refusal, refl, λ cl c b stood sound. read cl c b stood sound)

@@ -16,7 +16,7 @@ use Rattle.fr_base.specs.Names.{same_text}
 use Rattle.fr_base.specs.Refusing.{◌>>=◌, ◌>>◌, ◌or◌, refuse◌when◌}
 use Rattle.fr_http.specs.Head.{HeadData, values}
 use Rattle.fr_http.specs.Outcome.{body_length, is_decimal, length_in, max_body, plan_of, route_to}
-use Rattle.fr_http.specs.Routes.{allowed, chosen, matched, method_of, path_of, route_of, text_of_method}
+use Rattle.fr_http.specs.Routes.{allowed, ascii_text, chosen, matched, method_of, path_of, route_of, text_of_method}
 use Rattle.fr_http.specs.declared.fault.Rejection.{Rejection}
 use Rattle.fr_http.specs.declared.fault.Rejection.TheVariants.{BadRequest, NotFound, MethodNotAllowed, LengthRequired, PayloadTooLarge, NotImplemented}
 use Rattle.fr_http.specs.declared.routes.Route.{Route}
@@ -123,10 +123,6 @@ none_left None s t is steps = steps.0
 
 -- ---- the route of a path
 
--- the text, where it is ASCII
-abbrev pub ascii_or : List ℕ → Option (List ℕ)
-ascii_or path = if list_all is_ascii path then Some path else None
-
 routed : (b : Bool) (path p : List ℕ) (r : Option Route) → Some p ≡ (if b then Some path else None) → r ≡ matched p → (if b then matched path else None) ≡ r
 routed true path p r is found = sym (found ∙ ap matched (injective is))
   where
@@ -142,19 +138,19 @@ unroutable : (b : Bool) (path : List ℕ) → None ≡ (if b then Some path else
 unroutable true path is = grind (arith, is)
 unroutable false path is = refl
 
-pub route_found : (path p : List ℕ) (r : Option Route) → Some p ≡ ascii_or path → r ≡ matched p → route_of path ≡ r
+pub route_found : (path p : List ℕ) (r : Option Route) → Some p ≡ ascii_text path → r ≡ matched p → route_of path ≡ r
 unfolding route_of
 route_found path p r is found = routed (list_all is_ascii path) path p r is found
 
-pub ascii_path : (path p : List ℕ) → Some p ≡ ascii_or path → p ≡ path
+pub ascii_path : (path p : List ℕ) → Some p ≡ ascii_text path → p ≡ path
 ascii_path path p is = path_is (list_all is_ascii path) path p is
 
-pub not_ascii : (path : List ℕ) → None ≡ ascii_or path → route_of path ≡ None
+pub not_ascii : (path : List ℕ) → None ≡ ascii_text path → route_of path ≡ None
 unfolding route_of
 not_ascii path is = unroutable (list_all is_ascii path) path is
 
 -- and by the method of the head
-pub route_chosen : (head : HeadData) (p : List ℕ) (route chosen_route : Route) → Some p ≡ ascii_or (path_of head.target) → Some route ≡ matched p → chosen_route ≡ chosen head.method route → route_to head ≡ Some chosen_route
+pub route_chosen : (head : HeadData) (p : List ℕ) (route chosen_route : Route) → Some p ≡ ascii_text (path_of head.target) → Some route ≡ matched p → chosen_route ≡ chosen head.method route → route_to head ≡ Some chosen_route
 unfolding route_to
 route_chosen head p route chosen_route is found by = ap (option_map (chosen head.method)) (route_found (path_of head.target) p (Some route) is found) ∙ ap (λ r. Some r) (sym by)
 

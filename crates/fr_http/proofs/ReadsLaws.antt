@@ -4,8 +4,9 @@ use Rattle.std.specs.Prelude.{◌↔◌, IfErr, IsOk, OnOk, ⊤}
 use Rattle.std.specs.declared.io.Error.{Error}
 use Rattle.fr_text.specs.declared.output.WriteFailed.{WriteFailed as Unwritten}
 use Rattle.fr_http.specs.Connection.{WasFlushed}
-use Rattle.fr_http.specs.Reads.{AreInterrupted, AreReads, EndsRead, IsRead, IsReadWithin, MayEnd, Reads, Spends}
+use Rattle.fr_http.specs.Reads.{AreInterrupted, AreReads, EndsRead, IsRead, IsReadWithin, MayEnd, Reads, Spends, SpendsReads}
 use Rattle.fr_http.specs.declared.fault.LinkFault.{LinkFault}
+use Rattle.fr_http.specs.declared.input.Input.{Input}
 use Rattle.fr_http.specs.declared.fault.LinkFault.TheVariants.{Truncated, ReadFailed, TooManyReads, WriteFailed, NoMemory}
 
 module _ {R : Type 0} (reads : Reads R) where
@@ -54,8 +55,10 @@ module _ {R : Type 0} (reads : Reads R) where
   spends_by old mid new count rest most left piece (Err (WriteFailed asked)) before counted ends = absurd ends
   spends_by old mid new count rest most left piece (Err (NoMemory asked)) before counted ends = absurd ends
 
-  pub spends_read : (old new : R) (most left : ℕ) (piece : List ℕ) (given : Result ℕ LinkFault) → IsRead reads old most piece given new left → Spends reads old most new left
-  spends_read old new most left piece given is = spends_by old is.mid new is.count is.rest most left piece given is.interrupted is.counted is.ends
+  spends_read : (old new : Input R) (piece : List ℕ) (given : Result ℕ LinkFault) → IsRead reads old piece given new
+      → Spends reads old.reader.now old.reads new.reader.now new.reads
+  spends_read old new piece given is =
+      spends_by old.reader.now is.mid new.reader.now is.count is.rest old.reads new.reads piece given is.interrupted is.counted is.ends
 
   -- why a piece was not read
   ended_by : (mid new : R) (rest left : ℕ) (piece : List ℕ) (fault : LinkFault) → EndsRead reads mid rest piece (Err fault) new left → MayEnd reads fault new left
@@ -65,8 +68,18 @@ module _ {R : Type 0} (reads : Reads R) where
   ended_by mid new rest left piece (WriteFailed asked) ends = absurd ends
   ended_by mid new rest left piece (NoMemory asked) ends = absurd ends
 
-  pub ended_read : (old new : R) (most left : ℕ) (piece : List ℕ) (fault : LinkFault) → IsRead reads old most piece (Err fault) new left → MayEnd reads fault new left
-  ended_read old new most left piece fault is = ended_by is.mid new is.rest left piece fault is.ends
+  -- a piece was not read
+  pub piece_failed : (old new : Input R) (piece : List ℕ) (given : Result ℕ LinkFault) → given ≡ Err ReadFailed → IsRead reads old piece (Err ReadFailed) new
+      → IsRead reads old piece given new
+  piece_failed old new piece given is failed = subst (λ r. IsRead reads old piece r new) (sym is) failed
+
+  -- the reads of a piece are those of the call
+  pub reads_piece : (old new : Input R) (piece : List ℕ) (given : Result ℕ LinkFault) → IsRead reads old piece given new → SpendsReads reads (MayEnd reads) old new given
+  reads_piece old new piece (Ok n) is = record { spends = spends_read old new piece (Ok n) is; ended = tt }
+  reads_piece old new piece (Err fault) is = record {
+    spends = spends_read old new piece (Err fault) is;
+    ended = ended_by is.mid new.reader.now is.rest new.reads piece fault is.ends;
+  }
 
   -- all reads of a connection
   pub read_within : {X : Type 0} (old new : R) (most left : ℕ) (done : Result X LinkFault) → Spends reads old most new left → IfErr done (λ fault. MayEnd reads fault new left)

@@ -10,13 +10,14 @@ use Rattle.fr_base.specs.Refusing.{◌>>=◌, ◌>>◌, ◌or◌}
 use Rattle.fr_base.specs.Sound.{IsSound}
 use Rattle.fr_base.specs.declared.actor.Actor.{Actor}
 use Rattle.fr_base.specs.declared.refusal.Refusal.TheVariants.{BadText, UnknownKey}
-use Rattle.fr_http.specs.Asking.{FindsActor, MakesMatter, Standing}
-use Rattle.std.specs.Prelude.{IfOk, OnErr}
+use Rattle.fr_picture.specs.Reports.{Standing}
+use Rattle.fr_http.specs.Asking.{FindsActor, MakesMatter}
+use Rattle.std.specs.Prelude.{IfOk}
 use Rattle.fr_http.specs.Reply.{Reply, print}
 use Rattle.fr_http.specs.Replying.{IsReply}
 use Rattle.fr_http.specs.declared.reply.ReplyText.{ReplyText}
 use Rattle.fr_http.specs.declared.serve.Served.{Served}
-use Rattle.fr_http.specs.Connection.{AppendsFront, HasAnswered, HasDealt, HasReplied, HasSent, HasTaken, IsConnection, InSound, ReadsNoMore, Takes}
+use Rattle.fr_http.specs.Connection.{AppendsFront, HasAnswered, HasDealt, HasReplied, HasTaken, IsConnection, InSound, ReadsNoMore, Sends, Takes}
 use Rattle.fr_http.specs.Exchanges.{Deals, Dealing, IsAnswered, IsBrokenOff, IsExchange, IsFront, IsInterim, IsTold, IsUnasked, unasked_reply}
 use Rattle.fr_http.specs.Head.{BeginsWith, HeadData, key_of, max_head, said}
 use Rattle.fr_http.specs.Outcome.{IsOutcome, Wanted, asked_before, asked_by, continue_if, continue_reply, due, front, holder, interim, outcome_of, plan_of}
@@ -275,12 +276,11 @@ module _ (stands : Standing) (input mid left held now : Option (List ℕ)) (rece
 -- ---- replies
 
 pub replied : {E : Type 0} (reply : Result ReplyText E) (expected : Reply) (asked : Bool) (held now : Option (List ℕ)) (done : Result Served LinkFault)
-    → IfOk reply (IsReply expected) → IfOk reply (λ r. HasSent r asked held now done) → OnErr reply ((done ≡ Err (NoMemory asked)) × (now ≡ held))
-    → HasReplied expected asked held now done
-replied (Ok r) expected asked held now (Ok served) is sent none =
+    → IfOk reply (IsReply expected) → Sends reply asked held now done → HasReplied expected asked held now done
+replied (Ok r) expected asked held now (Ok served) is sent =
     (subst (Appends held now) is.bytes sent.0, sent.1 ∙ is.status, sent.2)
-replied (Ok r) expected asked held now (Err fault) is (failed, front) none = inr (failed, subst (AppendsFront held now) is.bytes front)
-replied (Err e) expected asked held now done is sent none =
+replied (Ok r) expected asked held now (Err fault) is (failed, front) = inr (failed, subst (AppendsFront held now) is.bytes front)
+replied (Err e) expected asked held now done is none =
     subst (HasReplied expected asked held now) (sym none.0) (inl (refl, subst (Keeps held) (sym none.1) (Keeps-refl held)))
 
 -- ---- connections

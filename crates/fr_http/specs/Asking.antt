@@ -9,6 +9,7 @@ use Rattle.fr_base.specs.declared.refusal.Refusal.{Refusal}
 use Rattle.fr_base.specs.declared.refusal.Refusal.TheVariants.{BadText, Unavailable}
 use Rattle.fr_base.specs.declared.request.Request.{Request}
 use Rattle.fr_text.specs.RequestText.{request_of}
+use Rattle.fr_picture.specs.Reports.{Standing}
 use Rattle.fr_http.specs.Head.{HeadData, key_of}
 use Rattle.fr_http.specs.Outcome.{holder}
 use Rattle.fr_http.specs.Routes.{matter_by, number_in, part}
@@ -17,10 +18,6 @@ use Rattle.fr_http.specs.declared.fault.LinkFault.TheVariants.{NoMemory}
 use Rattle.fr_http.specs.declared.fault.Unasked.{Unasked}
 use Rattle.fr_http.specs.declared.fault.Unasked.TheVariants.{Fault, Refused}
 use Rattle.fr_http.specs.declared.routes.Route.{Route}
-
--- what a register's rows stand for: a cluster and a book
-abbrev pub Standing : Type 1
-Standing = Cluster → Book → Type 0
 
 -- The request is the one that the body's text is; or the text is not a request; or memory was
 -- wanting.

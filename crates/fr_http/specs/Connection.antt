@@ -1,6 +1,6 @@
 -- Connection: what was read and written on a connection, how it ended, that it was an exchange, and what became of the
 -- register.
-use Rattle.std.specs.Prelude.{ℕ, ◌≡◌, ◌≤◌, ◌⊎◌, Bool, true, false, List, length, Option, Result, Ok, Err, IfErr, IsErrOf, ⊤}
+use Rattle.std.specs.Prelude.{ℕ, ◌≡◌, ◌≤◌, ◌⊎◌, Bool, true, false, List, length, Option, Result, Ok, Err, IfErr, IfOk, IsErrOf, MatchResult, ⊤}
 use Rattle.std.specs.Global.{Vec}
 use Rattle.std.specs.Io.KnownBytes.{Appends, Consumes, IsAtEnd, Keeps}
 use Rattle.std.specs.declared.io.Error.{Error}
@@ -12,17 +12,19 @@ use Rattle.fr_base.specs.Sound.{IsSound}
 use Rattle.fr_base.specs.declared.actor.Actor.{Actor}
 use Rattle.fr_base.specs.declared.refusal.Refusal.{Refusal}
 use Rattle.fr_picture.specs.Pages.{IsPage}
-use Rattle.fr_picture.specs.declared.plan.Plan.{Plan}
-use Rattle.fr_http.specs.Asking.{Standing}
+use Rattle.fr_picture.specs.Reports.{Standing}
+use Rattle.fr_picture.specs.declared.plan.Plan.{Plan as Picture}
 use Rattle.fr_http.specs.Exchanges.{Deals, Dealing, IsExchange, IsFront, IsInterim, IsInterimFront, IsReplyTo, MayDraw, asked_in}
-use Rattle.fr_http.specs.Head.{BeginsWith, max_head, said}
-use Rattle.fr_http.specs.Outcome.{IsOutcome, Wanted, asked_before, plan_of}
+use Rattle.fr_http.specs.Head.{BeginsWith, HeadData, max_head, said}
+use Rattle.fr_http.specs.Outcome.{IsOutcome, Wanted, asked_before, continue_if, continue_reply, due, plan_of}
 use Rattle.fr_http.specs.Reply.{Reply, print}
+use Rattle.fr_http.specs.Replying.{IsReply}
 use Rattle.fr_http.specs.declared.asking.Demand.{Demand}
 use Rattle.fr_http.specs.declared.fault.LinkFault.{LinkFault}
 use Rattle.fr_http.specs.declared.fault.LinkFault.TheVariants.{Truncated, WriteFailed, NoMemory}
 use Rattle.fr_http.specs.declared.fault.Unasked.{Unasked}
 use Rattle.fr_http.specs.declared.fault.Unasked.TheVariants.{Engine, Refused, Fault}
+use Rattle.fr_http.specs.declared.plan.Plan.{Plan}
 use Rattle.fr_http.specs.declared.reply.ReplyText.{ReplyText}
 use Rattle.fr_http.specs.declared.serve.Served.{Served}
 
@@ -86,10 +88,25 @@ WasFlushed {W} flushes last = (mid : W) × flushes mid (Ok tt) last
 abbrev pub AppendsFront : Option (List ℕ) → Option (List ℕ) → List ℕ → Type 0
 AppendsFront held now text = (written : List ℕ) × IsFront written text × Appends held now written
 
+-- The text was written; or a write failed, and a front of the text was written.
+abbrev pub WritesText : {E : Type 0} → List ℕ → Option (List ℕ) → Option (List ℕ) → Result ⊤ E → Type 0
+WritesText text held now done = MatchResult done (λ _. Appends held now text) (λ _. AppendsFront held now text)
+
+-- The interim reply was written, if the plan's body and the head want one; or they do, and a front of it was written, where a write failed.
+abbrev pub Invites : Plan → HeadData → Option (List ℕ) → Option (List ℕ) → Result ⊤ LinkFault → Type 0
+Invites plan head held now done = MatchResult done
+    (λ _. Appends held now (continue_if (due plan.length head)))
+    (λ fault. (fault ≡ WriteFailed false) × (due plan.length head ≡ true) × AppendsFront held now continue_reply)
+
 -- The reply was written; or a write failed, and a front of the reply was written.
 abbrev pub HasSent : ReplyText → Bool → Option (List ℕ) → Option (List ℕ) → Result Served LinkFault → Type 0
 HasSent reply asked held now (Ok served) = Appends held now reply.bytes.items × (served.status ≡ reply.status) × (served.asked ≡ asked)
 HasSent reply asked held now (Err fault) = (fault ≡ WriteFailed asked) × AppendsFront held now reply.bytes.items
+
+-- The reply was sent so; or there is none, for want of memory, and nothing was written.
+abbrev pub Sends : {E : Type 0} → Result ReplyText E → Bool → Option (List ℕ) → Option (List ℕ) → Result Served LinkFault → Type 0
+Sends (Ok reply) asked held now done = HasSent reply asked held now done
+Sends (Err _) asked held now done = (done ≡ Err (NoMemory asked)) × (now ≡ held)
 
 -- A reply was written; or nothing of it, for want of memory; or a front of it, where a write failed.
 abbrev pub HasReplied : Reply → Bool → Option (List ℕ) → Option (List ℕ) → Result Served LinkFault → Type 0
@@ -104,17 +121,21 @@ pub record HasDealt (clean : Type 0) (old new : Standing) (demand : Demand) (rep
   pub deals : clean → InSound old (λ c b. (last : Book) × Deals c b dealing last × new c last)
   pub is_reply : IsReplyTo dealing reply
 
+-- The register dealt with the demand, and this is the text of the reply, if there is memory for it.
+abbrev pub GivesReply : {E : Type 0} → Demand → Type 0 → Standing → Standing → Result ReplyText E → Type 0
+GivesReply demand clean old new text = (reply : Reply) × HasDealt clean old new demand reply × IfOk text (IsReply reply)
+
 -- This is the plan's page, or why there is no plan.
-abbrev pub IsPageOf : Result Plan Refusal → Result (Vec ℕ) Refusal → Type 0
+abbrev pub IsPageOf : Result Picture Refusal → Result (Vec ℕ) Refusal → Type 0
 IsPageOf (Ok plan) (Ok page) = IsPage plan page.items
 IsPageOf (Ok plan) (Err _) = ⊥
 IsPageOf (Err refusal) page = page ≡ Err refusal
 
 -- This is the page of a plan that may be drawn, or there is none for a cause that may be. The
 -- register stands for the same book as before.
-abbrev pub HasDrawn : Type 0 → Standing → Standing → Actor → List ℕ → Result (Vec ℕ) Refusal → Type 0
-HasDrawn clean old new reader variant page =
-    (drawn : Result Plan Refusal) × IsPageOf drawn page × (clean → InSound old (λ c b. new c b × MayDraw c b reader variant drawn))
+abbrev pub HasDrawn : Actor → List ℕ → Type 0 → Standing → Standing → Result (Vec ℕ) Refusal → Type 0
+HasDrawn reader variant clean old new page =
+    (drawn : Result Picture Refusal) × IsPageOf drawn page × (clean → InSound old (λ c b. new c b × MayDraw c b reader variant drawn))
 
 -- The register dealt with the demand. The reply was written, or nothing of it for want of memory,
 -- or a front of it where a write failed.

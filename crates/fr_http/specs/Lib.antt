@@ -6,6 +6,7 @@ pub mod Planning
 pub mod Reading
 pub mod Reads
 pub mod Asking
+pub mod Calls
 pub mod Reply
 pub mod Replying
 pub mod Exchanges

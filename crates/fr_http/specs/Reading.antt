@@ -1,8 +1,8 @@
 -- On the way to an outcome: what is known of the bytes that were read, whether a head came, and
 -- whether a whole body did.
 use Rattle.std.specs.Global.{Vec}
-use Rattle.std.specs.Prelude.{ℕ, ◌≡◌, ◌≤◌, ◌-◌, false, List, ◌++◌, length, Option, Some, None, Result, MatchResult}
-use Rattle.std.specs.Io.KnownBytes.{Consumes, IsAtEnd}
+use Rattle.std.specs.Prelude.{ℕ, ◌≡◌, ◌<◌, ◌≤◌, ◌-◌, false, List, ◌++◌, length, take, Option, Some, None, Result, IfOk, MatchResult, OnErr}
+use Rattle.std.specs.Io.KnownBytes.{Consumes, IsAtEnd, Keeps}
 use Rattle.httparse.specs.Grammar.{RequestHead}
 use Rattle.fr_http.specs.Head.{BeginsWith, HasNoHead, HeadData, max_head, said}
 use Rattle.fr_http.specs.Outcome.{HeadFails, asked_before, front}
@@ -10,6 +10,14 @@ use Rattle.fr_http.specs.declared.fault.LinkFault.{LinkFault}
 use Rattle.fr_http.specs.declared.fault.LinkFault.TheVariants.{Truncated, WriteFailed}
 use Rattle.fr_http.specs.declared.fault.Unasked.{Unasked}
 use Rattle.fr_http.specs.declared.fault.Unasked.TheVariants.{Engine, Refused, Fault}
+
+-- One read gave so many bytes of the piece, which are gone from the input, and none only at the input's end; or it failed, and the
+-- input stays.
+pub record ReadsPiece {E : Type 0} (piece : List ℕ) (input left : Option (List ℕ)) (given : Result ℕ E) : Type 0 where
+  pub bound : IfOk given (λ n. n ≤ length piece)
+  pub bytes : IfOk given (λ n. Consumes input left (take n piece))
+  pub end : IfOk given (λ n. n ≡ 0 → 0 < length piece → IsAtEnd left)
+  pub kept : OnErr given (Keeps input left)
 
 -- The bytes begin with this head, and this follows it.
 abbrev pub Receives : List ℕ → HeadData × List ℕ → Type 0

@@ -8,6 +8,7 @@ use Rattle.fr_http.specs.declared.fault.LinkFault.{LinkFault}
 use Rattle.fr_http.specs.declared.fault.LinkFault.TheVariants.{ReadFailed, TooManyReads}
 use Rattle.fr_http.specs.declared.fault.Unasked.{Unasked}
 use Rattle.fr_http.specs.declared.fault.Unasked.TheVariants.{Fault}
+use Rattle.fr_http.specs.declared.input.Input.{Input}
 
 -- how a read may make of a reader the next one: what stands in the piece then, and what the read gives
 abbrev pub Reads : Type 0 → Type 1
@@ -36,14 +37,14 @@ module _ {R : Type 0} (reads : Reads R) where
   EndsRead old most piece (Err TooManyReads) new left = (new ≡ old) × (most ≡ 0) × (left ≡ 0)
   EndsRead old most piece (Err _) new left = ⊥
 
-  -- A piece was read: reads that were interrupted, and then that one. Of so many reads so many are left.
-  pub record IsRead (old : R) (most : ℕ) (piece : List ℕ) (given : Result ℕ LinkFault) (new : R) (left : ℕ) : Type 0 where
+  -- A piece was read of an input: reads that were interrupted, and then that one. Each counts.
+  pub record IsRead (old : Input R) (piece : List ℕ) (given : Result ℕ LinkFault) (new : Input R) : Type 0 where
     pub count : ℕ
     pub mid : R
     pub rest : ℕ
-    pub interrupted : AreInterrupted count old mid
-    pub counted : rest + count ≡ most
-    pub ends : EndsRead mid rest piece given new left
+    pub interrupted : AreInterrupted count old.reader.now mid
+    pub counted : rest + count ≡ old.reads
+    pub ends : EndsRead mid rest piece given new.reader.now new.reads
 
   -- Such a fault may end reading, where so many reads are left: that of too many reads where none is, that of a read that failed behind such a read.
   -- Of any other fault this says nothing.
@@ -62,6 +63,11 @@ module _ {R : Type 0} (reads : Reads R) where
     pub count : ℕ
     pub made : AreReads count old new
     pub counted : left + count ≡ most
+
+  -- A call makes reads of an input, and each counts. If the call fails, its fault is such that it may end reading there.
+  pub record SpendsReads {X E : Type 0} (May : E → R → ℕ → Type 0) (old new : Input R) (given : Result X E) : Type 0 where
+    pub spends : Spends old.reader.now old.reads new.reader.now new.reads
+    pub ended : IfErr given (λ fault. May fault new.reader.now new.reads)
 
   -- A connection was read at most so many times. If a fault of reading ended that, it is one that may.
   pub record IsReadWithin {X : Type 0} (most : ℕ) (old new : R) (done : Result X LinkFault) : Type 0 where

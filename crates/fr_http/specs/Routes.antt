@@ -121,6 +121,10 @@ router = fold with_route [] table
 abbrev pub path_of : List ℕ → List ℕ
 path_of target = before_first (λ b. b == 63) target
 
+-- the text, if it is ASCII
+abbrev pub ascii_text : List ℕ → Option (List ℕ)
+ascii_text text = if list_all is_ascii text then Some text else None
+
 -- the route that the path matches
 abbrev pub matched : List ℕ → Option Route
 matched path = option_map (λ r. r.value) (first router path)

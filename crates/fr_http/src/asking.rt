@@ -90,7 +90,7 @@ fn command(alloc: Global, body: &[u8]) -> Result<Request, Unasked>
 {
     match read_command(alloc, body) {
         Ok(request) => Ok(request),
-        Err(refusal) => Err(refused(refusal)),
+        Err(refusal) => Err(unasked_by(refusal)),
     }
 }
 
@@ -128,7 +128,7 @@ fn name(alloc: Global, path: &str, slashes: usize) -> Result<Text, NoMemory>
 
 // Why nothing is asked where a command's text is refused: for want of memory, or because it is not a
 // command.
-fn refused(refusal: Refusal) -> Unasked
+fn unasked_by(refusal: Refusal) -> Unasked
     ensures { result ≡ unasked_by refusal }
 {
     match refusal {

@@ -1,7 +1,7 @@
 //! Reads the body of a request.
-ghost use Rattle.std.specs.Prelude.{◌≡◌, Ok, IfErr};
+ghost use Rattle.fr_http.specs.Calls.{ReadsFrom};
 ghost use Rattle.fr_http.specs.Reading.{HasBody};
-ghost use Rattle.fr_http.specs.Reads.{MayEnd, Spends};
+ghost use Rattle.fr_http.specs.Reads.{MayEnd, SpendsReads};
 
 use crate::fault::LinkFault;
 use crate::input::Input;
@@ -19,13 +19,8 @@ pub(crate) fn read_body<R: Source>(
     begun: &[u8],
     length: usize,
 ) -> Result<Vec<u8>, LinkFault>
-    ensures body { HasBody length begun.now (R.remaining input.old.reader.now)
-        (R.remaining input.new.reader.now) result }
-    ensures spends { Spends R.reads input.old.reader.now input.old.reads input.new.reader.now
-        input.new.reads }
-    ensures ended { IfErr result
-        (λ fault. MayEnd R.reads fault input.new.reader.now input.new.reads) }
-    ensures same { input.new.reader.ghost_name ≡ input.old.reader.ghost_name }
+    ensures body { ReadsFrom R.Read (HasBody length begun.now) input.old input.new result }
+    ensures reads { SpendsReads R.reads (MayEnd R.reads) input.old input.new result }
 {
     let mut body = Vec::new(alloc);
     body.extend_from_slice(&begun[..length.min(begun.len())])?;

@@ -1,9 +1,7 @@
 //! Deals with a demand: the register answers a request, or a picture is drawn of what the
 //! register's reports say. Then comes a reply.
-ghost use Rattle.std.specs.Prelude.{IfOk};
-ghost use Rattle.fr_http.specs.Connection.{HasDealt, HasDrawn};
-ghost use Rattle.fr_http.specs.Reply.{Reply};
-ghost use Rattle.fr_http.specs.Replying.{IsReply};
+ghost use Rattle.fr_picture.specs.Reports.{AsksDesk};
+ghost use Rattle.fr_http.specs.Connection.{GivesReply, HasDrawn};
 
 use crate::asking::Demand;
 use crate::method::Method;
@@ -18,10 +16,7 @@ pub(crate) fn deal<D: Desk>(
     demand: &Demand,
     desk: &mut D,
 ) -> Result<ReplyText, NoMemory>
-    ensures falls { D.clean desk.new → D.clean desk.old }
-    ensures dealt { (reply : Reply)
-        × HasDealt (D.clean desk.new) (D.stands desk.old) (D.stands desk.new) demand.now reply
-        × IfOk result (IsReply reply) }
+    ensures { AsksDesk D.Desk (GivesReply demand.now) desk.old desk.new result }
 {
     match demand {
         Demand::Request { ask, method } => {
@@ -45,9 +40,7 @@ fn picture<D: Desk>(
     variant: &str,
     desk: &mut D,
 ) -> Result<Vec<u8>, Refusal>
-    ensures falls { D.clean desk.new → D.clean desk.old }
-    ensures drawn { HasDrawn (D.clean desk.new) (D.stands desk.old) (D.stands desk.new) reader
-        variant.now result }
+    ensures { AsksDesk D.Desk (HasDrawn reader variant.now) desk.old desk.new result }
 {
     let plan = read_plan(alloc, desk, &View { reader, variant })?;
     let page = write_page(alloc, &plan)?;

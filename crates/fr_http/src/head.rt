@@ -36,7 +36,7 @@ impl Model for Received {
 }
 
 impl Received {
-    /// The bytes, where they begin with a head that has its parts at these spans.
+    /// The bytes and their head, whose parts lie at these spans.
     pub(crate) fn new(
         bytes: Vec<u8>,
         spans: RequestSpans,

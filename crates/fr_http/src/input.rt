@@ -1,8 +1,9 @@
 //! The input of a connection, read within a bound: a read that is interrupted is tried again.
-ghost use Rattle.std.specs.Prelude.{◌≡◌, ◌⊎◌, ◌↔◌, ◌<◌, ◌≤◌, length, take, IfOk, IfErr, IsErrOf, IsOk, OnErr};
-ghost use Rattle.std.specs.Io.KnownBytes.{Consumes, IsAtEnd, Keeps};
-ghost use Rattle.std.specs.IoError.{error_kind};
-ghost use Rattle.fr_http.specs.Reads.{IsRead, MayEnd, Spends};
+ghost use Rattle.std.specs.Prelude.{◌≡◌, ◌⊎◌, ◌<◌, ◌≤◌, IfErr, IsErrOf, OnOk};
+ghost use Rattle.fr_http.specs.Calls.{ReadsFrom};
+ghost use Rattle.fr_http.specs.Reading.{ReadsPiece};
+ghost use Rattle.fr_http.specs.Reads.{IsRead, MayEnd, SpendsReads};
+ghost use Rattle.fr_http.specs.declared.fault.LinkFault.TheVariants.{ReadFailed, TooManyReads};
 
 use crate::fault::LinkFault;
 use crate::source::Source;
@@ -34,30 +35,17 @@ impl<'a, R: Source> Input<'a, R> {
     /// Reads into the piece, and answers how many bytes it read: none only at the input's end. A read
     /// that is interrupted is tried again.
     pub(crate) fn read(&mut self, piece: &mut [u8]) -> Result<usize, LinkFault>
-        ensures bound { IfOk result (λ n. n ≤ length piece.new) }
-        ensures bytes { IfOk result
-            (λ n. Consumes (R.remaining self.old.reader.now) (R.remaining self.new.reader.now)
-            (take n piece.new)) }
-        ensures end { IfOk result (λ n. n ≡ 0 → 0 < length piece.new
-            → IsAtEnd (R.remaining self.new.reader.now)) }
-        ensures kept { OnErr result
-            (Keeps (R.remaining self.old.reader.now) (R.remaining self.new.reader.now)) }
-        ensures fault { IfErr result
-            (λ fault. (fault ≡ LinkFault.ReadFailed) ⊎ (fault ≡ LinkFault.TooManyReads)) }
+        ensures piece { ReadsFrom R.Read (ReadsPiece piece.new) self.old self.new result }
+        ensures fault { IfErr result (λ fault. (fault ≡ ReadFailed) ⊎ (fault ≡ TooManyReads)) }
 
         // An interrupted read is tried again as long as a read is left, and no other failed one is. Each counts.
-        ensures made { IsRead R.reads self.old.reader.now self.old.reads piece.new result
-            self.new.reader.now self.new.reads }
-        ensures spends { Spends R.reads self.old.reader.now self.old.reads self.new.reader.now
-            self.new.reads }
-        ensures ended { IfErr result
-            (λ fault. MayEnd R.reads fault self.new.reader.now self.new.reads) }
-        ensures spent { IsErrOf result LinkFault.TooManyReads → self.new.reads ≡ 0 }
-        ensures reads { self.new.reads ≤ self.old.reads }
+        ensures made { IsRead R.reads self.old piece.new result self.new }
+        ensures reads { SpendsReads R.reads (MayEnd R.reads) self.old self.new result }
+        ensures spent { IsErrOf result TooManyReads → self.new.reads ≡ 0 }
+        ensures fewer { self.new.reads ≤ self.old.reads }
 
         // A read that succeeds counts.
-        ensures counted { IfOk result (λ _. self.new.reads < self.old.reads) }
-        ensures same { self.new.reader.ghost_name ≡ self.old.reader.ghost_name }
+        ensures counted { OnOk result (self.new.reads < self.old.reads) }
     {
         while self.reads > 0 {
             self.reads -= 1;

@@ -1,7 +1,7 @@
 //! Reads until a request's head is there.
-ghost use Rattle.std.specs.Prelude.{◌≡◌, IfErr};
+ghost use Rattle.fr_http.specs.Calls.{ReadsFrom};
 ghost use Rattle.fr_http.specs.Reading.{HasReceived};
-ghost use Rattle.fr_http.specs.Reads.{MayEndAsking, Spends};
+ghost use Rattle.fr_http.specs.Reads.{MayEndAsking, SpendsReads};
 
 use crate::fault::{LinkFault, Rejection, Unasked};
 use crate::head::{MAX_FIELDS, MAX_HEAD, Received};
@@ -18,13 +18,8 @@ pub(crate) fn receive<R: Source>(
     alloc: Global,
     input: &mut Input<'_, R>,
 ) -> Result<Received, Unasked>
-    ensures received { HasReceived (R.remaining input.old.reader.now)
-        (R.remaining input.new.reader.now) result }
-    ensures spends { Spends R.reads input.old.reader.now input.old.reads input.new.reader.now
-        input.new.reads }
-    ensures ended { IfErr result
-        (λ unasked. MayEndAsking R.reads unasked input.new.reader.now input.new.reads) }
-    ensures same { input.new.reader.ghost_name ≡ input.old.reader.ghost_name }
+    ensures received { ReadsFrom R.Read HasReceived input.old input.new result }
+    ensures reads { SpendsReads R.reads (MayEndAsking R.reads) input.old input.new result }
 {
     let mut bytes = Vec::new(alloc);
     let mut fields = [EMPTY_HEADER_SPAN; MAX_FIELDS];

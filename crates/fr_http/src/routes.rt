@@ -1,9 +1,9 @@
 //! The routes of requests.
-ghost use Rattle.std.specs.Prelude.{◌≡◌, ◌==◌, if◌then◌else◌, map, IfOk, OnOk, Some, None};
+ghost use Rattle.std.specs.Prelude.{◌≡◌, ◌==◌, map, IfOk, OnOk};
 ghost use Rattle.std.specs.Char.{is_ascii};
 ghost use Rattle.std.specs.List.{list_all, position};
 ghost use Rattle.std.specs.Option.{option_map};
-ghost use Rattle.fr_http.specs.Routes.{allowed, chosen, export, matched, method_of, of_register, of_two, of_variant, part, path_of, router, table, with_route};
+ghost use Rattle.fr_http.specs.Routes.{allowed, ascii_text, chosen, export, matched, method_of, of_register, of_two, of_variant, part, path_of, router, table, with_route};
 
 use crate::method::{Allowed, Method};
 use fr_base::{Header, Inventory, NoMemory, Query, Report};
@@ -93,8 +93,7 @@ pub(crate) fn find_route(alloc: Global, path: &str) -> Result<Option<Route>, NoM
 /// The bytes as a text, where they are ASCII.
 #[tactic(auto, using(crate::proofs::RouteLaws::ascii_is_text))]
 pub(crate) fn ascii(bytes: &[u8]) -> Option<&str>
-    ensures { option_map (λ text. text.now) result
-        ≡ (if list_all is_ascii bytes.now then Some bytes.now else None) }
+    ensures { option_map (λ text. text.now) result ≡ ascii_text bytes.now }
 {
     if !is_ascii(bytes) {
         return None;

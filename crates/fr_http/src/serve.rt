@@ -1,11 +1,11 @@
 //! Serves one connection: takes its demand, asks the register, and writes the reply.
-ghost use Rattle.std.specs.Prelude.{◌≡◌, ◌≤◌, Err, IfOk, IfErr, OnOk, OnErr, true, false};
+ghost use Rattle.std.specs.Prelude.{◌≡◌, ◌≤◌, IfErr, OnOk, false};
 ghost use Rattle.std.specs.List.{list_any};
-ghost use Rattle.std.specs.Io.KnownBytes.{Appends};
-ghost use Rattle.fr_http.specs.Connection.{AppendsFront, HasAnswered, HasSent, HasTaken, IsConnection, WasFlushed};
+ghost use Rattle.fr_http.specs.Calls.{ReadsAndWrites, WritesTo};
+ghost use Rattle.fr_http.specs.Connection.{HasAnswered, HasTaken, Invites, IsConnection, Sends, WasFlushed, WritesText};
 ghost use Rattle.fr_http.specs.Exchanges.{was_asked};
-ghost use Rattle.fr_http.specs.Outcome.{continue_if, continue_reply, due, is_continue};
-ghost use Rattle.fr_http.specs.Reads.{IsReadWithin, MayEnd, MayEndAsking, Spends};
+ghost use Rattle.fr_http.specs.Outcome.{due, is_continue};
+ghost use Rattle.fr_http.specs.Reads.{IsReadWithin, MayEnd, MayEndAsking, SpendsReads};
 
 use crate::asking::{Demand, actor, asked_matter};
 use crate::body::read_body;
@@ -67,18 +67,13 @@ fn serve<R: Source, W: Sink, D: Desk>(
     desk: &mut D,
 ) -> Result<Served, LinkFault>
     ensures falls { D.clean desk.new → D.clean desk.old }
-    ensures served { IsConnection (D.clean desk.new) (D.stands desk.old) (D.stands desk.new)
-        (R.remaining input.old.reader.now) (R.remaining input.new.reader.now)
-        (W.contents output.old.writer.now) (W.contents output.new.writer.now) result }
+    ensures served { ReadsAndWrites R.Read W.Write
+        (IsConnection (D.clean desk.new) (D.stands desk.old) (D.stands desk.new))
+        input.old input.new output.old output.new result }
     ensures stays { was_asked result ≡ false → desk.new ≡ desk.old }
-    ensures spends { Spends R.reads input.old.reader.now input.old.reads input.new.reader.now
-        input.new.reads }
-    ensures ended { IfErr result
-        (λ fault. MayEnd R.reads fault input.new.reader.now input.new.reads) }
+    ensures reads { SpendsReads R.reads (MayEnd R.reads) input.old input.new result }
     ensures flushed { OnOk result (WasFlushed W.flushes output.new.writer.now) }
-    ensures same_input { input.new.reader.ghost_name ≡ input.old.reader.ghost_name }
     ensures retries { output.new.retries ≤ output.old.retries }
-    ensures same_output { output.new.writer.ghost_name ≡ output.old.writer.ghost_name }
 {
     match take(alloc, input, output, desk) {
         Ok(demand) => answer(alloc, &demand, output, desk),
@@ -100,16 +95,10 @@ fn take<R: Source, W: Sink, D: Desk>(
     output: &mut Output<'_, W>,
     desk: &D,
 ) -> Result<Demand, Unasked>
-    ensures taken { HasTaken (D.stands desk.now) (R.remaining input.old.reader.now)
-        (R.remaining input.new.reader.now) (W.contents output.old.writer.now)
-        (W.contents output.new.writer.now) result }
-    ensures spends { Spends R.reads input.old.reader.now input.old.reads input.new.reader.now
-        input.new.reads }
-    ensures ended { IfErr result
-        (λ unasked. MayEndAsking R.reads unasked input.new.reader.now input.new.reads) }
-    ensures same_input { input.new.reader.ghost_name ≡ input.old.reader.ghost_name }
+    ensures taken { ReadsAndWrites R.Read W.Write (HasTaken (D.stands desk.now))
+        input.old input.new output.old output.new result }
+    ensures reads { SpendsReads R.reads (MayEndAsking R.reads) input.old input.new result }
     ensures retries { output.new.retries ≤ output.old.retries }
-    ensures same_output { output.new.writer.ghost_name ≡ output.old.writer.ghost_name }
 {
     let received = receive(alloc, input)?;
     let plan = make_plan(alloc, &received)?;
@@ -126,14 +115,8 @@ fn invite<W: Sink>(
     plan: &Plan<'_>,
     output: &mut Output<'_, W>,
 ) -> Result<(), LinkFault>
-    ensures ok { OnOk result (Appends (W.contents output.old.writer.now)
-        (W.contents output.new.writer.now) (continue_if (due plan.now.length received.now.0))) }
-    ensures err { IfErr result (λ fault. (fault ≡ LinkFault.WriteFailed false)
-        × (due plan.now.length received.now.0 ≡ true)
-        × AppendsFront (W.contents output.old.writer.now) (W.contents output.new.writer.now)
-        continue_reply) }
+    ensures sent { WritesTo W.Write (Invites plan.now received.now.0) output.old output.new result }
     ensures retries { output.new.retries ≤ output.old.retries }
-    ensures same { output.new.writer.ghost_name ≡ output.old.writer.ghost_name }
 {
     if is_due(received, plan.length) {
         write(b"HTTP/1.1 100 Continue\r\n\r\n", output, false)
@@ -171,11 +154,11 @@ fn answer<W: Sink, D: Desk>(
     desk: &mut D,
 ) -> Result<Served, LinkFault>
     ensures falls { D.clean desk.new → D.clean desk.old }
-    ensures answered { HasAnswered (D.clean desk.new) (D.stands desk.old) (D.stands desk.new)
-        demand.now (W.contents output.old.writer.now) (W.contents output.new.writer.now) result }
+    ensures answered { WritesTo W.Write
+        (HasAnswered (D.clean desk.new) (D.stands desk.old) (D.stands desk.new) demand.now)
+        output.old output.new result }
     ensures flushed { OnOk result (WasFlushed W.flushes output.new.writer.now) }
     ensures retries { output.new.retries ≤ output.old.retries }
-    ensures same { output.new.writer.ghost_name ≡ output.old.writer.ghost_name }
 {
     send(deal(alloc, demand, desk), output, true)
 }
@@ -186,14 +169,9 @@ fn send<W: Sink>(
     output: &mut Output<'_, W>,
     asked: bool,
 ) -> Result<Served, LinkFault>
-    ensures sent { IfOk reply (λ r.
-        HasSent r asked (W.contents output.old.writer.now) (W.contents output.new.writer.now)
-        result) }
-    ensures none { OnErr reply ((result ≡ Err (LinkFault.NoMemory asked))
-        × (W.contents output.new.writer.now ≡ W.contents output.old.writer.now)) }
+    ensures sent { WritesTo W.Write (Sends reply asked) output.old output.new result }
     ensures flushed { OnOk result (WasFlushed W.flushes output.new.writer.now) }
     ensures retries { output.new.retries ≤ output.old.retries }
-    ensures same { output.new.writer.ghost_name ≡ output.old.writer.ghost_name }
 {
     let reply = reply.map_err(|_| LinkFault::NoMemory { asked })?;
     write(&reply.bytes, output, asked)?;
@@ -205,14 +183,10 @@ fn send<W: Sink>(
 
 // Writes all the bytes, and hands them on.
 fn write<W: Sink>(bytes: &[u8], output: &mut Output<'_, W>, asked: bool) -> Result<(), LinkFault>
-    ensures ok { OnOk result (Appends (W.contents output.old.writer.now)
-        (W.contents output.new.writer.now) bytes.now) }
-    ensures err { IfErr result (λ fault. (fault ≡ LinkFault.WriteFailed asked)
-        × AppendsFront (W.contents output.old.writer.now) (W.contents output.new.writer.now)
-        bytes.now) }
+    ensures written { WritesTo W.Write (WritesText bytes.now) output.old output.new result }
+    ensures fault { IfErr result (λ fault. fault ≡ LinkFault.WriteFailed asked) }
     ensures flushed { OnOk result (WasFlushed W.flushes output.new.writer.now) }
     ensures retries { output.new.retries ≤ output.old.retries }
-    ensures same { output.new.writer.ghost_name ≡ output.old.writer.ghost_name }
 {
     match write_out(bytes, output) {
         Ok(()) => Ok(()),
@@ -222,13 +196,9 @@ fn write<W: Sink>(bytes: &[u8], output: &mut Output<'_, W>, asked: bool) -> Resu
 
 // Writes all the bytes, and hands them on.
 fn write_out<W: Sink>(bytes: &[u8], output: &mut Output<'_, W>) -> Result<(), WriteFailed>
-    ensures ok { OnOk result (Appends (W.contents output.old.writer.now)
-        (W.contents output.new.writer.now) bytes.now) }
-    ensures err { OnErr result (AppendsFront (W.contents output.old.writer.now)
-        (W.contents output.new.writer.now) bytes.now) }
+    ensures written { WritesTo W.Write (WritesText bytes.now) output.old output.new result }
     ensures flushed { OnOk result (WasFlushed W.flushes output.new.writer.now) }
     ensures retries { output.new.retries ≤ output.old.retries }
-    ensures same { output.new.writer.ghost_name ≡ output.old.writer.ghost_name }
 {
     output.write_all(bytes)?;
     output.flush()

@@ -9,7 +9,7 @@ pub trait Source: Read {
     ghost use Rattle.std.specs.Io.KnownBytes.{ReadConsumes};
     ghost use Rattle.std.specs.declared.io.Error.{Error};
 
-    /// So a read may go, with the piece then and what it gives.
+    /// What a read may come to: the piece after it, its result, and the source after it.
     ghost reads: { Self → List ℕ → Result ℕ Error → Self → Type 0 };
 
     /// One read.

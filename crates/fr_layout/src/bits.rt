@@ -9,21 +9,21 @@ ghost use Rattle.fr_layout.specs.Used.{IsShared};
 
 use fr_base::{Order, Signal};
 
-/// The payload bit `position` with the bits of its byte counted from the other end. In big order the
-/// bits of a signal, most significant first, rise by one in this count.
-fn mirrored(position: usize) -> usize
+/// The bit's position, counted within its byte from the other end. In big order a signal's bits,
+/// most significant first, are then consecutive.
+fn mirror(position: usize) -> usize
     ensures { result ≡ mirror position }
 {
     position / 8 * 8 + (7 - position % 8)
 }
 
-/// The position in the count in which the signal's bits rise by one.
+/// The bit's position, counted so that the bits of a signal in this order are consecutive.
 fn along(order: Order, position: usize) -> usize
     ensures { result ≡ along order position }
 {
     match order {
         Order::Little => position,
-        Order::Big => mirrored(position),
+        Order::Big => mirror(position),
     }
 }
 
@@ -36,7 +36,7 @@ pub(crate) fn position(signal: Signal, index: u32) -> usize
     let index = index as usize;
     match signal.order() {
         Order::Little => start + index,
-        Order::Big => mirrored(mirrored(start) + (signal.length() as usize - 1 - index)),
+        Order::Big => mirror(mirror(start) + (signal.length() as usize - 1 - index)),
     }
 }
 

@@ -1,6 +1,6 @@
 //! The layout of a frame's payload: its signals, added and removed, and their values packed and unpacked.
 ghost use Rattle.std.specs.Prelude.{◌≡◌, ◌≤◌, [], Ok, Err, None, IsTrue, IfErr, IfOk, IsOk, MatchResult, OnErr, OnOk};
-ghost use Rattle.fr_base.specs.Layouts.{add_signal, bit_taken, first_taken_bit, IsLayout, lies_inside, remove_signal};
+ghost use Rattle.fr_base.specs.Layouts.{add_signal, bit_taken, first_taken_bit, has_signal, IsLayout, lies_inside, remove_signal};
 ghost use Rattle.fr_base.specs.declared.refusal.Refusal.TheVariants.{Unavailable};
 ghost use Rattle.fr_layout.specs.Packing.{FailsAs, packed, unpacked};
 ghost use Rattle.fr_layout.specs.declared.pack_fault.PackFault.TheVariants.{NoMemory};
@@ -8,7 +8,7 @@ ghost use Rattle.fr_layout.specs.declared.pack_fault.PackFault.TheVariants.{NoMe
 use crate::bits::lies_inside;
 use crate::pack_fault::PackFault;
 use crate::signals::{
-    first_after, first_too_large, has_signal, image, index_of, least_taken, user_of, values_in,
+    first_after, first_too_large, image, index_of, least_taken, user_of, values_in,
 };
 use fr_base::{Name, NoMemory, Refusal, Signal};
 use std::alloc::Global;
@@ -83,6 +83,13 @@ impl Layout {
         self.signals.as_slice()
     }
 
+    /// Whether a signal has this name.
+    pub fn has_signal(&self, name: Name) -> bool
+        ensures { result ≡ has_signal self.now.signals name }
+    {
+        self.signals.iter().any(|signal| signal.name() == name)
+    }
+
     /// Whether `add` would take the signal. If not: `Exists` where a signal has its name, `Limit` where
     /// there are 64, `OutOfPayload` where one of its bits lies past the payload, `BitTaken` with the
     /// least bit that a signal uses and that signal's name; the first of these that applies.
@@ -90,7 +97,7 @@ impl Layout {
         ensures { MatchResult result (λ _. IsOk (add_signal self.now signal.now))
             (λ e. add_signal self.now signal.now ≡ Err e) }
     {
-        if has_signal(&self.signals, signal.name()) {
+        if self.has_signal(signal.name()) {
             return Err(Refusal::Exists);
         }
         if self.signals.len() >= MAX_SIGNALS {

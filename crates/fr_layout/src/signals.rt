@@ -3,7 +3,7 @@ ghost use Rattle.std.specs.Prelude.{◌≡◌, ◌==◌, ◌<◌, ◌≤◌, ◌
 ghost use Rattle.std.specs.Option.{option_map_or};
 ghost use Rattle.std.specs.Str.{bytes_eq};
 ghost use Rattle.fr_base.specs.Bits.{bits_of, image, payload_bit, uses, value_in};
-ghost use Rattle.fr_base.specs.Layouts.{AreApart, has_signal, lies_inside, user_of};
+ghost use Rattle.fr_base.specs.Layouts.{AreApart, lies_inside, user_of};
 ghost use Rattle.fr_layout.specs.Least.{IsLeast};
 ghost use Rattle.fr_layout.specs.Packing.{first_too_large};
 ghost use Rattle.fr_layout.specs.Used.{IsTaken};
@@ -12,13 +12,6 @@ use crate::bits::{least_shared, uses};
 use crate::payload::{read, write};
 use fr_base::{Name, NoMemory, Signal};
 use std::alloc::Global;
-
-/// Whether a signal has this name.
-pub(crate) fn has_signal(signals: &[Signal], name: Name) -> bool
-    ensures { result ≡ has_signal signals.now name }
-{
-    signals.iter().any(|signal| signal.name() == name)
-}
 
 /// The signal that uses the payload bit.
 pub(crate) fn user_of(signals: &[Signal], position: usize) -> Option<Signal>

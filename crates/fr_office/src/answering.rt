@@ -1,7 +1,5 @@
 //! How one request is answered: who asks, its check, and its effect.
 ghost use Rattle.std.specs.Prelude.{◌≡◌, Err, IsTrue, MatchResult, Ok};
-ghost use Rattle.std.specs.List.{list_any};
-ghost use Rattle.fr_base.specs.Names.{same_text};
 ghost use Rattle.fr_base.specs.Step.{knows};
 ghost use Rattle.fr_office.specs.Answering.{Answers, AnswersAsk, CarriesAct, HasPassed, is_known};
 
@@ -14,7 +12,7 @@ use crate::lender::Lender;
 use crate::queries::reply;
 use crate::replacing::replace;
 use crate::trials::try_file;
-use fr_base::{Actor, Answer, Ask, Checked, Command, Config, Name, Refusal, Supplier, check};
+use fr_base::{Actor, Answer, Ask, Checked, Command, Config, Refusal, check};
 use fr_world::Records;
 use std::alloc::Global;
 
@@ -37,8 +35,8 @@ pub fn answer<R: Lender>(alloc: Global, records: &mut R, ask: &Ask) -> Answer
     }
 }
 
-/// What a request is answered while the records are not to be had: it is refused, as a step may refuse it, or as
-/// `Unavailable`, only where who asks is there and nothing in the request itself refuses it.
+/// The refusal that answers a request while the records cannot be read: `UnknownKey` where who asks is not there; then what
+/// the request's own text refuses; else `Unavailable`.
 pub fn decline<R: Records>(records: &R, ask: &Ask) -> Answer
     ensures refused { (refusal : Refusal) × (result ≡ Answer.Refused refusal) }
     ensures answers { Answers (R.stands records.now) (R.stands records.now) ask.now result }
@@ -59,22 +57,8 @@ pub(crate) fn is_known(config: &Config, actor: &Actor) -> bool
 {
     match actor {
         Actor::Integrator => true,
-        Actor::Supplier(supplier) => has_supplier(config, *supplier),
+        Actor::Supplier(supplier) => config.has_supplier(*supplier),
     }
-}
-
-/// Whether the supplier is there.
-pub(crate) fn has_supplier(config: &Config, supplier: Name) -> bool
-    ensures { result ≡ list_any (λ s. same_text supplier s.name) config.now.suppliers }
-{
-    is_named(config.suppliers(), supplier)
-}
-
-// Whether one of the suppliers has this name.
-fn is_named(suppliers: &[Supplier], name: Name) -> bool
-    ensures { result ≡ list_any (λ s. same_text name s.name) suppliers.now }
-{
-    suppliers.iter().any(|supplier| name == supplier.name)
 }
 
 // Carries out a request that was checked under the cluster's parameters. Its sender is there.

@@ -36,9 +36,9 @@ impl Kept {
         }
     }
 
-    /// Follows the register's edits. The page that is lent takes those of its rows, one after
-    /// another. Where memory is refused it is let go; when else, no clause says. Other pages that the edits may change are let
-    /// go too.
+    /// Follows the register's edits. Those of the lent page's rows are made in it, one after another.
+    /// Where memory is refused the page is let go; the clauses allow that wherever an edit may change
+    /// it. Other pages that the edits may change are let go.
     pub(crate) fn follow(&mut self, alloc: Global, edits: &[Edit])
         requires takes { IfSome self.old.pages.lent (λ page. TakesAll page edits.now) }
         ensures lent { FollowsAll edits.now self.old.pages.lent self.new.pages.lent }

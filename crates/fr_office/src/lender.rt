@@ -38,9 +38,9 @@ pub trait Lender: Records {
         requires { IsSome (lent self.now) }
         ensures { lent self.now ≡ Some result.now };
 
-    /// Carries out the edits as `apply` does. They are such as the page that is lent takes, one after another, but for those
-    /// that keep an import. It is lent then with the edits made in it; or let go, as where memory is refused, if an edit may
-    /// change it. After an error it is lent as it was.
+    /// Carries out the edits as `apply` does. The page that is lent has to take them, one after another, but for those that
+    /// keep an import. Afterwards it is lent with the edits made in it. Where an edit may change it, it may be let go instead,
+    /// as where memory is refused. After an error it is lent as it was.
     fn change(&mut self, alloc: Global, edits: &[Edit]) -> Result<(), Refusal>
         requires takes { IfSome (lent self.old) (λ page. TakesAll page edits.now) }
         ensures carries { CarriesEdits Self.Records edits.now self.old self.new result }
@@ -48,8 +48,8 @@ pub trait Lender: Records {
             (λ _. FollowsAll edits.now (lent self.old) (lent self.new))
             (λ _. lent self.new ≡ lent self.old) };
 
-    /// Carries out the edits as `apply` does. They lead from the page that is lent to this one, so that no edit has to be made
-    /// in a page once more. This one is lent then. After an error it is the one before.
+    /// Carries out the edits as `apply` does. They lead from the page that is lent to `page`. Afterwards `page` is lent, and no
+    /// edit has to be made in it. After an error the page before is still lent, as it was.
     fn change_to(&mut self, alloc: Global, edits: &[Edit], page: Page) -> Result<(), Refusal>
         requires lent { IsSome (lent self.old) }
         requires leads { IfSome (lent self.old) (λ before. LeadsTo before edits.now page) }

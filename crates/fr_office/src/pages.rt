@@ -103,9 +103,9 @@ impl Pages {
         recent.or(earlier)
     }
 
-    /// Puts the page that was lent among the pages that were used before it. Where these take too
-    /// much then, those that were used before them are let go. Where memory is refused, the page is
-    /// given up.
+    /// Puts the page that was lent on the shelf of the pages that were used before it. Where that shelf
+    /// has no room for it, first the other shelf is emptied and the two change places. Where memory is
+    /// refused, the page is given up.
     pub(crate) fn put_away(&mut self) -> Result<(), NoMemory>
         ensures ok { OnOk result (self.new ≡ put_away self.old) }
         ensures err { OnErr result (self.new ≡ given_up self.old) }
@@ -168,12 +168,12 @@ impl Pages {
         ensures others { none_lent self.new ≡ kept_without supplier variant (none_lent self.old) }
     {
         let _ = self.take(supplier, variant);
-        self.lent = amended(self.lent.take(), alloc, edit);
+        self.lent = page_after(self.lent.take(), alloc, edit);
     }
 }
 
 // The page, if there is one, after the edit. Where memory is refused, the page is given up.
-fn amended(page: Option<Page>, alloc: Global, edit: &Edit) -> Option<Page>
+fn page_after(page: Option<Page>, alloc: Global, edit: &Edit) -> Option<Page>
     requires takes { IfSome page (λ page. Takes page.variant (own_rows_of page) edit.now) }
     ensures { Amends edit.now page result }
 {

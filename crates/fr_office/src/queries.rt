@@ -75,7 +75,7 @@ fn find_rows<R: Lender>(
         records.old records.new result }
 {
     match query {
-        Query::Register(inventory) => held(alloc, records, actor, *inventory),
+        Query::Register(inventory) => inventory_rows(alloc, records, actor, *inventory),
         Query::Variant { variant, report } => of_variant(alloc, records, actor, *variant, report),
         Query::Difference { variant, from } => {
             differences(alloc, records, actor, *variant, *from)
@@ -84,7 +84,7 @@ fn find_rows<R: Lender>(
 }
 
 // What the register holds, as the actor sees it.
-fn held<R: Lender>(
+fn inventory_rows<R: Lender>(
     alloc: Global,
     records: &mut R,
     actor: &Actor,

@@ -27,18 +27,18 @@ follows from step height (r ∷ rs) = (r.first.cycle == from) && (r.cycles == he
 
 -- whether there is one rectangle, of all cycles
 unfoldable pub is_whole : ℕ → List Rectangle → Bool
-is_whole cycles kind = (length kind == 1) && follows 0 1 cycles kind
+is_whole cycles same = (length same == 1) && follows 0 1 cycles same
 
 -- whether they are the cells of a base and a repetition in all cycles
 unfoldable pub is_set : ℕ → ℕ → ℕ → List Rectangle → Bool
-is_set cycles base repetition kind =
-    nat_lt 1 repetition && (repetition * length kind == cycles) && nat_lt base repetition && follows base repetition 1 kind
+is_set cycles base repetition same =
+    nat_lt 1 repetition && (repetition * length same == cycles) && nat_lt base repetition && follows base repetition 1 same
 
 -- the repetition, if the rectangles are exactly the cells of this base and a repetition
 unfoldable pub set_of : ℕ → ℕ → List Rectangle → Option ℕ
-set_of cycles base kind =
-    if is_whole cycles kind then Some 1
-    else if is_set cycles base (cycles / max (length kind) 1) kind then Some (cycles / max (length kind) 1)
+set_of cycles base same =
+    if is_whole cycles same then Some 1
+    else if is_set cycles base (cycles / max (length same) 1) same then Some (cycles / max (length same) 1)
     else None
 
 -- ---- their text
@@ -49,7 +49,7 @@ box_text y width height =
     together (codes "M0 " ∷ decimal y ∷ codes "h" ∷ decimal width ∷ codes "v" ∷ decimal height ∷ codes "h-" ∷ decimal width ∷ codes "z" ∷ [])
 
 unfoldable pub boxes_text : ℕ → List Rectangle → List ℕ
-boxes_text width kind = flat_map (λ r. box_text r.first.cycle width r.cycles) kind
+boxes_text width same = flat_map (λ r. box_text r.first.cycle width r.cycles) same
 
 -- the beginning of a title: frame; node and supplier; slot and channel
 unfoldable pub names_text : Sending → List ℕ
@@ -68,7 +68,7 @@ span_text cycle count =
     else together (codes " " ∷ decimal cycle ∷ codes "-" ∷ decimal (cycle + count - 1) ∷ [])
 
 unfoldable pub spans_text : List Rectangle → List ℕ
-spans_text kind = flat_map (λ r. span_text r.first.cycle r.cycles) kind
+spans_text same = flat_map (λ r. span_text r.first.cycle r.cycles) same
 
 -- the shape of a repetition, by the base further down
 unfoldable pub set_start : ℕ → ℕ → List ℕ
@@ -80,8 +80,8 @@ unfoldable pub set_text : ℕ → Rectangle → List ℕ
 set_text repetition r = set_start repetition r.first.cycle ++ names_text r.first ++ within_text r.first.cycle repetition ++ fixed_text UseEnd
 
 unfoldable pub path_text : ℕ → List Rectangle → Rectangle → List ℕ
-path_text width kind r =
-    fixed_text PathStart ++ boxes_text width kind ++ fixed_text QuoteEnd ++ names_text r.first ++ fixed_text CyclesStart ++ spans_text kind ++ fixed_text PathEnd
+path_text width same r =
+    fixed_text PathStart ++ boxes_text width same ++ fixed_text QuoteEnd ++ names_text r.first ++ fixed_text CyclesStart ++ spans_text same ++ fixed_text PathEnd
 
 -- the frame's name, across or down, where it has room
 unfoldable pub label_text : ℕ → Rectangle → List ℕ
@@ -92,17 +92,17 @@ label_text width r =
     then together (codes "<text class=v y=" ∷ decimal r.first.cycle ∷ codes ">" ∷ r.first.frame ∷ codes "</text>" ∷ [])
     else []
 
-unfoldable pub kind_shape : ℕ → List Rectangle → Rectangle → Option ℕ → List ℕ
-kind_shape width kind r (Some repetition) = set_text repetition r
-kind_shape width kind r None = path_text width kind r
+unfoldable pub shape_text : ℕ → List Rectangle → Rectangle → Option ℕ → List ℕ
+shape_text width same r (Some repetition) = set_text repetition r
+shape_text width same r None = path_text width same r
 
 -- the rectangles of one frame, of which r is the first
-unfoldable pub kind_text : Scale → List Rectangle → Rectangle → List ℕ
-kind_text scale kind r = kind_shape scale.width kind r (set_of scale.cycles r.first.cycle kind) ++ label_text scale.width r
+unfoldable pub same_frame_text : Scale → List Rectangle → Rectangle → List ℕ
+same_frame_text scale same r = shape_text scale.width same r (set_of scale.cycles r.first.cycle same) ++ label_text scale.width r
 
 -- all rectangles of the frame, where r is the first of them
 unfoldable pub rectangle_text : Scale → List Rectangle → Rectangle → List ℕ
-rectangle_text scale all r = if was_drawn all r then [] else kind_text scale (filter (λ other. is_of_same_frame other r) all) r
+rectangle_text scale all r = if was_drawn all r then [] else same_frame_text scale (filter (λ other. is_of_same_frame other r) all) r
 
 unfoldable pub rectangles_text : Scale → List Rectangle → List ℕ
 rectangles_text scale all = flat_map (rectangle_text scale all) all

@@ -1,4 +1,4 @@
--- Text of a lane: the slot's number, a gap, the holder's mark above and below the lane, and the lane's kinds. A part of
+-- Text of a lane: the slot's number, a gap, the holder's mark above and below the lane, and its rectangles. A part of
 -- the drawing has its heading.
 use Rattle.std.specs.Prelude.{ℕ, ◌%◌, ◌==◌, ◌&&◌, Bool, false, length, List, [], ◌∷◌, ◌++◌, codes, decimal, Option, Some, None, if◌then◌else◌}
 use Rattle.std.specs.List.{flat_map}

@@ -1,5 +1,6 @@
--- Reports: the answer to a request for a report. The rows that were read are those of the answer;
--- or why they may be refused. The register stands for the same book as before.
+-- Reports: what a call on a register comes to, in a record. The answer to a request for a report.
+-- The rows that were read are those of the answer; or why they may be refused. The register stands
+-- for the same book as before.
 use Rattle.std.specs.Prelude.{◌≡◌, ◌⊎◌, ℕ, Bool, List, [], ◌∷◌, Result, MatchResult}
 use Rattle.fr_base.specs.Book.{Book}
 use Rattle.fr_base.specs.Cluster.{Cluster}
@@ -16,6 +17,7 @@ use Rattle.fr_base.specs.declared.answer.Sending.{Sending}
 use Rattle.fr_base.specs.declared.answer.GapRow.{GapRow}
 use Rattle.fr_base.specs.declared.answer.SignalRow.{SignalRow}
 use Rattle.fr_base.specs.declared.answer.VariantRow.{VariantRow}
+use Rattle.fr_base.specs.declared.desk.Desk as Desk
 use Rattle.fr_base.specs.declared.query.Inventory.TheVariants.{Variants}
 use Rattle.fr_base.specs.declared.query.Query.TheVariants.{Register, Variant}
 use Rattle.fr_base.specs.declared.refusal.Refusal.{Refusal}
@@ -27,6 +29,12 @@ use Rattle.fr_base.specs.declared.request.Request.TheVariants.{Query}
 -- the books for which a register stands, each in a cluster
 abbrev pub Standing : Type 1
 Standing = Cluster → Book → Type 0
+
+-- A call asks a register. This is so of whether it is clean now, of what it stood for, of what it stands for, and of what the call
+-- gives. It was clean before if it is now.
+pub record AsksDesk {D X : Type 0} (desk : Desk.Ghosts D) (Does : Type 0 → Standing → Standing → X → Type 0) (old new : D) (given : X) : Type 0 where
+  pub does : Does (desk.clean new) (desk.stands old) (desk.stands new) given
+  pub falls : desk.clean new → desk.clean old
 
 -- the answer to a request
 abbrev pub answer_to : Cluster → Book → Actor → Request → Answer
@@ -73,6 +81,15 @@ Reads old new r Is May = (c : Cluster) (b : Book) → old c b → IsSound c b �
 abbrev pub Reports : {X : Type 0} → Standing → Standing → Actor → Request → (Bool → X → Answer) → Result X Refusal → Type 0
 Reports old new actor request kind r =
     Reads old new r (λ c b rows. (all : Bool) × (answer_to c b actor request ≡ kind all rows)) (λ c b e. MayRefuse (answer_to c b actor request) e)
+
+-- As long as the register is clean, this was read of it, or it is refused for this.
+abbrev pub GivesRead : {X : Type 0} → (Cluster → Book → X → Type 0) → (Cluster → Book → Refusal → Type 0) → Type 0 → Standing → Standing → Result X Refusal → Type 0
+GivesRead Is May clean old new r = clean → Reads old new r Is May
+
+-- As long as the register is clean, these are the rows of the answer to a request of this kind, or
+-- why there are none.
+abbrev pub GivesRows : {X : Type 0} → Actor → Request → (Bool → X → Answer) → Type 0 → Standing → Standing → Result X Refusal → Type 0
+GivesRows actor request kind clean old new r = clean → Reports old new actor request kind r
 
 -- In a sound book the request was answered by one step, or it is Unavailable where it may be. The
 -- register stands for the book after it.

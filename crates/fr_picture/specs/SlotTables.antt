@@ -18,25 +18,25 @@ unfoldable pub load_of : List Rectangle → ℕ
 load_of rectangles = fold (λ n r. min (n + r.cycles) (2 ^ 64 - 1)) 0 rectangles
 
 -- whether something is sent in an earlier cycle of the lane
-unfoldable pub is_later : List Rectangle → Rectangle → Bool
-is_later all r = list_any (λ other. nat_lt other.first.cycle r.first.cycle) all
+unfoldable pub stands_behind_another : List Rectangle → Rectangle → Bool
+stands_behind_another all r = list_any (λ other. nat_lt other.first.cycle r.first.cycle) all
 
 -- ---- its text
 
 unfoldable pub comma_text : List Rectangle → Rectangle → List ℕ
-comma_text all r = if is_later all r then fixed_text Comma else []
+comma_text all r = if stands_behind_another all r then fixed_text Comma else []
 
 -- the cycles in which a frame is sent: base and repetition, or the cycles themselves
 unfoldable pub when_text : List Rectangle → Rectangle → Option ℕ → List ℕ
-when_text kind r (Some repetition) = within_text r.first.cycle repetition
-when_text kind r None = fixed_text CyclesStart ++ spans_text kind
+when_text same r (Some repetition) = within_text r.first.cycle repetition
+when_text same r None = fixed_text CyclesStart ++ spans_text same
 
 unfoldable pub frame_text : Name → List ℕ
 frame_text frame = together (codes " " ∷ frame ∷ [])
 
 -- the text of a frame, where r is its first rectangle
 unfoldable pub turn_text : ℕ → List Rectangle → Rectangle → List ℕ
-turn_text cycles kind r = when_text kind r (set_of cycles r.first.cycle kind) ++ frame_text r.first.frame
+turn_text cycles same r = when_text same r (set_of cycles r.first.cycle same) ++ frame_text r.first.frame
 
 unfoldable pub sent_text : ℕ → List Rectangle → Rectangle → List ℕ
 sent_text cycles all r = if was_drawn all r then [] else comma_text all r ++ turn_text cycles (filter (λ other. is_of_same_frame other r) all) r

@@ -4,7 +4,7 @@ ghost use Rattle.std.specs.Prelude.{◌≡◌, map, IfOk};
 ghost use Rattle.fr_base.specs.declared.refusal.Refusal.TheVariants.{Unavailable};
 ghost use Rattle.fr_picture.specs.Strips.{HasItsBits};
 ghost use Rattle.fr_picture.specs.Frames.{AreDrawn, AreDrawnOf, AreFrames, AreSignals, IsDrawn, MayRefusePlan};
-ghost use Rattle.fr_picture.specs.Reports.{Reads};
+ghost use Rattle.fr_picture.specs.Reports.{AsksDesk, GivesRead};
 
 use crate::frame_table::{DrawnFrame, worst_first};
 use crate::reports::{View, copy, frame_rows, gaps, signal_rows};
@@ -19,10 +19,10 @@ pub(crate) fn frames<D: Desk>(
     desk: &mut D,
     view: &View<'_>,
 ) -> Result<Vec<DrawnFrame>, Refusal>
-    ensures falls { D.clean desk.new → D.clean desk.old }
-    ensures reads { D.clean desk.new → Reads (D.stands desk.old) (D.stands desk.new) result
+    ensures { AsksDesk D.Desk (GivesRead
         (λ c b frames. AreFrames c b view.now.reader view.now.variant.now frames.items)
-        (λ c b e. MayRefusePlan c b view.now.reader view.now.variant.now e) }
+        (λ c b e. MayRefusePlan c b view.now.reader view.now.variant.now e))
+        desk.old desk.new result }
 {
     let rows = frame_rows(alloc, desk, view)?;
     frames_of(alloc, desk, view, rows.as_slice())
@@ -35,10 +35,10 @@ fn frames_of<D: Desk>(
     view: &View<'_>,
     rows: &[FrameRow],
 ) -> Result<Vec<DrawnFrame>, Refusal>
-    ensures falls { D.clean desk.new → D.clean desk.old }
-    ensures reads { D.clean desk.new → Reads (D.stands desk.old) (D.stands desk.new) result
+    ensures { AsksDesk D.Desk (GivesRead
         (λ c b frames. AreDrawnOf c b view.now.reader view.now.variant.now rows.now frames.items)
-        (λ c b e. MayRefusePlan c b view.now.reader view.now.variant.now e) }
+        (λ c b e. MayRefusePlan c b view.now.reader view.now.variant.now e))
+        desk.old desk.new result }
 {
     let gaps = gaps(alloc, desk, view)?;
     let mut frames = draw_frames(alloc, desk, view.variant, rows, gaps.as_slice())?;
@@ -54,11 +54,10 @@ fn draw_frames<D: Desk>(
     rows: &[FrameRow],
     gaps: &[GapRow],
 ) -> Result<Vec<DrawnFrame>, Refusal>
-    ensures falls { D.clean desk.new → D.clean desk.old }
-    ensures reads { D.clean desk.new
-        → Reads (D.stands desk.old) (D.stands desk.new) result
+    ensures { AsksDesk D.Desk (GivesRead
         (λ c b frames. AreDrawn c b variant.now rows.now gaps.now frames.items)
-        (λ c b e. e ≡ Unavailable) }
+        (λ c b e. e ≡ Unavailable))
+        desk.old desk.new result }
 {
     let mut frames = Vec::new(alloc);
     for (place, row) in rows.iter().enumerate() {
@@ -85,9 +84,9 @@ fn draw_frame<D: Desk>(
     row: &FrameRow,
     gap: Option<u32>,
 ) -> Result<DrawnFrame, Refusal>
-    ensures falls { D.clean desk.new → D.clean desk.old }
-    ensures reads { D.clean desk.new → Reads (D.stands desk.old) (D.stands desk.new) result
-        (λ c b frame. IsDrawn c b variant.now row.now gap frame) (λ c b e. e ≡ Unavailable) }
+    ensures { AsksDesk D.Desk (GivesRead
+        (λ c b frame. IsDrawn c b variant.now row.now gap frame) (λ c b e. e ≡ Unavailable))
+        desk.old desk.new result }
 {
     let signals = draw_signals(alloc, desk, variant, row)?;
     let row = copy_row(alloc, row)?;
@@ -102,19 +101,19 @@ fn draw_signals<D: Desk>(
     variant: &str,
     row: &FrameRow,
 ) -> Result<Rows<DrawnSignal>, Refusal>
-    ensures falls { D.clean desk.new → D.clean desk.old }
-    ensures reads { D.clean desk.new → Reads (D.stands desk.old) (D.stands desk.new) result
-        (λ c b signals. AreSignals c b variant.now row.now signals) (λ c b e. e ≡ Unavailable) }
+    ensures { AsksDesk D.Desk (GivesRead
+        (λ c b signals. AreSignals c b variant.now row.now signals) (λ c b e. e ≡ Unavailable))
+        desk.old desk.new result }
 {
     let frame = Text::copy(alloc, row.frame.as_str())?;
     match signal_rows(alloc, desk, row.supplier, variant, frame) {
-        Ok(rows) => Ok(drawn(alloc, rows.as_slice())?),
+        Ok(rows) => Ok(draw_rows(alloc, rows.as_slice())?),
         Err(_) => Err(Refusal::Unavailable),
     }
 }
 
 // The drawn signals of these rows.
-fn drawn(alloc: Global, rows: &[SignalRow]) -> Result<Rows<DrawnSignal>, NoMemory>
+fn draw_rows(alloc: Global, rows: &[SignalRow]) -> Result<Rows<DrawnSignal>, NoMemory>
     ensures signals { IfOk result
         (λ signals. map (λ s. s.signal) signals ≡ map (λ r. r.signal) rows.now) }
     ensures bits { IfOk result (λ signals. All HasItsBits signals) }

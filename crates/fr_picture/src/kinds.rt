@@ -1,7 +1,7 @@
 //! The rectangles of one frame in a lane, drawn as one shape with one title.
 ghost use Rattle.std.specs.Prelude.{◌≡◌, ◌+◌, ◌*◌, ◌/◌, ◌<◌, ◌&&◌, nat_lt, filter, max, length, OnOk, IfOk};
 ghost use Rattle.std.specs.List.{list_any};
-ghost use Rattle.fr_picture.specs.Kinds.{box_text, boxes_text, follows, was_drawn, is_of_same_frame, is_set, is_whole, kind_shape, kind_text, label_text, names_text, path_text, rectangle_text, rectangles_text, set_of, set_start, set_text, span_text, spans_text, within_text};
+ghost use Rattle.fr_picture.specs.Kinds.{box_text, boxes_text, follows, was_drawn, is_of_same_frame, is_set, is_whole, shape_text, same_frame_text, label_text, names_text, path_text, rectangle_text, rectangles_text, set_of, set_start, set_text, span_text, spans_text, within_text};
 ghost use Rattle.fr_picture.specs.Texts.{Appends};
 
 use crate::drawing::{Rectangle, Scale};
@@ -25,16 +25,16 @@ pub(crate) fn of_same_frame(
     all: &[Rectangle],
     one: &Rectangle,
 ) -> Result<Vec<Rectangle>, NoMemory>
-    ensures { IfOk result (λ kind.
-        kind.items ≡ filter (λ other. is_of_same_frame other one.now) all.now) }
+    ensures { IfOk result (λ same.
+        same.items ≡ filter (λ other. is_of_same_frame other one.now) all.now) }
 {
-    let mut kind = Vec::new(alloc);
+    let mut same = Vec::new(alloc);
     for other in all {
         if is_of_same_frame(other, one) {
-            kind.push(*other)?;
+            same.push(*other)?;
         }
     }
-    Ok(kind)
+    Ok(same)
 }
 
 /// Whether a rectangle of the same frame as `one` stands in an earlier cycle of the lane.
@@ -48,11 +48,11 @@ pub(crate) fn was_drawn(all: &[Rectangle], one: &Rectangle) -> bool
 // Whether each rectangle has `height` cycles, the first begins in cycle `from`, and each next one
 // begins `step` cycles later.
 #[tactic(auto, unfolding(crate::specs::Kinds::follows))]
-fn follows(from: u32, step: u32, height: u32, kind: &[Rectangle]) -> bool
-    ensures { result ≡ follows from step height kind.now }
+fn follows(from: u32, step: u32, height: u32, same: &[Rectangle]) -> bool
+    ensures { result ≡ follows from step height same.now }
 {
     let mut next = u64::from(from);
-    for one in kind {
+    for one in same {
         if u64::from(one.first.cycle) != next || one.cycles != height {
             return false;
         }
@@ -64,18 +64,18 @@ fn follows(from: u32, step: u32, height: u32, kind: &[Rectangle]) -> bool
 /// The repetition, if the rectangles of one frame are exactly the cells of this base and a
 /// repetition.
 #[tactic(auto, unfolding(crate::specs::Kinds::set_of, crate::specs::Kinds::is_set, crate::specs::Kinds::is_whole))]
-pub(crate) fn set_of(cycles: u32, base: u8, kind: &[Rectangle]) -> Option<u32>
-    ensures { result ≡ set_of cycles base kind.now }
+pub(crate) fn set_of(cycles: u32, base: u8, same: &[Rectangle]) -> Option<u32>
+    ensures { result ≡ set_of cycles base same.now }
 {
-    let count = kind.len() as u64;
-    if count == 1 && follows(0, 1, cycles, kind) {
+    let count = same.len() as u64;
+    if count == 1 && follows(0, 1, cycles, same) {
         return Some(1);
     }
     let repetition = (u64::from(cycles) / count.max(1)) as u32;
     if repetition > 1
         && u64::from(repetition) * count == u64::from(cycles)
         && u32::from(base) < repetition
-        && follows(u32::from(base), repetition, 1, kind)
+        && follows(u32::from(base), repetition, 1, same)
     {
         return Some(repetition);
     }
@@ -112,38 +112,38 @@ fn push_rectangle(
     if was_drawn(all, one) {
         return Ok(());
     }
-    let kind = of_same_frame(alloc, all, one)?;
-    push_kind(scale, kind.as_slice(), one, out)
+    let same = of_same_frame(alloc, all, one)?;
+    push_same_frame(scale, same.as_slice(), one, out)
 }
 
 // Appends the rectangles of one frame, of which `one` is the first.
-#[tactic(auto, unfolding(crate::specs::Kinds::kind_text))]
-fn push_kind(
+#[tactic(auto, unfolding(crate::specs::Kinds::same_frame_text))]
+fn push_same_frame(
     scale: Scale,
-    kind: &[Rectangle],
+    same: &[Rectangle],
     one: &Rectangle,
     out: &mut String,
 ) -> Result<(), NoMemory>
-    ensures { OnOk result (Appends out.old out.new (kind_text scale kind.now one.now)) }
+    ensures { OnOk result (Appends out.old out.new (same_frame_text scale same.now one.now)) }
 {
-    let repetition = set_of(scale.cycles, one.first.cycle, kind);
-    push_shape(scale.width, kind, one, repetition, out)?;
+    let repetition = set_of(scale.cycles, one.first.cycle, same);
+    push_shape(scale.width, same, one, repetition, out)?;
     push_label(scale.width, one, out)
 }
 
-#[tactic(auto, unfolding(crate::specs::Kinds::kind_shape))]
+#[tactic(auto, unfolding(crate::specs::Kinds::shape_text))]
 fn push_shape(
     width: u32,
-    kind: &[Rectangle],
+    same: &[Rectangle],
     one: &Rectangle,
     repetition: Option<u32>,
     out: &mut String,
 ) -> Result<(), NoMemory>
-    ensures { OnOk result (Appends out.old out.new (kind_shape width kind.now one.now repetition)) }
+    ensures { OnOk result (Appends out.old out.new (shape_text width same.now one.now repetition)) }
 {
     match repetition {
         Some(repetition) => push_set(repetition, one, out),
-        None => push_path(width, kind, one, out),
+        None => push_path(width, same, one, out),
     }
 }
 
@@ -195,26 +195,26 @@ fn push_names(cell: &Sending, out: &mut String) -> Result<(), NoMemory>
 #[tactic(auto, unfolding(crate::specs::Kinds::path_text))]
 fn push_path(
     width: u32,
-    kind: &[Rectangle],
+    same: &[Rectangle],
     one: &Rectangle,
     out: &mut String,
 ) -> Result<(), NoMemory>
-    ensures { OnOk result (Appends out.old out.new (path_text width kind.now one.now)) }
+    ensures { OnOk result (Appends out.old out.new (path_text width same.now one.now)) }
 {
     push_fixed(Fixed::PathStart, out)?;
-    push_boxes(width, kind, out)?;
+    push_boxes(width, same, out)?;
     push_fixed(Fixed::QuoteEnd, out)?;
     push_names(&one.first, out)?;
     push_fixed(Fixed::CyclesStart, out)?;
-    push_spans(kind, out)?;
+    push_spans(same, out)?;
     push_fixed(Fixed::PathEnd, out)
 }
 
 #[tactic(auto, unfolding(crate::specs::Kinds::boxes_text))]
-fn push_boxes(width: u32, kind: &[Rectangle], out: &mut String) -> Result<(), NoMemory>
-    ensures { OnOk result (Appends out.old out.new (boxes_text width kind.now)) }
+fn push_boxes(width: u32, same: &[Rectangle], out: &mut String) -> Result<(), NoMemory>
+    ensures { OnOk result (Appends out.old out.new (boxes_text width same.now)) }
 {
-    for one in kind {
+    for one in same {
         push_box(u32::from(one.first.cycle), width, one.cycles, out)?;
     }
     Ok(())
@@ -230,10 +230,10 @@ pub(crate) fn push_box(y: u32, width: u32, height: u32, out: &mut String) -> Res
 
 /// Appends the cycles of each rectangle: its cycle, or its first and its last one where it has more.
 #[tactic(auto, unfolding(crate::specs::Kinds::spans_text))]
-pub(crate) fn push_spans(kind: &[Rectangle], out: &mut String) -> Result<(), NoMemory>
-    ensures { OnOk result (Appends out.old out.new (spans_text kind.now)) }
+pub(crate) fn push_spans(same: &[Rectangle], out: &mut String) -> Result<(), NoMemory>
+    ensures { OnOk result (Appends out.old out.new (spans_text same.now)) }
 {
-    for one in kind {
+    for one in same {
         push_span(u64::from(one.first.cycle), u64::from(one.cycles), out)?;
     }
     Ok(())

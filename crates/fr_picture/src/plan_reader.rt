@@ -3,7 +3,7 @@
 ghost use Rattle.std.specs.Prelude.{◌≡◌, [], ◌∷◌, IfOk, IfSome, Contains, map};
 ghost use Rattle.fr_picture.specs.Frames.{MayRefusePlan};
 ghost use Rattle.fr_picture.specs.Plans.{IsListed, IsPlan, supplier_of, suppliers_seen};
-ghost use Rattle.fr_picture.specs.Reports.{Reads};
+ghost use Rattle.fr_picture.specs.Reports.{AsksDesk, GivesRead, Reads};
 
 use crate::drawn_frames::frames;
 use crate::plan::Plan;
@@ -39,10 +39,10 @@ pub fn read_plan<D: Desk>(alloc: Global, desk: &mut D, view: &View<'_>) -> Resul
 
 // The variant's row in the report of variants. A variant that has reports has such a row.
 fn variant_row<D: Desk>(alloc: Global, desk: &mut D, view: &View<'_>) -> Result<VariantRow, Refusal>
-    ensures falls { D.clean desk.new → D.clean desk.old }
-    ensures reads { D.clean desk.new → Reads (D.stands desk.old) (D.stands desk.new) result
+    ensures { AsksDesk D.Desk (GivesRead
         (λ c b row. IsListed c b view.now.reader row × (row.variant ≡ view.now.variant.now))
-        (λ c b e. MayRefusePlan c b view.now.reader view.now.variant.now e) }
+        (λ c b e. MayRefusePlan c b view.now.reader view.now.variant.now e))
+        desk.old desk.new result }
 {
     let rows = variants(alloc, desk, view.reader)?;
     match find(rows.as_slice(), view.variant) {

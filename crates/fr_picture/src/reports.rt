@@ -4,7 +4,7 @@ ghost use Rattle.fr_base.specs.declared.answer.Answer.TheVariants.{Report as Tol
 ghost use Rattle.fr_base.specs.declared.report.Report.TheVariants.{Grants, Frames, Schedule, Gaps, Layout};
 ghost use Rattle.fr_base.specs.declared.actor.Actor.TheVariants.{Supplier};
 ghost use Rattle.fr_base.specs.declared.request.Request.TheVariants.{Query as Queries};
-ghost use Rattle.fr_picture.specs.Reports.{Reports, asks, asks_variants, with_cells, with_frames, with_gaps, with_grants, with_signals, with_variants};
+ghost use Rattle.fr_picture.specs.Reports.{AsksDesk, GivesRows, asks, asks_variants, with_cells, with_frames, with_gaps, with_grants, with_signals, with_variants};
 
 use fr_base::{
     Actor, Ask, Desk, FrameRow, GapRow, GrantRow, Inventory, Name, NoMemory, Query, Refusal,
@@ -27,12 +27,10 @@ pub(crate) fn variants<D: Desk>(
     desk: &mut D,
     reader: Actor,
 ) -> Result<Rows<VariantRow>, Refusal>
-    ensures falls { D.clean desk.new → D.clean desk.old }
-    ensures reports { D.clean desk.new
-        → Reports (D.stands desk.old) (D.stands desk.new) reader asks_variants with_variants
-        result }
+    ensures { AsksDesk D.Desk (GivesRows reader asks_variants with_variants)
+        desk.old desk.new result }
 {
-    match found(alloc, desk, reader, Query::Register(Inventory::Variants))? {
+    match rows_of_query(alloc, desk, reader, Query::Register(Inventory::Variants))? {
         ReportRows::Variants(rows) => Ok(rows),
         _ => Err(Refusal::Unavailable),
     }
@@ -44,10 +42,9 @@ pub(crate) fn grants<D: Desk>(
     desk: &mut D,
     view: &View<'_>,
 ) -> Result<Rows<GrantRow>, Refusal>
-    ensures falls { D.clean desk.new → D.clean desk.old }
-    ensures reports { D.clean desk.new
-        → Reports (D.stands desk.old) (D.stands desk.new) view.now.reader
-        (asks view.now.variant.now Grants) with_grants result }
+    ensures { AsksDesk D.Desk
+        (GivesRows view.now.reader (asks view.now.variant.now Grants) with_grants)
+        desk.old desk.new result }
 {
     match report(alloc, desk, view.reader, view.variant, Report::Grants)? {
         ReportRows::Grants(rows) => Ok(rows),
@@ -61,10 +58,9 @@ pub(crate) fn schedule<D: Desk>(
     desk: &mut D,
     view: &View<'_>,
 ) -> Result<Rows<Sending>, Refusal>
-    ensures falls { D.clean desk.new → D.clean desk.old }
-    ensures reports { D.clean desk.new
-        → Reports (D.stands desk.old) (D.stands desk.new) view.now.reader
-        (asks view.now.variant.now Schedule) with_cells result }
+    ensures { AsksDesk D.Desk
+        (GivesRows view.now.reader (asks view.now.variant.now Schedule) with_cells)
+        desk.old desk.new result }
 {
     match report(alloc, desk, view.reader, view.variant, Report::Schedule)? {
         ReportRows::Schedule(rows) => Ok(rows),
@@ -78,10 +74,9 @@ pub(crate) fn gaps<D: Desk>(
     desk: &mut D,
     view: &View<'_>,
 ) -> Result<Rows<GapRow>, Refusal>
-    ensures falls { D.clean desk.new → D.clean desk.old }
-    ensures reports { D.clean desk.new
-        → Reports (D.stands desk.old) (D.stands desk.new) view.now.reader
-        (asks view.now.variant.now Gaps) with_gaps result }
+    ensures { AsksDesk D.Desk
+        (GivesRows view.now.reader (asks view.now.variant.now Gaps) with_gaps)
+        desk.old desk.new result }
 {
     match report(alloc, desk, view.reader, view.variant, Report::Gaps)? {
         ReportRows::Gaps(rows) => Ok(rows),
@@ -95,10 +90,9 @@ pub(crate) fn frame_rows<D: Desk>(
     desk: &mut D,
     view: &View<'_>,
 ) -> Result<Rows<FrameRow>, Refusal>
-    ensures falls { D.clean desk.new → D.clean desk.old }
-    ensures reports { D.clean desk.new
-        → Reports (D.stands desk.old) (D.stands desk.new) view.now.reader
-        (asks view.now.variant.now Frames) with_frames result }
+    ensures { AsksDesk D.Desk
+        (GivesRows view.now.reader (asks view.now.variant.now Frames) with_frames)
+        desk.old desk.new result }
 {
     match report(alloc, desk, view.reader, view.variant, Report::Frames)? {
         ReportRows::Frames(rows) => Ok(rows),
@@ -114,10 +108,9 @@ pub(crate) fn signal_rows<D: Desk>(
     variant: &str,
     frame: Text,
 ) -> Result<Rows<SignalRow>, Refusal>
-    ensures falls { D.clean desk.new → D.clean desk.old }
-    ensures reports { D.clean desk.new
-        → Reports (D.stands desk.old) (D.stands desk.new) (Supplier supplier)
-        (asks variant.now (Layout frame)) with_signals result }
+    ensures { AsksDesk D.Desk
+        (GivesRows (Supplier supplier) (asks variant.now (Layout frame)) with_signals)
+        desk.old desk.new result }
 {
     match report(
         alloc,
@@ -139,25 +132,21 @@ fn report<D: Desk>(
     variant: &str,
     report: Report<Text>,
 ) -> Result<ReportRows, Refusal>
-    ensures falls { D.clean desk.new → D.clean desk.old }
-    ensures reports { D.clean desk.new
-        → Reports (D.stands desk.old) (D.stands desk.new) actor (asks variant.now report) Told
-        result }
+    ensures { AsksDesk D.Desk (GivesRows actor (asks variant.now report) Told)
+        desk.old desk.new result }
 {
     let variant = Text::copy(alloc, variant)?;
-    found(alloc, desk, actor, Query::Variant { variant, report })
+    rows_of_query(alloc, desk, actor, Query::Variant { variant, report })
 }
 
 // The rows of the answer to a query, as the reader sees them.
-fn found<D: Desk>(
+fn rows_of_query<D: Desk>(
     alloc: Global,
     desk: &mut D,
     actor: Actor,
     query: Query<Text>,
 ) -> Result<ReportRows, Refusal>
-    ensures falls { D.clean desk.new → D.clean desk.old }
-    ensures reports { D.clean desk.new
-        → Reports (D.stands desk.old) (D.stands desk.new) actor (Queries query) Told result }
+    ensures { AsksDesk D.Desk (GivesRows actor (Queries query) Told) desk.old desk.new result }
 {
     let request = Request::Query(query);
     desk.ask(alloc, &Ask { actor, request }).into_rows()

@@ -2,7 +2,7 @@
 //! the lane is.
 ghost use Rattle.std.specs.Prelude.{◌≡◌, nat_lt, OnOk};
 ghost use Rattle.std.specs.List.{list_any};
-ghost use Rattle.fr_picture.specs.SlotTables.{all_sent_text, comma_text, frame_text, head_text, is_later, lane_name_text, lane_rows_text, load_of, load_text, owner_text, row_text, rows_text, sent_text, slot_table_text, turn_text, when_text};
+ghost use Rattle.fr_picture.specs.SlotTables.{all_sent_text, comma_text, frame_text, head_text, stands_behind_another, lane_name_text, lane_rows_text, load_of, load_text, owner_text, row_text, rows_text, sent_text, slot_table_text, turn_text, when_text};
 ghost use Rattle.fr_picture.specs.Texts.{Appends};
 
 use crate::drawing::{Lane, Rectangle};
@@ -157,9 +157,9 @@ fn push_sent(
     if was_drawn(all, one) {
         return Ok(());
     }
-    let kind = of_same_frame(alloc, all, one)?;
+    let same = of_same_frame(alloc, all, one)?;
     push_comma(all, one, out)?;
-    push_turn(cycles, kind.as_slice(), one, out)
+    push_turn(cycles, same.as_slice(), one, out)
 }
 
 // Appends a comma, where a frame stands before this one.
@@ -167,7 +167,7 @@ fn push_sent(
 fn push_comma(all: &[Rectangle], one: &Rectangle, out: &mut String) -> Result<(), NoMemory>
     ensures { OnOk result (Appends out.old out.new (comma_text all.now one.now)) }
 {
-    if is_later(all, one) {
+    if stands_behind_another(all, one) {
         push_fixed(Fixed::Comma, out)
     } else {
         Ok(())
@@ -175,9 +175,9 @@ fn push_comma(all: &[Rectangle], one: &Rectangle, out: &mut String) -> Result<()
 }
 
 // Whether something is sent in an earlier cycle of the lane.
-#[tactic(auto, unfolding(crate::specs::SlotTables::is_later))]
-fn is_later(all: &[Rectangle], one: &Rectangle) -> bool
-    ensures { result ≡ is_later all.now one.now }
+#[tactic(auto, unfolding(crate::specs::SlotTables::stands_behind_another))]
+fn stands_behind_another(all: &[Rectangle], one: &Rectangle) -> bool
+    ensures { result ≡ stands_behind_another all.now one.now }
 {
     all.iter().any(|other| other.first.cycle < one.first.cycle)
 }
@@ -186,31 +186,31 @@ fn is_later(all: &[Rectangle], one: &Rectangle) -> bool
 #[tactic(auto, unfolding(crate::specs::SlotTables::turn_text))]
 fn push_turn(
     cycles: u32,
-    kind: &[Rectangle],
+    same: &[Rectangle],
     one: &Rectangle,
     out: &mut String,
 ) -> Result<(), NoMemory>
-    ensures { OnOk result (Appends out.old out.new (turn_text cycles kind.now one.now)) }
+    ensures { OnOk result (Appends out.old out.new (turn_text cycles same.now one.now)) }
 {
-    let repetition = set_of(cycles, one.first.cycle, kind);
-    push_when(kind, one, repetition, out)?;
+    let repetition = set_of(cycles, one.first.cycle, same);
+    push_when(same, one, repetition, out)?;
     push_frame(one.first.frame, out)
 }
 
 #[tactic(auto, unfolding(crate::specs::SlotTables::when_text))]
 fn push_when(
-    kind: &[Rectangle],
+    same: &[Rectangle],
     one: &Rectangle,
     repetition: Option<u32>,
     out: &mut String,
 ) -> Result<(), NoMemory>
-    ensures { OnOk result (Appends out.old out.new (when_text kind.now one.now repetition)) }
+    ensures { OnOk result (Appends out.old out.new (when_text same.now one.now repetition)) }
 {
     match repetition {
         Some(repetition) => push_within(one.first.cycle, repetition, out),
         None => {
             push_fixed(Fixed::CyclesStart, out)?;
-            push_spans(kind, out)
+            push_spans(same, out)
         }
     }
 }

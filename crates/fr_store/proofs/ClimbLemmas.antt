@@ -8,10 +8,10 @@ use Rattle.fr_base.specs.Book.{Frame, Variant, Book}
 use Rattle.fr_base.specs.declared.name.Name.{Name}
 use Rattle.fr_tables.specs.declared.frame_key.FrameKey.{FrameKey}
 use Rattle.fr_tables.specs.Changes.{Stays, tables_of}
-use Rattle.fr_store.specs.Owning.{TellsLevel, IsOwner, is_own}
+use Rattle.fr_store.specs.Owning.{TellsOrigin, IsOwner, is_own}
 use Rattle.fr_store.specs.Reading.{Stands}
 use Rattle.fr_tables.specs.Tables.{HasTables, tables_in}
-use Rattle.fr_store.specs.declared.applying.level.Level.{Level}
+use Rattle.fr_store.specs.declared.applying.origin.Origin.{Origin}
 use Rattle.fr_store.proofs.InsideLemmas.{keeps_stay, keeps_then}
 use Rattle.fr_store.proofs.OwningLemmas.{Shown, above_shows}
 
@@ -62,9 +62,9 @@ module _ (key : FrameKey) (old : State) where
     owner_kept new same = fails new (inl same)
 
     -- the next is the parent
-    pub climbs : (mid new : State) (level : Level) (parent : Name) → IsUnchanged before mid → is_own (record key { variant = above }) (tables_of before) ≡ false → TellsLevel above (tables_of mid) level → IsUnchanged mid new → level.parent ≡ Some parent
+    pub climbs : (mid new : State) (origin : Origin) (parent : Name) → IsUnchanged before mid → is_own (record key { variant = above }) (tables_of before) ≡ false → TellsOrigin above (tables_of mid) origin → IsUnchanged mid new → origin.parent ≡ Some parent
         → HasClimbed key parent old new
-    climbs mid new level parent same not_own told still is =
+    climbs mid new origin parent same not_own told still is =
         let not_here : is_own (record key { variant = above }) (tables_of old) ≡ false = ap (is_own (record key { variant = above })) (sym same_tables) ∙ not_own in
         let tables_mid : tables_of mid ≡ tables_of old = ap (λ (d : Database). tables_in d.trees) same.0.now_is ∙ same_tables in
         record {
@@ -73,7 +73,7 @@ module _ (key : FrameKey) (old : State) where
           keeps = keeps_then old mid new (owner_kept mid same) (keeps_stay mid new (inl still));
           shows = λ c b stands x frame there shown.
               let here = climbed.shows c b stands x frame there shown in
-              let its = subst (λ t. TellsLevel above t level) tables_mid told in
+              let its = subst (λ t. TellsOrigin above t origin) tables_mid told in
               above_shows above key.supplier key.frame (tables_of old) c.params.cycles b stands.for.rows here.0 here.1 frame here.2 not_here parent (its.parent c.params.cycles b stands.for.rows here.0 here.1 ∙ is);
           first = λ own. absurd (true≢false (sym own ∙ ap (λ w. is_own (record key { variant = w }) (tables_of old)) (sym (climbed.first own)) ∙ not_here));
         }

@@ -4,6 +4,7 @@ pub mod OpenLemmas
 pub mod SameCluster
 pub mod AgainLemmas
 pub mod FileLemmas
+pub mod LeftLemmas
 pub mod RefusedLemmas
 pub mod OpenedLemmas
 pub mod MemoryLemmas

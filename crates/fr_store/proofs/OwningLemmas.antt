@@ -20,8 +20,8 @@ use Rattle.fr_tables.specs.Tables.{Tables}
 use Rattle.fr_tables.specs.Changes.{AreListed}
 use Rattle.fr_tables.specs.Statements.{is_variant, is_frame, shows_variant, shows_frame, any_order}
 use Rattle.fr_store.specs.StandsFor.{HoldsRows, Stored, variant_row, own_or, of_parent, is_hidden, seen}
-use Rattle.fr_store.specs.Owning.{says_over, IsStoredSo, TellsLevel, is_own}
-use Rattle.fr_store.specs.declared.applying.level.Level.{Level}
+use Rattle.fr_store.specs.Owning.{says_over, IsStoredSo, TellsOrigin, is_own}
+use Rattle.fr_store.specs.declared.applying.origin.Origin.{Origin}
 use Rattle.fr_store.proofs.FrameChanges.{one_row, frame_apart}
 use Rattle.fr_store.proofs.FrameSections.{section, others, parted, others_apart}
 use Rattle.fr_store.proofs.HolderLemmas.{other_name}
@@ -65,15 +65,15 @@ maybe_back : (o : Option (List ℕ)) → maybe_words (of_maybe o) ≡ o
 maybe_back None = refl
 maybe_back (Some w) = refl
 
-module _ (v : Name) (t : Tables) (level : Level) (line : Row) (rest : List Row) (parent : column line 1 ≡ of_maybe level.parent) (overlay : column line 4 ≡ Int (flag level.overlay)) where
+module _ (v : Name) (t : Tables) (origin : Origin) (line : Row) (rest : List Row) (parent : column line 1 ≡ of_maybe origin.parent) (overlay : column line 4 ≡ Int (flag origin.overlay)) where
   abbrev ours : VariantRow → Bool
-  ours r = int_eq r.overlay (flag level.overlay)
+  ours r = int_eq r.overlay (flag origin.overlay)
 
-  row_over : (r : VariantRow) → line ≡ shows_variant r → r.overlay ≡ flag level.overlay
-  row_over r is = let same : Int r.overlay ≡ Int (flag level.overlay) = sym (ap (λ (s : Row). column s 4) is) ∙ overlay in cc
+  row_over : (r : VariantRow) → line ≡ shows_variant r → r.overlay ≡ flag origin.overlay
+  row_over r is = let same : Int r.overlay ≡ Int (flag origin.overlay) = sym (ap (λ (s : Row). column s 4) is) ∙ overlay in cc
 
-  row_parent : (r : VariantRow) → line ≡ shows_variant r → r.parent ≡ level.parent
-  row_parent r is = sym (maybe_back r.parent) ∙ ap maybe_words (sym (ap (λ (s : Row). column s 1) is) ∙ parent) ∙ maybe_back level.parent
+  row_parent : (r : VariantRow) → line ≡ shows_variant r → r.parent ≡ origin.parent
+  row_parent r is = sym (maybe_back r.parent) ∙ ap maybe_words (sym (ap (λ (s : Row). column s 1) is) ∙ parent) ∙ maybe_back origin.parent
 
   first_of : (found : List VariantRow) → line ∷ rest ≡ map shows_variant found → (r : VariantRow) × (more : List VariantRow) × (found ≡ r ∷ more) × (line ≡ shows_variant r)
   first_of [] is = absurd cc
@@ -91,23 +91,23 @@ module _ (v : Name) (t : Tables) (level : Level) (line : Row) (rest : List Row) 
       (IsPermutation-trans _ _ _ (subst (λ xs. IsPermutation xs (filter (is_variant v) t.variants)) only (IsPermutation-filter (is_variant v) _ _ stands.variants)) same) in
       All-head (λ (q : VariantRow). x.parent ≡ q.parent) _ _ (All-permutation (λ (q : VariantRow). x.parent ≡ q.parent) _ _ all (All-from_recursion (λ (q : VariantRow). x.parent ≡ q.parent) (row_of (v, x) ∷ []) (refl, tt)))
 
-  of_rows : AreListed shows_variant (is_variant v) any_order t.variants (line ∷ rest) → TellsLevel v t level
+  of_rows : AreListed shows_variant (is_variant v) any_order t.variants (line ∷ rest) → TellsOrigin v t origin
   of_rows listed =
       let first = first_of listed.found listed.shown in
       let r : VariantRow = first.0 in
       record {
         overlay =
             sym (any_among (is_variant v) ours t.variants) ∙ list_any-IsPermutation ours _ _ listed.same ∙ ap (list_any ours) first.2
-            ∙ ap (λ n. int_eq n (flag level.overlay) || list_any ours first.1) (row_over r first.3) ∙ ap (λ b. b || list_any ours first.1) (flag_itself level.overlay);
+            ∙ ap (λ n. int_eq n (flag origin.overlay) || list_any ours first.1) (row_over r first.3) ∙ ap (λ b. b || list_any ours first.1) (flag_itself origin.overlay);
         parent = λ count b stands x there. its_parent listed.found listed.same count b stands x there r first.1 first.2 ∙ row_parent r first.3;
       }
 
-pub level_told : (v : Name) (t : Tables) (rows : List Row) (line : Row) (level : Level) → slice_get rows 0 ≡ Some line → AreListed shows_variant (is_variant v) any_order t.variants rows
-    → column line 1 ≡ of_maybe level.parent → column line 4 ≡ Int (flag level.overlay) → TellsLevel v t level
-level_told v t [] line level first listed parent overlay = absurd cc
-level_told v t (r ∷ rest) line level first listed parent overlay =
+pub origin_told : (v : Name) (t : Tables) (rows : List Row) (line : Row) (origin : Origin) → slice_get rows 0 ≡ Some line → AreListed shows_variant (is_variant v) any_order t.variants rows
+    → column line 1 ≡ of_maybe origin.parent → column line 4 ≡ Int (flag origin.overlay) → TellsOrigin v t origin
+origin_told v t [] line origin first listed parent overlay = absurd cc
+origin_told v t (r ∷ rest) line origin first listed parent overlay =
     let same : r ≡ line = cc in
-    of_rows v t level r rest (ap (λ (s : Row). column s 1) same ∙ parent) (ap (λ (s : Row). column s 4) same ∙ overlay) listed
+    of_rows v t origin r rest (ap (λ (s : Row). column s 1) same ∙ parent) (ap (λ (s : Row). column s 4) same ∙ overlay) listed
 
 -- a variant that is stored so
 module _ (v : Name) (over : Bool) (stored : Name → Stored) where

@@ -1,17 +1,18 @@
 -- What a call says of files that it refuses, from what a connection over them says.
-use Rattle.std.proofs.Common.{◌≡◌, ◌≢◌, ◌∙◌, ℤ, Option, Some, None, inl, inr, refl, sym, subst, true≢false}
+use Rattle.std.proofs.Common.{◌≡◌, ◌≢◌, ◌∙◌, IfSome, Option, Some, None, inl, inr, refl, sym, subst, true≢false}
 use Rattle.sqlite.specs.Effect.{Database, IsDatabase}
 use Rattle.sqlite.specs.Files.{HoldsDatabase, IsCleanLeft}
 use Rattle.sqlite.specs.State.{State, Opens}
 use Rattle.sqlite.specs.Tree.{Trees}
 use Rattle.sqlite.specs.declared.file.Leftover.{Leftover}
+use Rattle.sqlite.specs.declared.file.Leftover.TheVariants as left
 use Rattle.sqlite_disk.specs.declared.Disk.{Ghosts}
 use Rattle.sqlite_disk.specs.declared.Files.{Files}
 use Rattle.sqlite_wal.specs.Recovery.{Image}
 use Rattle.fr_tables.specs.Asking.{AreAsBefore, old_schema_number, our_schema_number}
 use Rattle.fr_store.specs.Opened.{HoldCommitted}
 use Rattle.fr_store.specs.Opening.{Refuses}
-use Rattle.fr_store.specs.Refused.{IsRefusedBy, IsToldBy, IsUnavailable, IsUnopened, Refusing, files_alone, makes, migrates, opens, wanting}
+use Rattle.fr_store.specs.Refused.{HoldsStill, IsOther, IsRefusedBy, IsSpared, IsToldBy, IsUnavailable, IsUnopened, Refusing, files_alone, in_files, makes, migrates, opens, wanting}
 use Rattle.fr_store.specs.Store.{Forbids}
 use Rattle.fr_store.specs.StoreFiles.{IsFound, IsHeld}
 use Rattle.fr_store.specs.declared.fault.StoreFault.{StoreFault}
@@ -43,58 +44,95 @@ makes_alone held Unavailable its told = refl
 module _ {D : Type 0} {g : Ghosts D} where
   -- ---- files in which no database was opened
 
-  unopened_tells : (number : ℤ) (takes : Image → Type 0) (held : Image) (fault : StoreFault) (left : Leftover D g) → IsAlone (wanting number takes) held fault
-      → fault ≢ NotEmpty → fault ≢ WrongSchema → ((db : Trees) → HoldsDatabase held db → fault ≡ Unavailable) → IsToldBy (wanting number takes) held fault left
-  unopened_tells number takes held fault left alone made ours told =
-      let why = λ (d : Database) (is : IsDatabase d) (there : HoldsDatabase held d.trees). subst (Refuses number d) (sym (told d.trees there)) tt in
-      record {
-        told = why;
-        cause = refused_unopened number held fault made ours told;
-        known = λ its. alone its why;
-        untouched = λ other d is there. absurd (other (told d.trees there));
-        survives = λ other image may d is there. absurd (other (told d.trees there));
-      }
+  unopened_tells : (call : Refusing) (held : Image) (fault : StoreFault) (left : Leftover D g) → IsAlone call held fault → ((d : Database) → call.database d Unavailable)
+      → call.files held fault → ((db : Trees) → HoldsDatabase held db → fault ≡ Unavailable) → (call.spares fault left → HoldsStill held left) → IsToldBy call held fault left
+  unopened_tells call held fault left alone any cause told stays =
+      let why = λ (d : Database) (is : IsDatabase d) (there : HoldsDatabase held d.trees). subst (call.database d) (sym (told d.trees there)) (any d) in
+      record { told = why; cause = cause; known = λ its. alone its why; stays = stays }
 
-  unopened : (number : ℤ) (takes : Image → Type 0) (held : Image) (fault : StoreFault) (rest : Option (Leftover D g)) → IsAlone (wanting number takes) held fault
-      → IsUnopened held fault rest → IsRefusedBy (wanting number takes) IsUnavailable held fault rest
-  unopened number takes held fault None alone h = record { tells = h.not_made; left = tt; lost = h.lost }
-  unopened number takes held fault (Some left) alone h = record {
-    tells = h.not_made;
-    left = λ clean. unopened_tells number takes held fault left alone h.not_made h.not_ours (h.told clean);
+  unopened : (call : Refusing) (held : Image) (fault : StoreFault) (rest : Option (Leftover D g)) → IsAlone call held fault → ((d : Database) → call.database d Unavailable)
+      → (((db : Trees) → HoldsDatabase held db → fault ≡ Unavailable) → call.files held fault) → call.tells fault → IsUnopened call.spares held fault rest
+      → IsRefusedBy call IsUnavailable held fault rest
+  unopened call held fault None alone any cause tells h = record { tells = tells; left = tt; lost = h.lost }
+  unopened call held fault (Some left) alone any cause tells h = record {
+    tells = tells;
+    left = λ clean. unopened_tells call held fault left alone any (cause (h.told clean)) (h.told clean) (h.stays clean);
     lost = h.lost;
   }
 
-  pub not_opened : (held : Image) (fault : StoreFault) (rest : Option (Leftover D g)) → IsUnopened held fault rest → IsRefusedBy opens IsUnavailable held fault rest
-  not_opened held fault rest h = unopened our_schema_number opens.takes held fault rest (opens_alone held fault) h
+  pub not_opened : (held : Image) (fault : StoreFault) (rest : Option (Leftover D g)) → IsUnopened IsSpared held fault rest → IsRefusedBy opens IsUnavailable held fault rest
+  not_opened held fault rest h =
+      unopened opens held fault rest (opens_alone held fault) (λ d. tt) (refused_unopened our_schema_number held fault h.not_made h.not_ours) h.not_made h
 
-  pub not_migrated : (held : Image) (fault : StoreFault) (rest : Option (Leftover D g)) → IsUnopened held fault rest → IsRefusedBy migrates IsUnavailable held fault rest
-  not_migrated held fault rest h = unopened old_schema_number migrates.takes held fault rest (migrates_alone held fault) h
+  pub not_opened_in_files : (held : Image) (fault : StoreFault) (rest : Option (Leftover D g)) → IsUnopened IsOther held fault rest → IsRefusedBy (in_files opens) IsUnavailable held fault rest
+  not_opened_in_files held fault rest h =
+      unopened (in_files opens) held fault rest (opens_alone held fault) (λ d. tt) (refused_unopened our_schema_number held fault h.not_made h.not_ours) h.not_made h
+
+  pub not_migrated : (held : Image) (fault : StoreFault) (rest : Option (Leftover D g)) → IsUnopened IsSpared held fault rest → IsRefusedBy migrates IsUnavailable held fault rest
+  not_migrated held fault rest h =
+      unopened migrates held fault rest (migrates_alone held fault) (λ d. tt) (refused_unopened old_schema_number held fault h.not_made h.not_ours) h.not_made h
+
+  pub not_migrated_in_files : (held : Image) (fault : StoreFault) (rest : Option (Leftover D g)) → IsUnopened IsOther held fault rest → IsRefusedBy (in_files migrates) IsUnavailable held fault rest
+  not_migrated_in_files held fault rest h =
+      unopened (in_files migrates) held fault rest (migrates_alone held fault) (λ d. tt) (refused_unopened old_schema_number held fault h.not_made h.not_ours) h.not_made h
 
   -- ---- want of memory, or a fault of the files
 
   lacking : (call : Refusing) (held : Image) (rest : Option (Leftover D g)) → call.tells Unavailable → ((d : Database) → call.database d Unavailable) → call.files held Unavailable
-      → IsRefusedBy call IsUnavailable held Unavailable rest
-  lacking call held None tells database files = record { tells = tells; left = tt; lost = λ none. refl }
-  lacking call held (Some left) tells database files = record {
+      → IfSome rest (λ left. IsCleanLeft left → call.spares Unavailable left → HoldsStill held left) → IsRefusedBy call IsUnavailable held Unavailable rest
+  lacking call held None tells database files stays = record { tells = tells; left = tt; lost = λ none. refl }
+  lacking call held (Some left) tells database files stays = record {
     tells = tells;
-    left = λ clean. record {
-      told = λ d is there. database d;
-      cause = files;
-      known = λ its. refl;
-      untouched = λ other. absurd (other refl);
-      survives = λ other. absurd (other refl);
-    };
+    left = λ clean. record { told = λ d is there. database d; cause = files; known = λ its. refl; stays = stays clean };
     lost = λ none. refl;
   }
 
-  pub open_lacks : (held : Image) (rest : Option (Leftover D g)) → IsRefusedBy opens IsUnavailable held Unavailable rest
-  open_lacks held rest = lacking opens held rest (λ is. cc) (λ d. tt) tt
+  -- nothing is left
+  pub open_lacks : (held : Image) → IsRefusedBy {D = D} {g = g} opens IsUnavailable held Unavailable None
+  open_lacks held = lacking opens held None (λ is. cc) (λ d. tt) tt tt
 
-  pub migrate_lacks : (held : Image) (rest : Option (Leftover D g)) → IsRefusedBy migrates IsUnavailable held Unavailable rest
-  migrate_lacks held rest = lacking migrates held rest (λ is. cc) (λ d. tt) tt
+  pub migrate_lacks : (held : Image) → IsRefusedBy {D = D} {g = g} migrates IsUnavailable held Unavailable None
+  migrate_lacks held = lacking migrates held None (λ is. cc) (λ d. tt) tt tt
 
-  pub make_lacks : (held : Image) (rest : Option (Leftover D g)) → IsRefusedBy makes IsUnavailable held Unavailable rest
-  make_lacks held rest = lacking makes held rest (inr refl) (λ d. tt) tt
+  pub make_lacks : (held : Image) → IsRefusedBy {D = D} {g = g} makes IsUnavailable held Unavailable None
+  make_lacks held = lacking makes held None (inr refl) (λ d. tt) tt tt
+
+  -- no database was opened in which a register was to be made
+  pub not_made : (held : Image) (rest : Option (Leftover D g)) → IfSome rest (λ left. IsCleanLeft left → IsSpared Unavailable left → HoldsStill held left)
+      → IsRefusedBy makes IsUnavailable held Unavailable rest
+  not_made held rest stays = lacking makes held rest (inr refl) (λ d. tt) tt stays
+
+  other_than_itself : (held : Image) (rest : Option (Leftover D g)) → IfSome rest (λ left. IsCleanLeft left → Unavailable ≢ Unavailable → HoldsStill held left)
+  other_than_itself held None = tt
+  other_than_itself held (Some left) = λ clean other. absurd (other refl)
+
+  pub not_made_in_files : (held : Image) (rest : Option (Leftover D g)) → IsRefusedBy (in_files makes) IsUnavailable held Unavailable rest
+  not_made_in_files held rest = lacking (in_files makes) held rest (inr refl) (λ d. tt) tt (other_than_itself held rest)
+
+  -- what is said of files at a path is said of files that were given
+  spared : (fault : StoreFault) (left : Leftover D g) → fault ≢ Unavailable → IsSpared fault left
+  spared fault (left.Files files) other = tt
+  spared fault (left.Unopened files) other = other
+  spared fault (left.Store it) other = other
+
+  handed : (call : Refusing) (held : Image) (fault : StoreFault) (rest : Option (Leftover D g)) → ((left : Leftover D g) → fault ≢ Unavailable → call.spares fault left)
+      → IsRefusedBy call IsUnavailable held fault rest → IsRefusedBy (in_files call) IsUnavailable held fault rest
+  handed call held fault None spares h = record { tells = h.tells; left = tt; lost = h.lost }
+  handed call held fault (Some left) spares h = record {
+    tells = h.tells;
+    left = λ clean. let said = h.left clean in record { told = said.told; cause = said.cause; known = said.known; stays = λ other. said.stays (spares left other) };
+    lost = h.lost;
+  }
+
+  pub open_handed : (held : Image) (fault : StoreFault) (rest : Option (Leftover D g)) → IsRefusedBy opens IsUnavailable held fault rest → IsRefusedBy (in_files opens) IsUnavailable held fault rest
+  open_handed held fault rest h = handed opens held fault rest (spared fault) h
+
+  pub migrate_handed : (held : Image) (fault : StoreFault) (rest : Option (Leftover D g)) → IsRefusedBy migrates IsUnavailable held fault rest
+      → IsRefusedBy (in_files migrates) IsUnavailable held fault rest
+  migrate_handed held fault rest h = handed migrates held fault rest (spared fault) h
+
+  pub make_handed : (held : Image) (fault : StoreFault) (rest : Option (Leftover D g)) → IsRefusedBy makes IsUnavailable held fault rest → IsRefusedBy (in_files makes) IsUnavailable held fault rest
+  make_handed held fault rest h = handed makes held fault rest (spared fault) h
 
   -- ---- files that a connection opened, left as they were, and closed
 
@@ -109,8 +147,10 @@ module _ {D : Type 0} {g : Ghosts D} where
         told = told;
         cause = cause;
         known = λ its. alone its told;
-        untouched = λ other d is there. subst (IsHeld _) (kept ∙ same d is there) closed.held;
-        survives = λ other image may d is there. subst (IsHeld image) (kept ∙ same d is there) (closed.left image may);
+        stays = λ spared. record {
+          untouched = λ d is there. subst (IsHeld _) (kept ∙ same d is there) closed.held;
+          survives = λ image may d is there. subst (IsHeld image) (kept ∙ same d is there) (closed.left image may);
+        };
       }
 
   pub open_tells : (held : Image) (fault : StoreFault) (files : Files D) (before after : State) → Refuses our_schema_number before.now fault

@@ -17,7 +17,7 @@ use Rattle.fr_tables.specs.Rows.{VariantRow, FrameRow, PlacementRow, SignalRow, 
 use Rattle.fr_store.specs.StandsFor.{HoldsRows}
 use Rattle.fr_tables.specs.Statements.{is_variant, is_frame, frame_copies, placement_copies, signal_copies}
 use Rattle.fr_tables.specs.Tables.{Tables, HasTables}
-use Rattle.fr_store.specs.declared.applying.level.Level.{Level}
+use Rattle.fr_store.specs.declared.applying.origin.Origin.{Origin}
 
 -- ---- how a variant is stored
 
@@ -29,10 +29,10 @@ says_over v over r = is_variant v r && int_eq r.overlay (flag over)
 abbrev pub IsStoredSo : Name → Bool → Tables → Type 0
 IsStoredSo v over t = IsTrue (list_any (says_over v over) t.variants)
 
--- this is the variant's parent, and this is how the variant is stored
-pub record TellsLevel (v : Name) (t : Tables) (level : Level) : Type 0 where
-  pub overlay : IsStoredSo v level.overlay t
-  pub parent : (count : ℕ) (b : Book) → HoldsRows t count b → (x : Variant) → get b.variants v ≡ Some x → x.parent ≡ level.parent
+-- this is the variant's parent, and whether the variant is laid over it
+pub record TellsOrigin (v : Name) (t : Tables) (origin : Origin) : Type 0 where
+  pub overlay : IsStoredSo v origin.overlay t
+  pub parent : (count : ℕ) (b : Book) → HoldsRows t count b → (x : Variant) → get b.variants v ≡ Some x → x.parent ≡ origin.parent
 
 -- ---- a variant's own frames
 

@@ -1,7 +1,7 @@
 -- Refused: what a call says that refuses files in which it was to open, to migrate or to make a
--- register. Which faults it tells, for what cause, and that it leaves what the files held. The same
--- of files in which no database was opened.
-use Rattle.std.specs.Prelude.{◌≡◌, ◌≢◌, ◌⊎◌, ℤ, Option, Some, None, IfSome, false}
+-- register. Which faults it tells, for what cause, and that what is left of the files holds what they
+-- held. The same of files in which no database was opened.
+use Rattle.std.specs.Prelude.{◌≡◌, ◌≢◌, ◌⊎◌, ℤ, Option, Some, None, IfSome, false, ⊤}
 use Rattle.sqlite.specs.Effect.{Database, IsDatabase}
 use Rattle.sqlite.specs.Files.{HoldsDatabase, IsCleanLeft}
 use Rattle.sqlite.specs.Tree.{Trees}
@@ -22,18 +22,27 @@ use Rattle.fr_store.specs.declared.fault.StoreFault.TheVariants.{NotEmpty, NotAR
 
 -- ---- why files are refused
 
+-- For this fault files at a path are told to hold what they held: for any fault, where the files
+-- themselves are left; and for another than Unavailable, where they are not opened, or a store is left.
+abbrev pub IsSpared : {D : Type 0} {g : Ghosts D} → StoreFault → Leftover D g → Type 0
+IsSpared fault (left.Files files) = ⊤
+IsSpared fault (left.Unopened files) = fault ≢ Unavailable
+IsSpared fault (left.Store it) = fault ≢ Unavailable
+
 -- What a call says of files that it refuses: which faults it tells of any files; why it refuses a
--- database that they hold; why it refuses them, whatever they hold; and which files it refuses by
--- Unavailable alone.
+-- database that they hold; why it refuses them, whatever they hold; which files it refuses by
+-- Unavailable alone; and for which fault it says that what is left holds what they held.
 pub record Refusing : Type 1 where
   pub tells : StoreFault → Type 0
   pub database : Database → StoreFault → Type 0
   pub files : Image → StoreFault → Type 0
   pub takes : Image → Type 0
+  pub spares : {D : Type 0} {g : Ghosts D} → StoreFault → Leftover D g → Type 0
 
 -- a call that wants this number of the schema
 abbrev pub wanting : ℤ → (Image → Type 0) → Refusing
-wanting number takes = record { tells = λ fault. fault ≢ NotEmpty; database = Refuses number; files = RefusesFiles number; takes = takes }
+wanting number takes =
+    record { tells = λ fault. fault ≢ NotEmpty; database = Refuses number; files = RefusesFiles number; takes = takes; spares = IsSpared }
 
 -- the call that opens a register
 abbrev pub opens : Refusing
@@ -50,7 +59,17 @@ makes = record {
   database = λ db. MayForbid db.schema;
   files = ForbidsFiles;
   takes = λ held. (db : Database) × IsDatabase db × HoldsDatabase held db.trees × (has_table db.schema ≡ false);
+  spares = IsSpared;
 }
+
+-- a fault that tells more than Unavailable, whatever is left
+abbrev pub IsOther : {D : Type 0} {g : Ghosts D} → StoreFault → Leftover D g → Type 0
+IsOther fault left = fault ≢ Unavailable
+
+-- The same call over files that it was given. It hands back files that it did not open as it does
+-- those that it closed, so of Unavailable it does not say that they hold what they held.
+abbrev pub in_files : Refusing → Refusing
+in_files call = record call { spares = IsOther }
 
 -- ---- what is left of the files
 
@@ -74,15 +93,18 @@ NeedsNone fault = IsUnavailable fault ⊎ (fault ≡ NotARegister)
 -- ---- a refusal
 
 module _ {D : Type 0} {g : Ghosts D} where
-  -- What a fault says of files that held this, where nobody else wrote to those that are left. They
-  -- still hold the database that they held, unless the fault is Unavailable; and so does whatever a
-  -- crash leaves of them.
+  -- What is left of files that held this holds the database that they held; and so does whatever a
+  -- crash leaves of it.
+  pub record HoldsStill (held : Image) (left : Leftover D g) : Type 0 where
+    pub untouched : (d : Database) → IsDatabase d → HoldsDatabase held d.trees → IsHeld (image_left left) d
+    pub survives : (image : Image) → outcomes_left left image → (d : Database) → IsDatabase d → HoldsDatabase held d.trees → IsHeld image d
+
+  -- What a fault says of files that held this, where nobody else wrote to those that are left.
   pub record IsToldBy (call : Refusing) (held : Image) (fault : StoreFault) (left : Leftover D g) : Type 0 where
     pub told : (d : Database) → IsDatabase d → HoldsDatabase held d.trees → call.database d fault
     pub cause : call.files held fault
     pub known : call.takes held → fault ≡ Unavailable
-    pub untouched : fault ≢ Unavailable → (d : Database) → IsDatabase d → HoldsDatabase held d.trees → IsHeld (image_left left) d
-    pub survives : fault ≢ Unavailable → (image : Image) → outcomes_left left image → (d : Database) → IsDatabase d → HoldsDatabase held d.trees → IsHeld image d
+    pub stays : call.spares fault left → HoldsStill held left
 
   -- A call refuses files that held this, for a fault that it tells. Where nothing is left of them
   -- the fault is one for which files are not given back.
@@ -92,9 +114,10 @@ module _ {D : Type 0} {g : Ghosts D} where
     pub lost : rest ≡ None → Without fault
 
   -- No database was opened in files that held this. Where they held one, memory was refused or
-  -- there was a fault.
-  pub record IsUnopened (held : Image) (fault : StoreFault) (rest : Option (Leftover D g)) : Type 0 where
+  -- there was a fault. For such a fault what is left holds what they held.
+  pub record IsUnopened (Spares : StoreFault → Leftover D g → Type 0) (held : Image) (fault : StoreFault) (rest : Option (Leftover D g)) : Type 0 where
     pub told : IfSome rest (λ left. IsCleanLeft left → (db : Trees) → HoldsDatabase held db → fault ≡ Unavailable)
+    pub stays : IfSome rest (λ left. IsCleanLeft left → Spares fault left → HoldsStill held left)
     pub not_made : fault ≢ NotEmpty
     pub not_ours : fault ≢ WrongSchema
     pub lost : rest ≡ None → fault ≡ Unavailable

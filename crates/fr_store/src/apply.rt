@@ -54,7 +54,8 @@ fn in_one_transaction<S: Alter>(conn: &mut Connection<S>, edits: &[Edit]) -> Res
     ensures survives { let old = state S.Store conn.old in
         Survives old (state S.Store conn.new) (LeavesAll edits.now old) }
 {
-    let _settled = conn.is_autocommit();
+    // Gives the proof that all changes so far are committed.
+    let _committed = conn.is_autocommit();
     let mut tx = conn.transaction();
     carry_out_all(&mut tx, edits)?;
     tx.commit()?;

@@ -5,7 +5,7 @@ ghost use Rattle.fr_store.specs.Applying.{IsDone};
 pub mod edits;
 pub mod frames;
 pub mod joining;
-pub mod level;
+pub mod origin;
 pub mod owning;
 
 use crate::fault::StoreFault;

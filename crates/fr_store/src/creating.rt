@@ -50,7 +50,8 @@ fn create<S: Alter>(conn: &mut Connection<S>, config: &Config) -> Result<(), Err
         → Survives (state S.Store conn.old) (state S.Store conn.new)
         (λ db. IsNewOf config.now (database_of db)) }
 {
-    let _settled = conn.is_autocommit();
+    // Gives the proof that all changes so far are committed.
+    let _committed = conn.is_autocommit();
     let mut tx = conn.transaction();
     make_and_fill(&mut tx, config)?;
     tx.commit()
@@ -100,10 +101,10 @@ fn is_bare(schema: &Schema) -> bool
 }
 
 impl<S: Alter + Drop> Store<S> {
-    /// Makes a register of this cluster, where no table is. What a crash then leaves is this register. It is
-    /// NotEmpty where one of a register's tables is there already, whatever the case of its name and whatever its columns.
-    /// Else a refusal is Unavailable, as where another table, index or view is there, or within a transaction. It hands the
-    /// connection back, its tables as they were while it is open.
+    /// Makes a register of this cluster, where no table is. What a crash then leaves is this register. The refusal is
+    /// NotEmpty where one of a register's tables is there already, whatever the case of its name and whatever its
+    /// columns. Else it is Unavailable, as where another table, index or view is there, or within a transaction. A
+    /// refusal hands the connection back, its tables as they were while it is open.
     pub fn create_on(
         alloc: Global,
         mut conn: Connection<S>,
@@ -147,7 +148,7 @@ impl<S: Alter + Drop> Store<S> {
         }
         // Gives the proof that the suppliers are in order.
         let _formed = config.params();
-        let Ok(config) = cluster::copied(alloc, config) else {
+        let Ok(config) = cluster::copy_config(alloc, config) else {
             return Err((StoreFault::Unavailable, conn));
         };
         match create(&mut conn, &config) {

@@ -12,8 +12,9 @@ pub enum StoreFault {
     NotARegister,
     /// The number of the schema is another version's.
     WrongSchema,
-    /// All else: there was no memory, the disk failed, or the rows are no register's. Which it was, no clause says. A change
-    /// that was refused so is not seen; where the disk failed, what is opened afterwards has it or has it not.
+    /// All else: there was no memory, the disk failed, or the rows are no register's. No clause says which it was. The
+    /// rows do not show a change that was refused so. But where the disk failed, a register that is opened afterwards
+    /// may have the change.
     Unavailable,
 }
 

@@ -8,7 +8,7 @@ ghost use Rattle.sqlite.specs.Files.{file_state, image_of};
 ghost use Rattle.fr_base.specs.Book.{opening};
 ghost use Rattle.fr_store.specs.Crashes.{HoldsOne, LeavesOnly};
 ghost use Rattle.fr_store.specs.Opened.{HoldCommitted, IsConnected, IsMadeIn, IsOpenedIn};
-ghost use Rattle.fr_store.specs.Refused.{IsRefusedBy, IsUnavailable, IsUnopened, files_alone, given_back, makes, opens};
+ghost use Rattle.fr_store.specs.Refused.{IsOther, IsRefusedBy, IsUnavailable, IsUnopened, files_alone, given_back, in_files, makes, opens};
 ghost use Rattle.fr_store.specs.Store.{IsRegisterFor, IsRegisterOf};
 ghost use Rattle.fr_store.specs.StoreFiles.{HoldsRegister, KeepsBook, SurvivesSince, database_of};
 
@@ -21,7 +21,7 @@ use sqlite_disk::Disk;
 use std::alloc::Global;
 
 /// Closes the connection and gives the files back. The database file has each commit.
-pub(crate) fn closed<D: Disk + Drop>(conn: Connection<FileStore<D>>) -> Option<Files<D>>
+pub(crate) fn close_connection<D: Disk + Drop>(conn: Connection<FileStore<D>>) -> Option<Files<D>>
     ensures usable { IfSome result (λ files.
         IsTrue (D.Disk.is_usable files.log) × IsTrue (D.Disk.is_usable files.db)) }
     ensures closed { IfSome result (λ files. AreClean D.Disk files.log files.db
@@ -37,13 +37,13 @@ pub(crate) fn closed<D: Disk + Drop>(conn: Connection<FileStore<D>>) -> Option<F
     }
 }
 
-/// The database that the files hold, or an empty one where they hold nothing.
+/// Connects to the database that the files hold, or to an empty one where they hold nothing.
 // What a crash leaves of files that are refused here is not proved. What the kit says of a refused
 // open lacks three facts. First: pages are taken to have sums only where the first page says so, but
 // the converse is not said. So the size of a page that the files held may be another than the one
 // that was taken. Second: the store is not said to be numbered, as `opens_again` needs it. Third:
 // that an image is nothing, and that it holds a database, are not shown to exclude each other.
-pub(crate) fn connected<D: Disk + Drop>(
+pub(crate) fn connect<D: Disk + Drop>(
     alloc: Global,
     files: Files<D>,
     options: Options,
@@ -55,7 +55,7 @@ pub(crate) fn connected<D: Disk + Drop>(
     ensures honest { IfOk result (λ c. HasCleanDisk (file_state c)
         → AreClean D.Disk files.log files.db) }
     ensures refused { IfErr result (λ e.
-        IsUnopened (image_of D.Disk files) e.0 (Some (files_alone D.Disk e.1))) }
+        IsUnopened IsOther (image_of D.Disk files) e.0 (Some (files_alone D.Disk e.1))) }
 {
     let conn = match Connection::open_files(alloc, files, options) {
         Ok(conn) => conn,
@@ -91,7 +91,7 @@ impl<D: Disk + Drop> Store<FileStore<D>> {
             → KeepsBook last.committed image) }
         ensures told { IfErr result IsUnavailable }
     {
-        match closed(self.into_connection()) {
+        match close_connection(self.into_connection()) {
             Some(files) => Ok(files),
             None => Err(StoreFault::Unavailable),
         }
@@ -108,9 +108,9 @@ impl<D: Disk + Drop> Store<FileStore<D>> {
         self.into_connection().into_store().close()
     }
 
-    /// Makes a register of this cluster in files that hold no table: all of it, or nothing. It is NotEmpty only
-    /// where one of a register's tables is found in them already; then they hold what they held, and so does what a
-    /// crash leaves. Else a refusal is Unavailable. It may give the files back, so that the caller can try again. The log's
+    /// Makes a register of this cluster in files that hold no table: all of it, or nothing. The refusal is NotEmpty
+    /// only where one of a register's tables is found in them already; then they hold what they held, and so does what
+    /// a crash leaves. Else it is Unavailable. It may give the files back, so that the caller can try again. The log's
     /// salts need a seed, which `options` give, since files alone give none.
     pub fn create(
         alloc: Global,
@@ -129,24 +129,25 @@ impl<D: Disk + Drop> Store<FileStore<D>> {
         ensures survives { IfOk result (λ s. SurvivesSince (image_of D.Disk files) s.conn
             (λ db. IsRegisterFor config.now.cluster (opening config.now) (database_of db))) }
         ensures refused { IfErr result (λ e.
-            IsRefusedBy makes IsUnavailable (image_of D.Disk files) e.0 (given_back D.Disk e.1)) }
+            IsRefusedBy (in_files makes) IsUnavailable (image_of D.Disk files) e.0
+            (given_back D.Disk e.1)) }
     {
-        let conn = match connected(alloc, files, options) {
+        let conn = match connect(alloc, files, options) {
             Ok(conn) => conn,
             Err((_, left)) => return Err((StoreFault::Unavailable, Some(left))),
         };
         match Store::create_on(alloc, conn, config) {
             Ok(store) => Ok(store),
-            Err((fault, conn)) => match closed(conn) {
+            Err((fault, conn)) => match close_connection(conn) {
                 Some(files) => Err((fault, Some(files))),
                 None => Err((StoreFault::Unavailable, None)),
             },
         }
     }
 
-    /// The register that the files hold. It is NotARegister only where they hold no database, or one that does not say one
-    /// number of its schema, and WrongSchema only where that is another than this version's; then they hold what they held,
-    /// and so does what a crash leaves. Else a refusal is Unavailable. It may give the files back.
+    /// The register that the files hold. The refusal is NotARegister only where they hold no database, or one that does
+    /// not say one number of its schema, and WrongSchema only where that is another than this version's; then they hold
+    /// what they held, and so does what a crash leaves. Else it is Unavailable. It may give the files back.
     pub fn open(
         alloc: Global,
         files: Files<D>,
@@ -162,15 +163,16 @@ impl<D: Disk + Drop> Store<FileStore<D>> {
         ensures survives { IfOk result (λ s.
             SurvivesSince (image_of D.Disk files) s.conn (λ _. ⊥)) }
         ensures refused { IfErr result (λ e.
-            IsRefusedBy opens IsUnavailable (image_of D.Disk files) e.0 (given_back D.Disk e.1)) }
+            IsRefusedBy (in_files opens) IsUnavailable (image_of D.Disk files) e.0
+            (given_back D.Disk e.1)) }
     {
-        let conn = match connected(alloc, files, options) {
+        let conn = match connect(alloc, files, options) {
             Ok(conn) => conn,
             Err((fault, left)) => return Err((fault, Some(left))),
         };
         match Store::open_on(alloc, conn) {
             Ok(store) => Ok(store),
-            Err((fault, conn)) => match closed(conn) {
+            Err((fault, conn)) => match close_connection(conn) {
                 Some(files) => Err((fault, Some(files))),
                 None => Err((StoreFault::Unavailable, None)),
             },

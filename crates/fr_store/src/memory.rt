@@ -95,11 +95,11 @@ impl Disk for MemoryFile {
     }
 
     fn write_at(&mut self, at: usize, bytes: &[u8]) -> io::Result<()> {
-        counted(overwrite(&mut self.bytes, at, bytes), &mut self.faults)
+        count_fault(overwrite(&mut self.bytes, at, bytes), &mut self.faults)
     }
 
     fn set_len(&mut self, len: usize) -> io::Result<()> {
-        counted(resize(&mut self.bytes, len), &mut self.faults)
+        count_fault(resize(&mut self.bytes, len), &mut self.faults)
     }
 
     fn sync(&mut self) -> io::Result<()> {
@@ -157,8 +157,8 @@ impl Store<FileStore<MemoryFile>> {
     }
 }
 
-/// The outcome of a call. A failure is counted among the faults.
-fn counted(outcome: Result<(), AllocError>, faults: &mut u64) -> io::Result<()>
+/// Counts a failure of the call among the faults. Gives the outcome of the call.
+fn count_fault(outcome: Result<(), AllocError>, faults: &mut u64) -> io::Result<()>
     ensures variant { is_ok result ≡ is_ok outcome }
     ensures kind { finds_no_room result ≡ false }
     ensures faults { CountsFault result faults.old faults.new }

@@ -93,7 +93,8 @@ fn in_one_transaction<S: Alter>(alloc: Global, conn: &mut Connection<S>) -> Resu
     ensures survives { Survives (state S.Store conn.old) (state S.Store conn.new)
         (LeavesMigrated (state S.Store conn.old)) }
 {
-    let _settled = conn.is_autocommit();
+    // Gives the proof that all changes so far are committed.
+    let _committed = conn.is_autocommit();
     let mut tx = conn.transaction();
     change_schema(alloc, &mut tx)?;
     tx.commit()?;
@@ -111,7 +112,8 @@ pub(crate) fn require_open<S: Alter>(conn: &mut Connection<S>) -> Result<(), Sto
     ensures autocommit { conn.new.in_transaction ≡ false }
     ensures survives { Survives (state S.Store conn.old) (state S.Store conn.new) (λ _. ⊥) }
 {
-    let _settled = conn.is_autocommit();
+    // Gives the proof that all changes so far are committed.
+    let _committed = conn.is_autocommit();
     match conn.prepare("SELECT schema FROM register") {
         Ok(_) => Ok(()),
         Err(_) => Err(StoreFault::Unavailable),
@@ -120,10 +122,10 @@ pub(crate) fn require_open<S: Alter>(conn: &mut Connection<S>) -> Result<(), Sto
 
 const NUMBER_BEFORE: i64 = 1;
 
-/// Makes a register of the schema before one of this schema: all of it, or nothing. Its clusters had 64 cycles, and
-/// so has this one then; all else stays, and its tables are such as an open wants. It is NotARegister only where the tables
-/// say no number, WrongSchema only where they say another one, this schema's too, and else Unavailable, also where no
-/// register has such rows; then the tables are as they were, while the connection is open.
+/// Makes a register of the schema before one of this schema: all of it, or nothing. Its clusters had 64 cycles, and so
+/// has this one then; all else stays, and its tables are such as an open wants. The refusal is NotARegister only where
+/// the tables say no number, WrongSchema only where they say another one, this schema's too, and else Unavailable, also
+/// where no register has such rows; then the tables are as they were, while the connection is open.
 pub fn migrate_on<S: Alter>(alloc: Global, conn: &mut Connection<S>) -> Result<(), StoreFault>
     ensures migrated { HasCleanDisk (state S.Store conn.new) → (c : _) (b : _)
         → StandsBefore (state S.Store conn.old) c b

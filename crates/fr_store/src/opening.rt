@@ -106,7 +106,7 @@ pub(crate) fn config_of(
 
 const NUMBER: i64 = 2;
 
-/// The config of the register that the tables are, or why they are not opened.
+/// The config of the register that has these tables, or why no register is opened on them.
 fn read_config<S: Alter>(alloc: Global, conn: &mut Connection<S>) -> Result<Config, StoreFault>
     requires { conn.old.in_transaction ≡ false }
     ensures formed { IfOk result IsWellFormed }
@@ -140,8 +140,8 @@ fn read_config<S: Alter>(alloc: Global, conn: &mut Connection<S>) -> Result<Conf
 }
 
 impl<S: Alter + Drop> Store<S> {
-    /// The register that the tables are, with its connection open. A refusal hands the connection
-    /// back, with its tables as they were.
+    /// The register that has the connection's tables. The connection is open then. A refusal hands
+    /// the connection back, with its tables as they were.
     pub fn open_on(
         alloc: Global,
         mut conn: Connection<S>,

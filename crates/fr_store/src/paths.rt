@@ -6,27 +6,27 @@ ghost use Rattle.sqlite.specs.State.{HasCleanDisk};
 ghost use Rattle.sqlite.specs.Files.{file_state};
 ghost use Rattle.fr_base.specs.Book.{opening};
 ghost use Rattle.fr_store.specs.Opened.{IsConnected, IsMadeIn, IsOpenedIn};
-ghost use Rattle.fr_store.specs.Refused.{IsRefusedBy, IsUnavailable, IsUnopened, makes, opens};
+ghost use Rattle.fr_store.specs.Refused.{IsRefusedBy, IsSpared, IsUnavailable, IsUnopened, makes, opens};
 ghost use Rattle.fr_store.specs.Store.{IsRegisterFor};
 ghost use Rattle.fr_store.specs.StoreFiles.{SurvivesSince, database_of};
 
 use crate::fault::StoreFault;
-use crate::files::closed;
+use crate::files::close_connection;
 use crate::store::Store;
 use fr_base::Config;
 use fr_tables::reopen::reopen;
 use sqlite::{Connection, Error, ErrorCode, FileFrom, FileStore, Leftover, Start};
 use std::rt::HostRuntime;
 
-/// The database in the file at a path, or an empty one where there is none.
-pub(crate) fn connected_at<S: Start>(
+/// Connects to the database in the file at a path, or to an empty one where there is no file.
+pub(crate) fn connect_at<S: Start>(
     rt: &HostRuntime,
     path: &str,
     start: S,
 ) -> Result<Connection<FileStore<FileFrom<S>>>, (StoreFault, Option<Leftover<FileFrom<S>>>)>
     ensures connected { IfOk result (λ c. HasCleanDisk (file_state c)
         → IsConnected (image_at S.Start) (file_state c)) }
-    ensures refused { IfErr result (λ e. IsUnopened (image_at S.Start) e.0 e.1) }
+    ensures refused { IfErr result (λ e. IsUnopened IsSpared (image_at S.Start) e.0 e.1) }
 {
     let conn = match Connection::open_from(rt, path, false, start) {
         Ok(conn) => conn,
@@ -42,9 +42,10 @@ pub(crate) fn connected_at<S: Start>(
 }
 
 impl<S: Start> Store<FileStore<FileFrom<S>>> {
-    /// Makes a register of this cluster in the file at a path, or in a new one: all of it, or nothing. It is NotEmpty only
-    /// where the file holds one of a register's tables already, and then it holds what it held. `start` says what the file
-    /// held as it was opened. A refusal may give back what is left of the files.
+    /// Makes a register of this cluster in the file at a path, or in a new one: all of it, or nothing. The refusal is
+    /// NotEmpty only where the file holds one of a register's tables already. `start` says what the file held as it was
+    /// opened. A refusal may give back what is left of the files. Files that come back closed hold what they held,
+    /// whatever the fault.
     ///
     /// No clause reaches the path. Other paths than those of files, `:memory:` and `file:..`, are Unavailable.
     pub fn create_at(
@@ -68,7 +69,7 @@ impl<S: Start> Store<FileStore<FileFrom<S>>> {
         };
         match Store::create_on(rt.alloc(), conn, config) {
             Ok(store) => Ok(store),
-            Err((fault, conn)) => match closed(conn) {
+            Err((fault, conn)) => match close_connection(conn) {
                 Some(files) => Err((fault, Some(Leftover::Files(files)))),
                 None => Err((StoreFault::Unavailable, None)),
             },
@@ -76,10 +77,10 @@ impl<S: Start> Store<FileStore<FileFrom<S>>> {
     }
 
     /// The register in the file at a path. `start` says what the file held as it was opened. The faults are those of
-    /// `open`. A refusal may give back what is left of the files.
+    /// `open`. A refusal may give back what is left of the files, of which the same is so as of `create_at`.
     ///
-    /// No clause reaches the path. Where there is no file it is NotARegister, and a database with no table is then there.
-    /// Other paths than those of files are Unavailable.
+    /// No clause reaches the path. Where there is no file the refusal is NotARegister, and a database with no table is
+    /// then there. Other paths than those of files are Unavailable.
     pub fn open_at(
         rt: &HostRuntime,
         path: &str,
@@ -92,13 +93,13 @@ impl<S: Start> Store<FileStore<FileFrom<S>>> {
         ensures refused { IfErr result (λ e.
             IsRefusedBy opens IsUnavailable (image_at S.Start) e.0 e.1) }
     {
-        let conn = match connected_at(rt, path, start) {
+        let conn = match connect_at(rt, path, start) {
             Ok(conn) => conn,
             Err((fault, left)) => return Err((fault, left)),
         };
         match Store::open_on(rt.alloc(), conn) {
             Ok(store) => Ok(store),
-            Err((fault, conn)) => match closed(conn) {
+            Err((fault, conn)) => match close_connection(conn) {
                 Some(files) => Err((fault, Some(Leftover::Files(files)))),
                 None => Err((StoreFault::Unavailable, None)),
             },

@@ -31,9 +31,9 @@ impl<S: Alter> Store<S> {
         Ok(!rows.is_empty())
     }
 
-    /// The supplier's page of the variant, if the variant is there. It is the supplier's where the
-    /// config has as many cycles as the cluster for which the tables stand. The only refusal is
-    /// `Unavailable`.
+    /// The supplier's page of the variant, if the variant is there. It has the supplier's rows of
+    /// the book for which the tables stand, if that book's cluster has as many cycles as the config.
+    /// The only refusal is `Unavailable`.
     pub fn page(
         &mut self,
         alloc: Global,

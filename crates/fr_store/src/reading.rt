@@ -2,7 +2,6 @@
 //! imports.
 
 ghost use Rattle.std.specs.Prelude.{◌≡◌, map, All, IfErr, IfOk, IfSome, IsTrue, option_map, slice_get};
-ghost use Rattle.fr_world.specs.Common.{row_of};
 ghost use Rattle.fr_world.specs.ImportLabels.{kept_of};
 ghost use Rattle.fr_store.specs.Reading.{AreOpened, WasOpened, holder_shown, import_shown, name_shown, variant_shown};
 ghost use Rattle.fr_store.specs.declared.fault.StoreFault.TheVariants.{Unavailable};
@@ -11,7 +10,7 @@ use crate::fault::StoreFault;
 use crate::slot_holder::Holder;
 use fr_base::{MAX_DEPTH, MAX_VARIANTS, Name, VariantRow};
 use fr_tables::values::{body_at, flag_at, maybe_name_at, name_at, number_at};
-use fr_world::KeptImport;
+use fr_world::{KeptImport, find_variant};
 use sqlite::Row;
 use std::alloc::Global;
 
@@ -52,7 +51,8 @@ fn each_was_opened(variants: &[VariantRow]) -> bool
     true
 }
 
-// Whether the variant has depth 1 and no parent, or its parent is there, released and one less deep.
+// Whether the variant has depth 1 and no parent, or its parent is there and released, and its depth
+// is one more than its parent's.
 #[tactic(auto, unfolding(crate::proofs::ReadingLemmas::opened_open))]
 fn was_opened(variants: &[VariantRow], row: &VariantRow) -> bool
     ensures { IsTrue result → WasOpened variants.now row.now }
@@ -60,19 +60,12 @@ fn was_opened(variants: &[VariantRow], row: &VariantRow) -> bool
     let Some(name) = row.parent else {
         return row.depth == 1;
     };
-    match find(variants, name) {
+    match find_variant(variants, name) {
         Some(parent) => {
             parent.released && parent.depth < MAX_DEPTH && row.depth == parent.depth + 1
         }
         None => false,
     }
-}
-
-// The variant of this name.
-fn find(variants: &[VariantRow], name: Name) -> Option<&VariantRow>
-    ensures { option_map (λ row. row.now) result ≡ row_of variants.now name }
-{
-    variants.iter().find(|row| row.variant == name)
 }
 
 // The variants in the rows. None where a row has not the form, or memory is refused.

@@ -45,8 +45,8 @@ fn make_before<S: Alter>(conn: &mut Connection<S>) -> Result<(), Error>
     tx.commit()
 }
 
-/// Where the objects stand that were made last: `cluster2`; the index, if it is there; and the
-/// table of ANALYZE, before `cluster2` or behind it, if it is there.
+/// The trees of the objects that were made last: of the table `cluster2`; of the index, if it is
+/// there; and of the table of ANALYZE, before `cluster2` or behind it, if it is there.
 #[derive(Clone, Copy)]
 struct Layout {
     cluster2: u32,
@@ -55,23 +55,29 @@ struct Layout {
     behind: Option<u32>,
 }
 
-/// The schema that this version makes, with those objects in these trees.
-fn our_schema(
-    alloc: Global,
-    cluster2: u32,
-    index: Option<u32>,
-    before: Option<u32>,
-    behind: Option<u32>,
-) -> Result<Schema, Error>
+/// The schema that this version makes, with `cluster2`, the index and the table of ANALYZE in the
+/// trees of this layout.
+fn our_schema(alloc: Global, layout: Layout) -> Result<Schema, Error>
     ensures { IfOk result (λ schema.
         schema ≡ register_schema
-        (record { cluster2 = cluster2; index = index; before = before; behind = behind })) }
+        (record {
+          cluster2 = layout.cluster2;
+          index = layout.index;
+          before = layout.before;
+          behind = layout.behind;
+        })) }
 {
     let mut conn = Connection::open_in_memory(alloc)?;
     make(&mut conn)?;
     let mut schema = conn.schema().copy(alloc)?;
-    move_index(&mut schema, index)?;
-    move_table(alloc, &mut schema, cluster2, before, behind)?;
+    move_index(&mut schema, layout.index)?;
+    move_table(
+        alloc,
+        &mut schema,
+        layout.cluster2,
+        layout.before,
+        layout.behind,
+    )?;
     Ok(schema)
 }
 
@@ -100,7 +106,7 @@ fn table_at(schema: &Schema, place: usize) -> Option<u32> {
     }
 }
 
-/// The tree of the index after those of the keys, if there is one.
+/// The tree of the index of grants, which stands after the indexes of keys, if it is there.
 fn index_of(schema: &Schema) -> Option<u32> {
     match schema.indexes.as_slice().get(KEYS) {
         Some(index) => Some(index.tree),
@@ -108,7 +114,8 @@ fn index_of(schema: &Schema) -> Option<u32> {
     }
 }
 
-/// Whether the first table behind the eleven has the name of the table of ANALYZE.
+/// Whether the first table behind the eleven tables of the schema before has the name of the table
+/// of ANALYZE.
 fn has_stats_first(schema: &Schema) -> bool {
     match schema.tables.as_slice().get(TABLES) {
         Some(table) => table.name.as_slice() == b"sqlite_stat1".as_slice(),
@@ -116,7 +123,7 @@ fn has_stats_first(schema: &Schema) -> bool {
     }
 }
 
-/// Where the objects stand that were made last, if this is the schema of this version.
+/// The layout of the schema, if it is the schema of this version.
 fn layout_of(schema: &Schema) -> Option<Layout> {
     let index = index_of(schema);
     let first = table_at(schema, TABLES);
@@ -140,8 +147,8 @@ fn layout_of(schema: &Schema) -> Option<Layout> {
     })
 }
 
-/// Whether the tree, if there is one, stands behind those of the eleven tables and before the other
-/// tree.
+/// Whether the tree, if there is one, stands behind those of the eleven tables of the schema before,
+/// and before the other tree.
 fn is_between(place: Option<u32>, other: u32) -> bool
     ensures { IsTrue result → IfSome place (λ tree. (20 < tree) × (tree < other)) }
 {
@@ -151,8 +158,7 @@ fn is_between(place: Option<u32>, other: u32) -> bool
     }
 }
 
-/// Whether the schema is that of this version, wherever the objects stand that were made last. Want
-/// of memory counts as no.
+/// Whether the schema is that of this version, whatever its layout. Want of memory counts as no.
 pub(crate) fn is_ours(alloc: Global, schema: &Schema) -> bool
     ensures { IsTrue result → IsOurs schema.now }
 {
@@ -163,7 +169,7 @@ pub(crate) fn is_ours(alloc: Global, schema: &Schema) -> bool
     if tree <= 20 || tree >= 25 || !is_between(layout.before, tree) {
         return false;
     }
-    match our_schema(alloc, tree, layout.index, layout.before, layout.behind) {
+    match our_schema(alloc, layout) {
         Ok(ours) => same_schema(schema, &ours),
         Err(_) => false,
     }

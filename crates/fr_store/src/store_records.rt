@@ -33,7 +33,7 @@ impl<S: Alter> Records for Store<S> {
     }
 
     fn has_variant(&mut self, variant: Name) -> Result<bool, Refusal> {
-        require_open(self)?;
+        require_ready(self)?;
         or_unavailable(self.has_variant(&variant))
     }
 
@@ -43,23 +43,23 @@ impl<S: Alter> Records for Store<S> {
         supplier: Name,
         variant: Name,
     ) -> Result<Option<Page>, Refusal> {
-        require_open(self)?;
+        require_ready(self)?;
         or_unavailable(self.page(alloc, &supplier, &variant))
     }
 
     fn is_held(&mut self, variant: Name, slot: Slot, channel: Channel) -> Result<bool, Refusal> {
-        require_open(self)?;
+        require_ready(self)?;
         let holder = or_unavailable(self.holder(&variant, slot, channel))?;
         Ok(holder.is_some())
     }
 
     fn variants(&mut self, alloc: Global) -> Result<Vec<VariantRow>, Refusal> {
-        require_open(self)?;
+        require_ready(self)?;
         or_unavailable(self.variants(alloc))
     }
 
     fn nodes(&mut self, alloc: Global, supplier: Name) -> Result<Vec<Name>, Refusal> {
-        require_open(self)?;
+        require_ready(self)?;
         or_unavailable(self.nodes(alloc, &supplier))
     }
 
@@ -69,24 +69,24 @@ impl<S: Alter> Records for Store<S> {
         supplier: Name,
         label: Name,
     ) -> Result<Option<KeptImport>, Refusal> {
-        require_open(self)?;
+        require_ready(self)?;
         or_unavailable(self.import(alloc, &supplier, &label))
     }
 
     fn imports(&mut self, _alloc: Global, supplier: Name) -> Result<usize, Refusal> {
-        require_open(self)?;
+        require_ready(self)?;
         or_unavailable(self.imports(&supplier))
     }
 
     fn apply(&mut self, alloc: Global, edits: &[Edit]) -> Result<(), Refusal> {
-        require_open(self)?;
+        require_ready(self)?;
         or_unavailable(self.apply(alloc, edits))
     }
 }
 
 // Makes sure that the register can answer. Once a fault has shut it, nothing is read and nothing is
 // changed.
-fn require_open<S: Alter>(store: &mut Store<S>) -> Result<(), Refusal>
+fn require_ready<S: Alter>(store: &mut Store<S>) -> Result<(), Refusal>
     ensures reads { Reads (λ s. HasCleanDisk (state S.Store s.conn)) (λ s. s.config.cluster.params)
         (λ s. StoredLeaves (state S.Store s.conn)) store.old store.new }
     ensures config { store.new.config ≡ store.old.config }

@@ -44,7 +44,8 @@ pub fn ask_and_undo<S: Alter>(conn: &mut Connection<S>, sql: &str) -> Result<Vec
     ensures autocommit { conn.new.in_transaction ≡ false }
     ensures survives { Survives (state S.Store conn.old) (state S.Store conn.new) (λ _. ⊥) }
 {
-    let _settled = conn.is_autocommit();
+    // Gives the proof that all changes so far are committed.
+    let _committed = conn.is_autocommit();
     let mut tx = conn.transaction();
     tx.query_all(sql, &[])
 }

@@ -1,26 +1,24 @@
 //! The cluster that the rows of a register tell.
 
-ghost use Rattle.std.specs.Prelude.{◌≡◌, [], ◌∷◌, pos, map, IfOk, IfSome, IsTrue, Ok};
+ghost use Rattle.std.specs.Prelude.{◌≡◌, [], ◌∷◌, map, IfOk, IfSome, IsTrue, Ok};
 ghost use Rattle.sqlite.specs.Order.{column};
-ghost use Rattle.sqlite.specs.declared.types.Value.TheVariants.{Int, Text};
+ghost use Rattle.sqlite.specs.declared.types.Value.TheVariants.{Text};
 ghost use Rattle.fr_base.specs.Names.{is_name, is_key};
 ghost use Rattle.fr_base.specs.Parameters.{check_params};
-ghost use Rattle.fr_base.specs.Channels.{text_of_channels};
 ghost use Rattle.fr_base.specs.Cluster.{IsWellFormed, names_rise, is_cluster};
 ghost use Rattle.fr_tables.specs.Statements.{cluster_row, cluster2_row, shows_cluster, shows_cluster2, shows_supplier};
 ghost use Rattle.fr_tables.specs.Filling.{supplier_row};
 ghost use Rattle.fr_tables.specs.ClusterRows.{AreFormed, TellsParams, shown_supplier};
 
+use crate::values::{channels_at, name_at, number_at, text_at};
 use fr_base::{
-    Channels, Config, Key, MAX_SUPPLIERS, Name, NoMemory, Params, RawParams, Supplier, Suppliers,
-    keys_differ,
+    Config, Key, MAX_SUPPLIERS, NoMemory, Params, RawParams, Supplier, Suppliers, keys_differ,
 };
 use sqlite::Row;
-use sqlite_value::value::ValueRef;
 use std::alloc::Global;
 
 /// A copy of a config.
-pub fn copied(alloc: Global, config: &Config) -> Result<Config, NoMemory>
+pub fn copy_config(alloc: Global, config: &Config) -> Result<Config, NoMemory>
     ensures { IfOk result (λ copy. copy ≡ config.now) }
 {
     let mut suppliers = Suppliers::new(alloc);
@@ -31,42 +29,11 @@ pub fn copied(alloc: Global, config: &Config) -> Result<Config, NoMemory>
     Ok(Config::new(config.params(), config.integrator(), suppliers))
 }
 
-fn number(row: &Row, at: usize) -> Option<u32>
-    ensures { IfSome result (λ n. column row.now at ≡ Int (pos n)) }
-{
-    match row.get_ref(at) {
-        Ok(ValueRef::Int(n)) => u32::try_from(n).ok(),
-        _ => None,
-    }
-}
-
-fn text(row: &Row, at: usize) -> Option<&str>
-    ensures { IfSome result (λ text. column row.now at ≡ Text text.now) }
-{
-    match row.get_ref(at) {
-        Ok(ValueRef::Text(bytes)) => std::str::from_utf8(bytes).ok(),
-        _ => None,
-    }
-}
-
-fn channels(row: &Row, at: usize) -> Option<Channels>
-    ensures { IfSome result (λ channels. column row.now at ≡ Text (text_of_channels channels)) }
-{
-    Channels::read(text(row, at)?)
-}
-
 fn key(row: &Row, at: usize) -> Option<Key>
     ensures value { IfSome result (λ key. column row.now at ≡ Text key) }
     ensures formed { IfSome result (λ key. IsTrue (is_key key)) }
 {
-    Key::read(text(row, at)?)
-}
-
-fn name(row: &Row, at: usize) -> Option<Name>
-    ensures value { IfSome result (λ name. column row.now at ≡ Text name) }
-    ensures formed { IfSome result (λ name. IsTrue (is_name name)) }
-{
-    Name::read(text(row, at)?)
+    Key::read(text_at(row, at)?)
 }
 
 // The parameters that the row's first columns say, with this count of cycles.
@@ -75,14 +42,14 @@ fn raw_params(row: &Row, cycles: u32) -> Option<RawParams>
     ensures cycles { IfSome result (λ raw. raw.cycles ≡ cycles) }
 {
     Some(RawParams {
-        static_slots: number(row, 0)?,
-        slot_macroticks: number(row, 1)?,
-        dynamic_macroticks: number(row, 2)?,
-        symbol_macroticks: number(row, 3)?,
-        idle_macroticks: number(row, 4)?,
-        macroticks_per_cycle: number(row, 5)?,
-        payload_words: number(row, 6)?,
-        channels: channels(row, 7)?,
+        static_slots: number_at(row, 0)?,
+        slot_macroticks: number_at(row, 1)?,
+        dynamic_macroticks: number_at(row, 2)?,
+        symbol_macroticks: number_at(row, 3)?,
+        idle_macroticks: number_at(row, 4)?,
+        macroticks_per_cycle: number_at(row, 5)?,
+        payload_words: number_at(row, 6)?,
+        channels: channels_at(row, 7)?,
         cycles,
     })
 }
@@ -96,7 +63,7 @@ fn params_of(row: &Row) -> Option<(Params, Key)>
     if row.column_count() != 10 {
         return None;
     }
-    let raw = raw_params(row, number(row, 9)?)?;
+    let raw = raw_params(row, number_at(row, 9)?)?;
     let params = Params::check(raw).ok()?;
     Some((params, key(row, 8)?))
 }
@@ -140,7 +107,7 @@ fn supplier_of(row: &Row) -> Option<Supplier>
         return None;
     }
     Some(Supplier {
-        name: name(row, 0)?,
+        name: name_at(row, 0)?,
         key: key(row, 1)?,
     })
 }

@@ -1,9 +1,10 @@
 //! Values of the register in the columns of a row. `None` is a value that has not the form.
 
-ghost use Rattle.std.specs.Prelude.{◌≡◌, pos, Some, IfSome};
+ghost use Rattle.std.specs.Prelude.{◌≡◌, pos, Some, IfSome, IsTrue};
 ghost use Rattle.sqlite.specs.declared.types.Value.TheVariants.{Blob, Int, Text};
 ghost use Rattle.sqlite.specs.Order.{column};
-ghost use Rattle.fr_base.specs.Channels.{channel_of_text, channels_of_text};
+ghost use Rattle.fr_base.specs.Channels.{channel_of_text, channels_of_text, text_of_channels};
+ghost use Rattle.fr_base.specs.Names.{is_name};
 ghost use Rattle.fr_tables.specs.Rows.{of_maybe, words, flag};
 
 use fr_base::{Body, Channel, Channels, Name, Slot};
@@ -11,7 +12,8 @@ use sqlite::Row;
 use sqlite_value::value::ValueRef;
 use std::alloc::Global;
 
-fn text_at(row: &Row, at: usize) -> Option<&str>
+/// The text.
+pub(crate) fn text_at(row: &Row, at: usize) -> Option<&str>
     ensures { IfSome result (λ text. column row.now at ≡ Text text.now) }
 {
     match row.get_ref(at) {
@@ -22,7 +24,8 @@ fn text_at(row: &Row, at: usize) -> Option<&str>
 
 /// The name.
 pub fn name_at(row: &Row, at: usize) -> Option<Name>
-    ensures { IfSome result (λ name. column row.now at ≡ Text name) }
+    ensures value { IfSome result (λ name. column row.now at ≡ Text name) }
+    ensures formed { IfSome result (λ name. IsTrue (is_name name)) }
 {
     Name::read(text_at(row, at)?)
 }
@@ -75,7 +78,8 @@ pub fn channel_at(row: &Row, at: usize) -> Option<Channel>
 
 /// The channels.
 pub fn channels_at(row: &Row, at: usize) -> Option<Channels>
-    ensures { IfSome result (λ channels.
+    ensures value { IfSome result (λ channels. column row.now at ≡ Text (text_of_channels channels)) }
+    ensures read { IfSome result (λ channels.
         channels_of_text (words (column row.now at)) ≡ Some channels) }
 {
     Channels::read(text_at(row, at)?)

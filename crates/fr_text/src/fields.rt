@@ -100,7 +100,7 @@ pub(crate) fn number_in(fields: &Fields, name: &str) -> Result<u32, Refusal>
         .ok_or(Refusal::BadText)
 }
 
-/// Refuses fields that have a name beside these.
+/// Refuses an object that has a field with any other name.
 pub(crate) fn allow_only(fields: &Fields, names: &[&str]) -> Result<(), Refusal>
     ensures there { Reads (λ _. tt)
         (provided (only (map (λ name. name.now) names.now) (fields_in fields.now))) result }

@@ -75,7 +75,8 @@ impl<'a, W: Sink> Output<'a, W> {
         Ok(())
     }
 
-    // Uses up a retry for a write that failed so: one that was interrupted, where a retry is left.
+    // Uses up a retry where the write was interrupted and a retry is left. Else it is `WriteFailed`,
+    // and the retries stay.
     fn use_retry(&mut self, error: &Error) -> Result<(), WriteFailed>
         ensures ok { OnOk result (self.new.retries + 1 ≡ self.old.retries) }
         ensures err { OnErr result (self.new.retries ≡ self.old.retries) }

@@ -4,8 +4,8 @@ ghost use Rattle.std.specs.IoError.{error_kind};
 
 use std::io::{Error, ErrorKind};
 
-/// Whether a call that failed so is made again: it is, where it was interrupted. Else this is its
-/// fault.
+/// Whether a call that failed with this error is to be made again: `Ok` where it was interrupted, else
+/// this fault.
 pub fn try_again<F: Copy>(error: &Error, fault: F) -> Result<(), F>
     ensures again { IsOk result ↔ (error_kind error.now ≡ ErrorKind.Interrupted) }
     ensures fault { IfErr result (λ e. e ≡ fault) }

@@ -1,18 +1,18 @@
 //! What takes the bytes of an output.
 use std::io::{self, Write};
 
-/// Takes bytes, a write at a time. What an output is proved to do, it is proved to do at each sink, whatever its writes and
-/// flushes come to; so it makes those that its clauses tell, and no others.
+/// Takes bytes, a write at a time. What is proved of an output is proved for every sink, whatever the sink's writes and
+/// flushes come to. So an output makes the writes and flushes that its clauses tell, and no others.
 pub trait Sink: Write {
     ghost use Rattle.std.specs.Prelude.{ℕ, List, Result, ⊤};
     ghost use Rattle.std.specs.Io.{WritesAtMost};
     ghost use Rattle.std.specs.Io.KnownBytes.{Keeps, WriteAppends};
     ghost use Rattle.std.specs.declared.io.Error.{Error};
 
-    /// So a write of bytes may go, with what it gives.
+    /// What a write of these bytes may come to: its result, and the sink after it.
     ghost writes: { Self → List ℕ → Result ℕ Error → Self → Type 0 };
 
-    /// So a flush may go, with what it gives.
+    /// What a flush may come to: its result, and the sink after it.
     ghost flushes: { Self → Result ⊤ Error → Self → Type 0 };
 
     /// One write.

@@ -30,9 +30,9 @@ use std::alloc::Global;
 use std::collections::{BTreeMap, BTreeSet};
 
 impl Page {
-    /// Makes the edit of the page's rows, after which a page has these rows. A row that is put
-    /// takes the place of the row with its key. An edit that ends a row which is not there changes
-    /// nothing. `Unavailable` where memory is refused, which changes nothing.
+    /// Changes the page's rows as the edit says. The new rows have to be such as a page may have. A
+    /// row that is put takes the place of the row with its key. An edit that ends a row which is
+    /// not there changes nothing. `Unavailable` where memory is refused, which changes nothing.
     pub fn amend(&mut self, alloc: Global, edit: &Edit) -> Result<(), Refusal>
         requires takes { Takes self.old.variant (own_rows_of self.old) edit.now }
         ensures page { OnOk result (own_rows_of self.new ≡ edited (own_rows_of self.old) edit.now) }
@@ -131,7 +131,8 @@ fn end_grant(grants: &mut BTreeMap<ChannelSlot, Name>, slot: Slot, channel: Chan
     grants.remove(&ChannelSlot { slot, channel });
 }
 
-// Adds the frame, in a payload of so many words, in place of what had its name.
+// Adds the frame, with no placements and no signals in a payload of so many words. A former
+// frame of its name is gone then.
 fn add_frame(
     frames: &mut BTreeMap<Name, PageFrame>,
     cells: &mut MaskOccupancy,

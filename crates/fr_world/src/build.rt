@@ -1,4 +1,4 @@
-//! Which rows are a page's.
+//! Which rows a page may have.
 ghost use Rattle.std.specs.Prelude.{◌≡◌, IfNone, IfOk, IfSome};
 ghost use Rattle.fr_world.specs.PageCells.{ArePlaced};
 ghost use Rattle.fr_world.specs.Pages.{IsKept, frames_data, rows_data};

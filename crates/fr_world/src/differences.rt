@@ -56,8 +56,9 @@ pub fn push_differences<T: KeyedRow>(
     Ok(())
 }
 
-// Appends what is told of the rows of the list up to this row of the other list, and of this row.
-// The answer is the rest of the list.
+// Appends the new list's rows whose keys come before this old row's. Then it appends the old row
+// where the new list lacks its key, or both rows of the key where they differ. Gives the rest of the
+// new list.
 fn push_up_to<'a, T: KeyedRow>(
     row: &T,
     list: &'a [T],
@@ -87,7 +88,8 @@ fn push_up_to<'a, T: KeyedRow>(
     Ok(left)
 }
 
-// Appends what is told of two rows of one key: nothing where they are the same.
+// Appends two rows of one key, the old one first, where they differ. Where they are the same it
+// appends nothing.
 #[tactic(auto, unfolding(fr_base::specs::Merging::met))]
 fn push_met<T: KeyedRow>(old: &T, new: &T, rows: &mut Rows<DifferenceRow>) -> Result<(), NoMemory>
     ensures ok { OnOk result (rows.new ≡ rows.old

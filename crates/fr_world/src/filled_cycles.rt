@@ -29,7 +29,7 @@ impl FilledCycles {
         }
     }
 
-    /// Fills the placement's cycles too, on its channels.
+    /// Adds the placement's cycles to those that are filled, on each of its channels.
     pub(crate) fn mark(&mut self, placement: &Placement)
         ensures { (x : OneChannel) (k : ℕ)
             → is_bit_set (word_on x self.new) k

@@ -32,7 +32,7 @@ pub fn rows_decide()
 
 /// In a sound book the rows of a supplier's replacement are refused as on the supplier's page of
 /// the variant, the same row for the same reason, or make of the book what the page's edits make of
-/// it. They act where the frames that they name were freed.
+/// it. The frames that the rows name are freed before the first row is decided.
 pub fn replacement_decides()
     ensures { ReplacementDecides }
 {}
@@ -152,8 +152,8 @@ pub fn rows_fit()
     ensures { RowsFit }
 {}
 
-/// The edit that keeps the import fits the register's rows after them, where nothing is kept under
-/// the label.
+/// The edit that keeps the import fits the register's rows after the edits of its rows, where
+/// nothing is kept under the label.
 pub fn import_fits()
     ensures { ImportFits }
 {}

@@ -65,4 +65,4 @@ pub use rooms::room;
 pub use row_occupancy::RowOccupancy;
 pub use suppliers::{decide_key, decide_supplier};
 pub use triggerings::Triggerings;
-pub use variants::decide_common;
+pub use variants::{decide_common, find_variant};

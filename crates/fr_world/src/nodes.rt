@@ -13,7 +13,7 @@ use fr_base::{MAX_NODES, Name, Refusal};
 pub fn decide_node(supplier: Name, nodes: &[Name], node: Name) -> Result<Edit, Refusal>
     ensures { result ≡ new_node supplier nodes.now node }
 {
-    if has(nodes, node) {
+    if has_name(nodes, node) {
         return Err(Refusal::Exists);
     }
     if nodes.len() >= MAX_NODES {
@@ -23,7 +23,7 @@ pub fn decide_node(supplier: Name, nodes: &[Name], node: Name) -> Result<Edit, R
 }
 
 // Whether the name is one of these names.
-fn has(names: &[Name], name: Name) -> bool
+fn has_name(names: &[Name], name: Name) -> bool
     ensures { result ≡ list_any (λ other. same_text other name) names.now }
 {
     names.iter().any(|other| *other == name)

@@ -81,9 +81,9 @@ impl Clone for PageRows {
 
 /// A supplier's rows in a variant, in the order of their keys: at most 64 nodes and 256 frames.
 /// Each frame has at most 8 placements, which fit the cluster and lie in grants to its node, and
-/// its signals make a layout of the cluster's payload. No cell lies in two placements. Nobody asks
-/// whether the nodes of grants and frames are among the supplier's nodes. Beside the rows the page
-/// keeps which cells the frames fill.
+/// its signals make a layout of the cluster's payload. No cell lies in two placements. Whether the
+/// nodes of grants and frames are among the supplier's nodes is not checked. Beside the rows the
+/// page keeps which cells the frames fill.
 #[derive(Drop)]
 pub struct Page {
     pub(crate) rows: PageRows,

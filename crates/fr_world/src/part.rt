@@ -4,12 +4,12 @@ ghost use Rattle.fr_world.specs.Parts.{after, begun, has_begun, next_part};
 
 use fr_base::MAX_ROWS;
 
-/// How far the frames have come towards a part, or in it. A part takes whole frames, with at most
-/// 512 records.
+/// Whether a part of an export is still to begin, is being filled, or has ended, as frame after
+/// frame is counted. A part takes whole frames, with at most 512 records.
 #[derive(Clone, Copy, PartialEq, Eq)]
 pub enum Part {
-    /// So many parts are still to end before this one begins. The part that the frames fill now has
-    /// room for so many records more.
+    /// `ahead` parts are still to end before this one begins. The part that is being filled, which
+    /// is this one where `ahead` is 0, has room for `room` records more.
     Filling { ahead: u32, room: usize },
     /// The part has ended.
     Ended,
@@ -37,7 +37,7 @@ impl Part {
         matches!(self, Part::Filling { ahead: 0, room: _ })
     }
 
-    // How far the frames have come after one more frame with so many records.
+    // The part after one more frame, which has so many records.
     #[tactic(auto, unfolding(crate::specs::Parts::after))]
     fn after(self, count: usize) -> Part
         ensures { result ≡ after self count }
@@ -53,8 +53,8 @@ impl Part {
     }
 }
 
-// How far the frames have come after one more frame with so many records, for which the part before
-// had no room.
+// The part after one more frame, which has so many records, and for which the part that was being
+// filled had no room.
 #[tactic(auto, unfolding(crate::specs::Parts::next_part))]
 fn next_part(ahead: u32, count: usize) -> Part
     ensures { result ≡ next_part ahead count }

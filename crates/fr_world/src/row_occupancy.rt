@@ -152,7 +152,7 @@ fn is_row(row: &Row, frame: Name, placement: &Placement) -> bool
     row.frame == frame && row.placement.cmp(placement).is_eq()
 }
 
-// The one of the earlier cell. Where both are of one cell, it is the former.
+// Of two filled cells the earlier one; the first argument where they are the same.
 pub(crate) fn first_of(former: Option<Taken>, latter: Option<Taken>) -> Option<Taken>
     ensures { result ≡ earlier former latter }
 {

@@ -13,8 +13,8 @@ use crate::triggerings::{FrameSender, FrameSendings, FrameTriggering};
 use fr_base::{Channel, Channels, NoMemory, Params, Rows, Sending, Slot};
 use std::alloc::Global;
 
-/// Which of the senders sends in which cycle, slot and channel: by cycle, slot and channel. Where several
-/// placements have a cell, the first one is sent.
+/// Which of the senders sends in which cell, in the order of cycles, then slots, then channels.
+/// Where several placements have a cell, the first one is sent.
 pub(crate) fn schedule(
     alloc: Global,
     params: &Params,

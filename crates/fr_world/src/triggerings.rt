@@ -120,7 +120,7 @@ impl Triggerings {
         }
     }
 
-    /// Which frame is sent in which cycle, slot and channel: by cycle, slot and channel. Where
+    /// Which frame is sent in which cell, in the order of cycles, then slots, then channels. Where
     /// several placements have a cell, the first one is sent.
     pub fn schedule(&self, alloc: Global, params: &Params) -> Result<Rows<Sending>, NoMemory>
         ensures { IfOk result (λ rows. rows ≡ sent_in self.now (cluster_cells params.now)) }

@@ -28,7 +28,7 @@ fn open_variant(
     ensures { result ≡ common_edit variants.now (CommonCommand.OpenVariant variant parent.now) }
 {
     let depth = depth_after(variants, parent)?;
-    if find(variants, variant).is_some() {
+    if find_variant(variants, variant).is_some() {
         return Err(Refusal::Exists);
     }
     if variants.len() >= MAX_VARIANTS {
@@ -45,7 +45,7 @@ fn open_variant(
 fn release(variants: &[VariantRow], variant: Name) -> Result<Edit, Refusal>
     ensures { result ≡ common_edit variants.now (CommonCommand.Release variant) }
 {
-    let row = find(variants, variant).ok_or(Refusal::NoVariant)?;
+    let row = find_variant(variants, variant).ok_or(Refusal::NoVariant)?;
     if row.released {
         return Err(Refusal::Released);
     }
@@ -60,7 +60,7 @@ fn depth_after(variants: &[VariantRow], parent: &Option<Name>) -> Result<u32, Re
     let Some(parent) = parent else {
         return Ok(1);
     };
-    let row = find(variants, *parent).ok_or(Refusal::NoVariant)?;
+    let row = find_variant(variants, *parent).ok_or(Refusal::NoVariant)?;
     if !row.released {
         return Err(Refusal::NotReleased);
     }
@@ -70,8 +70,8 @@ fn depth_after(variants: &[VariantRow], parent: &Option<Name>) -> Result<u32, Re
     Ok(row.depth + 1)
 }
 
-// The variant of this name.
-fn find(variants: &[VariantRow], variant: Name) -> Option<&VariantRow>
+/// The variant of this name, if it is one of these.
+pub fn find_variant(variants: &[VariantRow], variant: Name) -> Option<&VariantRow>
     ensures { option_map (λ row. row.now) result ≡ row_of variants.now variant }
 {
     variants.iter().find(|row| row.variant == variant)

@@ -24,7 +24,7 @@ pub fn field_faults(alloc: Global, fields: &Fields) -> Result<Vec<String>, NoMem
     ensures { IfOk result (λ faults.
         are_none faults.items ≡ are_of_request (fields_in fields.now)) }
 {
-    let Some(request) = named(fields) else {
+    let Some(request) = request_name(fields) else {
         return one_fault(alloc, no_request(alloc, fields)?);
     };
     match fields_of(request) {
@@ -35,7 +35,7 @@ pub fn field_faults(alloc: Global, fields: &Fields) -> Result<Vec<String>, NoMem
 
 // What `do` says, if it is a text.
 #[tactic(auto, unfolding(fr_text::specs::Fields::text))]
-fn named(fields: &Fields) -> Option<&str>
+fn request_name(fields: &Fields) -> Option<&str>
     ensures { option_map (λ name. name.now) result ≡ text (codes "do") (fields_in fields.now) }
 {
     field(fields, "do").and_then(Value::as_str)
@@ -113,7 +113,7 @@ fn unknown(alloc: Global, request: &str, names: &[&str], name: &str) -> Result<S
     if names.is_empty() {
         return format!(in alloc; "field \"{name}\" is none of {request}, which has no fields");
     }
-    let list = listed(alloc, names)?;
+    let list = name_list(alloc, names)?;
     format!(in alloc; "field \"{name}\" is none of {request}: {list}")
 }
 
@@ -176,7 +176,7 @@ fn bad(
 }
 
 // The names, with commas between.
-fn listed(alloc: Global, names: &[&str]) -> Result<String, NoMemory> {
+fn name_list(alloc: Global, names: &[&str]) -> Result<String, NoMemory> {
     let mut list = String::new(alloc);
     for name in names {
         if !list.is_empty() {

@@ -19,7 +19,7 @@ pub fn header_faults(alloc: Global, fields: &ByteRecord) -> Result<Vec<String>, 
 
 // What a first record may be.
 fn header_fault(alloc: Global, fields: &ByteRecord) -> Result<String, NoMemory> {
-    let found = listed(alloc, fields)?;
+    let found = field_list(alloc, fields)?;
     let hint = hint(fields);
     format!(in alloc;
         "the header is \"{found}\", it may be \"frame,node\", \"frame,node,slot,channels,base,repetition\" or \"frame,signal,start,length,order\"{hint}"
@@ -27,7 +27,7 @@ fn header_fault(alloc: Global, fields: &ByteRecord) -> Result<String, NoMemory> 
 }
 
 // The fields of a record, with commas between.
-fn listed(alloc: Global, fields: &ByteRecord) -> Result<String, NoMemory> {
+fn field_list(alloc: Global, fields: &ByteRecord) -> Result<String, NoMemory> {
     let mut list = String::new(alloc);
     for (place, field) in fields.iter().enumerate() {
         if place > 0 {

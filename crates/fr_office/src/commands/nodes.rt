@@ -2,7 +2,6 @@
 ghost use Rattle.fr_base.specs.Step.{add_node};
 ghost use Rattle.fr_office.specs.Carried.{CarriesStep};
 
-use crate::answering::has_supplier;
 use fr_base::{Name, Refusal};
 use fr_world::{Records, decide_node};
 use std::alloc::Global;
@@ -17,7 +16,7 @@ pub(crate) fn add_node<R: Records>(
     ensures { CarriesStep R.Records (λ c b. add_node b supplier node)
         records.old records.new result }
 {
-    if !has_supplier(records.config(), supplier) {
+    if !records.config().has_supplier(supplier) {
         return Err(Refusal::NoSupplier);
     }
     let nodes = records.nodes(alloc, supplier)?;

@@ -7,7 +7,6 @@ ghost use Rattle.fr_office.specs.Decided.{IsBeside, IsOfKnown};
 ghost use Rattle.fr_world.specs.Held.{Tells};
 ghost use Rattle.fr_world.specs.Decisions.{IsChecked};
 
-use crate::answering::has_supplier;
 use crate::lender::{Lender, open_page};
 use fr_base::{Change, Refusal, RowsChange};
 use fr_world::{Records, decide};
@@ -63,11 +62,11 @@ fn look_beside<R: Records>(records: &mut R, rows: &RowsChange) -> Result<BesideP
     match &rows.change {
         Change::Grant { slot, channel, .. } => {
             let is_taken = records.is_held(rows.variant, *slot, *channel)?;
-            let is_there = has_supplier(records.config(), rows.supplier);
+            let is_there = records.config().has_supplier(rows.supplier);
             Ok(BesidePage { is_there, is_taken })
         }
         Change::Revoke { .. } => {
-            let is_there = has_supplier(records.config(), rows.supplier);
+            let is_there = records.config().has_supplier(rows.supplier);
             Ok(BesidePage {
                 is_there,
                 is_taken: false,

@@ -6,7 +6,7 @@ ghost use Rattle.fr_store.specs.Applying.{Edits};
 ghost use Rattle.fr_store.specs.FrameEdits.{EditsFrame};
 
 use crate::applying::done;
-use crate::applying::level::read_level;
+use crate::applying::origin::read_origin;
 use crate::applying::owning::make_own;
 use crate::fault::StoreFault;
 use fr_base::{Name, Placement, Signal};
@@ -19,9 +19,9 @@ use sqlite::{Alter, Transaction};
 pub fn drop_frame<S: Alter>(tx: &mut Transaction<'_, S>, key: &FrameKey) -> Result<(), StoreFault>
     ensures { Edits S.Store (EditsFrame key.now Drop) tx.old tx.new result }
 {
-    let level = read_level(tx, &key.variant)?;
+    let origin = read_origin(tx, &key.variant)?;
     frames::delete(tx, key)?;
-    if !level.overlay {
+    if !origin.overlay {
         return Ok(());
     }
     done(dropped::insert(tx, key))

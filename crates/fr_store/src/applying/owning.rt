@@ -8,7 +8,7 @@ ghost use Rattle.fr_tables.specs.Changes.{Runs};
 ghost use Rattle.fr_store.specs.declared.fault.StoreFault.TheVariants.{Unavailable};
 
 use crate::applying::done;
-use crate::applying::level::read_level;
+use crate::applying::origin::read_origin;
 use crate::fault::StoreFault;
 use fr_base::{MAX_DEPTH, Name};
 use fr_tables::frame_key::FrameKey;
@@ -37,7 +37,7 @@ fn owner<S: Alter>(tx: &mut Transaction<'_, S>, key: &FrameKey) -> Result<Name, 
         if is_own(tx, &here)? {
             return Ok(above);
         }
-        above = read_level(tx, &above)?
+        above = read_origin(tx, &above)?
             .parent
             .ok_or(StoreFault::Unavailable)?;
     }

@@ -5,12 +5,12 @@ ghost use Rattle.sqlite_wal.specs.Files.{image_at};
 ghost use Rattle.sqlite_wal.specs.Reads.{AreClean};
 ghost use Rattle.sqlite.specs.Files.{image_of, IsCleanLeft};
 ghost use Rattle.fr_store.specs.Opened.{IsMigrated};
-ghost use Rattle.fr_store.specs.Refused.{IsRefusedBy, IsUnavailable, files_alone, given_back, migrates};
+ghost use Rattle.fr_store.specs.Refused.{IsRefusedBy, IsUnavailable, files_alone, given_back, in_files, migrates};
 
 use crate::fault::StoreFault;
-use crate::files::{closed, connected};
+use crate::files::{close_connection, connect};
 use crate::migrating::migrate_on;
-use crate::paths::connected_at;
+use crate::paths::connect_at;
 use sqlite::{FileFrom, Files, Leftover, Options, Start};
 use sqlite_disk::Disk;
 use std::alloc::Global;
@@ -30,14 +30,15 @@ pub fn migrate<D: Disk + Drop>(
     ensures migrated { IfOk result (λ left. AreClean D.Disk left.log left.db
         → IsMigrated (image_of D.Disk files) (files_alone D.Disk left)) }
     ensures refused { IfErr result (λ e.
-        IsRefusedBy migrates IsUnavailable (image_of D.Disk files) e.0 (given_back D.Disk e.1)) }
+        IsRefusedBy (in_files migrates) IsUnavailable (image_of D.Disk files) e.0
+        (given_back D.Disk e.1)) }
 {
-    let mut conn = match connected(alloc, files, options) {
+    let mut conn = match connect(alloc, files, options) {
         Ok(conn) => conn,
         Err((fault, left)) => return Err((fault, Some(left))),
     };
     let told = migrate_on(alloc, &mut conn);
-    let Some(files) = closed(conn) else {
+    let Some(files) = close_connection(conn) else {
         return Err((StoreFault::Unavailable, None));
     };
     match told {
@@ -49,7 +50,8 @@ pub fn migrate<D: Disk + Drop>(
 /// Makes the register of the schema before in the file at a path one of this schema, as `migrate_on` does. `start`
 /// says what the file held as it was opened. It gives the files back, and a refusal may give what is left of them.
 ///
-/// No clause reaches the path. Where there is no file it is NotARegister, and a database with no table is then there.
+/// No clause reaches the path. Where there is no file the refusal is NotARegister, and a database with no table is then
+/// there.
 pub fn migrate_at<S: Start>(
     rt: &HostRuntime,
     path: &str,
@@ -59,12 +61,12 @@ pub fn migrate_at<S: Start>(
     ensures refused { IfErr result (λ e.
         IsRefusedBy migrates IsUnavailable (image_at S.Start) e.0 e.1) }
 {
-    let mut conn = match connected_at(rt, path, start) {
+    let mut conn = match connect_at(rt, path, start) {
         Ok(conn) => conn,
         Err((fault, left)) => return Err((fault, left)),
     };
     let told = migrate_on(rt.alloc(), &mut conn);
-    let Some(files) = closed(conn) else {
+    let Some(files) = close_connection(conn) else {
         return Err((StoreFault::Unavailable, None));
     };
     match told {

@@ -29,9 +29,9 @@ pub(super) struct View {
     pub(super) frames: BTreeMap<Name, PageFrame>,
 }
 
-/// The supplier's view of the variant, if the variant is there. `Unavailable` where more variants
-/// than a depth allows are laid one over another, also where they are one another's parents. The
-/// depths in their rows play no part.
+/// The supplier's view of the variant, if the variant is there. `Unavailable` where more than
+/// `levels` variants are laid one over another, so also where a variant is laid over itself by way
+/// of others. The depths that their rows say are not looked at.
 pub(super) fn view_of<S: Alter>(
     alloc: Global,
     conn: &mut Connection<S>,
@@ -117,7 +117,7 @@ fn lay_over<S: Alter>(
     join(own, kept).ok_or(StoreFault::Unavailable)
 }
 
-// The frames whose names no row has. None where a row has not the form.
+// The frames without those that a row names. None where a row has not the form.
 fn without(mut frames: BTreeMap<Name, PageFrame>, rows: &[Row]) -> Option<BTreeMap<Name, PageFrame>>
     ensures { IfSome result (λ kept. (n : _)
         → frame_at n kept.entries
@@ -130,8 +130,8 @@ fn without(mut frames: BTreeMap<Name, PageFrame>, rows: &[Row]) -> Option<BTreeM
     Some(frames)
 }
 
-// The variant's own frames, with the others whose names none of them has. None where memory is
-// refused.
+// The variant's own frames, and those of the others whose names no own frame has. None where memory
+// is refused.
 fn join(
     mut own: BTreeMap<Name, PageFrame>,
     mut others: BTreeMap<Name, PageFrame>,

@@ -29,8 +29,8 @@ pub(super) fn cells_of(alloc: Global, rows: &PageRows) -> Result<Option<MaskOccu
     Ok(Some(cells))
 }
 
-// Lets the frame fill the cells of its placements. The answer says whether all of them were free;
-// from the first that was not, the rest is left out.
+// Fills the cells of the frame's placements, one placement after another, and stops at the first
+// whose cells are not free. Gives whether all were free.
 fn fill(cells: &mut MaskOccupancy, name: Name, frame: &PageFrame) -> Result<bool, NoMemory>
     requires { ShareNone cells.old }
     ensures free { IfOk result (λ free. free ≡ true

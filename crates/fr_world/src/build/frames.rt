@@ -1,4 +1,5 @@
-//! Whether a supplier's frames are a page's, but for the cells that they share.
+//! Whether a page may have a supplier's frames, each frame by itself. Whether two of them share a
+//! cell is not asked here.
 ghost use Rattle.std.specs.Prelude.{◌≡◌, All};
 ghost use Rattle.std.specs.Bool.{Decides};
 ghost use Rattle.std.specs.List.{list_all};
@@ -10,7 +11,7 @@ use crate::grants::is_granted;
 use crate::page::{PageFrame, PageRows};
 use fr_base::{Channels, MAX_PLACEMENTS, Name, Params, Placement};
 
-/// Whether a page may have each of the frames, but for cells that they share.
+/// Whether a page may have each of the frames by itself.
 pub(super) fn are_frames(rows: &PageRows) -> bool
     ensures { Decides result (All
         (λ e. IsKeptFrame (own_rows_of (rows_data rows.now)) (frame_data e.1))

@@ -92,8 +92,8 @@ impl Draft {
         Ok(())
     }
 
-    /// Adds the frame, or leaves it where it is there with the node. A refusal, but `Unavailable`,
-    /// leaves the draft as it was.
+    /// Adds the frame. Where it is there already, and this node sends it, nothing changes. A
+    /// refusal, but `Unavailable`, leaves the draft as it was.
     pub(super) fn make_frame(
         &mut self,
         alloc: Global,

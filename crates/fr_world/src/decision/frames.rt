@@ -7,7 +7,7 @@ use super::rows::{frame_named, has_node};
 use crate::page::Page;
 use fr_base::{Change, FrameChange, MAX_FRAMES, Name, Refusal};
 
-/// `NoNode`, `Exists` or `Limit`, where one refuses a new frame that the node sends.
+/// Refuses a new frame of the node by the first of `NoNode`, `Exists` and `Limit` that applies.
 #[tactic(auto, unfolding(crate::proofs::DecideRows::decide_open))]
 pub(super) fn admit_frame(page: &Page, frame: Name, node: Name) -> Result<(), Refusal>
     ensures { result ≡ admits_alone (own_rows_of page.now)
@@ -25,7 +25,7 @@ pub(super) fn admit_frame(page: &Page, frame: Name, node: Name) -> Result<(), Re
     Ok(())
 }
 
-/// `NoFrame`, where it refuses the end of the frame.
+/// Refuses the end of a frame that is not there, by `NoFrame`.
 #[tactic(auto, unfolding(crate::proofs::DecideRows::decide_open))]
 pub(super) fn admit_drop(page: &Page, frame: Name) -> Result<(), Refusal>
     ensures { result ≡ admits_alone (own_rows_of page.now) (Change.Frame frame FrameChange.Drop) }

@@ -10,7 +10,8 @@ use super::rows::{has_node, holder};
 use crate::page::{Page, PageFrame};
 use fr_base::{Change, Channel, Name, Placement, Refusal, Slot};
 
-/// `NoNode`, `Exists` or `NodeDiffers`, where one refuses the supplier's node the slot on the channel.
+/// Refuses to grant the slot on the channel to the supplier's node, by the first of `NoNode`,
+/// `Exists` and `NodeDiffers` that applies.
 #[tactic(auto, unfolding(crate::proofs::DecideRows::decide_open))]
 pub(super) fn admit_grant(
     page: &Page,
@@ -30,8 +31,8 @@ pub(super) fn admit_grant(
     }
 }
 
-/// `NotGranted` or `InUse`, where one refuses the end of the supplier's grant of the slot on the
-/// channel.
+/// Refuses the end of the supplier's grant of the slot on the channel, by the first of `NotGranted`
+/// and `InUse` that applies.
 #[tactic(auto, unfolding(crate::proofs::DecideRows::decide_open))]
 pub(super) fn admit_end(page: &Page, slot: Slot, channel: Channel) -> Result<(), Refusal>
     ensures { result ≡ admits_alone (own_rows_of page.now) (Change.Revoke slot channel) }

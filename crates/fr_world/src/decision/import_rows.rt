@@ -35,9 +35,9 @@ pub enum RowFault {
 /// `NodeDiffers`; then the placement's `NotGranted`, `Limit`, `CellTaken`;
 /// - for signals: `NoFrame`, `Exists`, `Limit`, `OutOfPayload`, `BitTaken`.
 ///
-/// The page, whose variant is open, is given up where a row is refused, and the rows were read under its
-/// parameters. Who wants to keep it gives a copy. Neither the label nor the limits of imports are asked for, and no edit
-/// keeps the import.
+/// The page's variant has to be open, and the rows have to be read under its parameters. Where a
+/// row is refused the page is given up, so a caller who wants to keep it gives a copy. The label
+/// and the limits of imports are not looked at, and none of the edits keeps the import.
 pub fn decide_rows(alloc: Global, page: Page, rows: &[RowRead]) -> Result<Draft, RowFault>
     requires open { page.released ≡ false }
     requires checked { AreChecked page.params rows.now }

@@ -10,8 +10,8 @@ use crate::occupancy::Occupancy;
 use crate::page::Page;
 use fr_base::{Change, FrameChange, MAX_PLACEMENTS, Name, Placement, Refusal};
 
-/// `NoFrame`, `NotGranted`, `Limit` or `CellTaken`, where one refuses to place the frame there. It
-/// takes no memory.
+/// Refuses to place the frame there by the first of `NoFrame`, `NotGranted`, `Limit` and
+/// `CellTaken` that applies. It takes no memory.
 pub(super) fn admit_placement(
     page: &Page,
     frame: Name,
@@ -24,8 +24,8 @@ pub(super) fn admit_placement(
     is_free(page.cells(), placement)
 }
 
-// `NoFrame`, `NotGranted` or `Limit`, where one refuses to place the frame there, whatever cells
-// are filled.
+// Refuses to place the frame there by the first of `NoFrame`, `NotGranted` and `Limit` that
+// applies, whatever cells are filled.
 fn has_room(page: &Page, frame: Name, placement: &Placement) -> Result<(), Refusal>
     ensures { result ≡ has_room (own_rows_of page.now) frame placement.now }
 {
@@ -39,7 +39,7 @@ fn has_room(page: &Page, frame: Name, placement: &Placement) -> Result<(), Refus
     Ok(())
 }
 
-// `CellTaken`, where a frame fills one of the placement's cells.
+// Refuses the placement by `CellTaken`, where a frame fills one of its cells.
 fn is_free<O: Occupancy>(occupancy: &O, placement: &Placement) -> Result<(), Refusal>
     ensures { result ≡ cell_refused (first_taken_cell (O.pairs occupancy.now) placement.now) }
 {
@@ -53,7 +53,8 @@ fn is_free<O: Occupancy>(occupancy: &O, placement: &Placement) -> Result<(), Ref
     }
 }
 
-/// `NoFrame` or `NoPlacement`, where one refuses the end of the frame's placement.
+/// Refuses the end of the frame's placement by the first of `NoFrame` and `NoPlacement` that
+/// applies.
 #[tactic(auto, unfolding(crate::proofs::DecideRows::decide_open))]
 pub(super) fn admit_end(page: &Page, frame: Name, placement: &Placement) -> Result<(), Refusal>
     ensures { result ≡ admits_alone (own_rows_of page.now)

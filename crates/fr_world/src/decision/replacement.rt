@@ -19,8 +19,9 @@ use std::alloc::Global;
 /// What the rows of a replacement make of the page, and the edits that led to it; or the first row
 /// that is refused. First each frame that a row names, and that is there, loses its placements
 /// where the rows are placements, and its signals where they are signals. Then each row is decided
-/// as an import's is, on the page that the rows before it left. But a row of frames leaves a frame
-/// that is there, or is `NodeDiffers`.
+/// as an import's is, on the page that the rows before it left. But a row of frames whose frame
+/// is there already changes nothing where the node is the same, and is refused with `NodeDiffers`
+/// where it is another.
 ///
 /// The page's variant is open, and the rows were read under its parameters. Where a row is refused
 /// the page is given up.
@@ -37,15 +38,16 @@ pub fn decide_replacement(alloc: Global, page: Page, rows: &[RowRead]) -> Result
 {
     // They give the proof that the parameters make a cluster, and that the page's rows are kept.
     let (_raw, _frames) = (page.params().raw(), page.frames());
-    let mut draft = freed(alloc, page, rows)?;
+    let mut draft = free_all(alloc, page, rows)?;
     for read in rows {
         replace_read(alloc, &mut draft, read)?;
     }
     Ok(draft)
 }
 
-// The page after the frame of each row was freed, and the edits that led to it.
-fn freed(alloc: Global, page: Page, rows: &[RowRead]) -> Result<Draft, RowFault>
+// Frees the frame of each row that its own text does not refuse. Gives the page after that, with the
+// edits that led to it.
+fn free_all(alloc: Global, page: Page, rows: &[RowRead]) -> Result<Draft, RowFault>
     ensures ok { IfOk result (λ draft. draft_data draft ≡ free_rows (draft_of page) rows.now) }
     ensures err { IfErr result (λ e. e ≡ RowFault.Unavailable) }
 {

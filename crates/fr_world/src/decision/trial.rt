@@ -34,7 +34,7 @@ pub fn try_rows(
     ensures { MatchResult result (λ fates. fates ≡ trial replaces page rows.now)
         (λ e. e ≡ Unavailable) }
 {
-    let mut draft = begun(alloc, page, rows, replaces)?;
+    let mut draft = first_draft(alloc, page, rows, replaces)?;
     let mut fates = Rows::new(alloc);
     for read in rows {
         let fate = fate_of(alloc, &mut draft, read, replaces)?;
@@ -44,21 +44,26 @@ pub fn try_rows(
 }
 
 // The page on which the first row is decided.
-fn begun(alloc: Global, page: Page, rows: &[RowRead], replaces: bool) -> Result<Draft, Refusal>
+fn first_draft(
+    alloc: Global,
+    page: Page,
+    rows: &[RowRead],
+    replaces: bool,
+) -> Result<Draft, Refusal>
     ensures { MatchResult result
         (λ draft. draft_data draft ≡ tried replaces (draft_of page) rows.now)
         (λ e. e ≡ Unavailable) }
 {
     if replaces {
-        freed(alloc, page, rows)
+        free_readable(alloc, page, rows)
     } else {
         Ok(Draft::new(alloc, page))
     }
 }
 
-// The page after the frames of the first rows were freed. These are the rows before the first one
-// that its own text refuses.
-fn freed(alloc: Global, page: Page, rows: &[RowRead]) -> Result<Draft, Refusal>
+// Frees the frames of the rows before the first one that its own text refuses. Gives the page after
+// that.
+fn free_readable(alloc: Global, page: Page, rows: &[RowRead]) -> Result<Draft, Refusal>
     ensures { MatchResult result
         (λ draft. draft_data draft ≡ free_rows (draft_of page) (up_to_refused rows.now))
         (λ e. e ≡ Unavailable) }
@@ -135,7 +140,8 @@ impl Draft {
         }
     }
 
-    // Adds the frame. A replacement leaves a frame that is there with the node.
+    // Adds the frame. For a replacement nothing changes where it is there already, and this node
+    // sends it.
     fn try_frame(
         &mut self,
         alloc: Global,
@@ -181,8 +187,8 @@ impl Draft {
         }
     }
 
-    // Does the same for a frame that is not there yet. Where the placement is refused the frame is
-    // taken back.
+    // Adds the frame, which is not there yet, and lets it be sent in the placement's cells. Where
+    // the placement is refused the frame is taken back.
     fn place_new(
         &mut self,
         alloc: Global,

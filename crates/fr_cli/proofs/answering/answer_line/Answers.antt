@@ -3,14 +3,19 @@ use Rattle.fr_cli.proofs.AnsweringLaws.{line_asks, line_refused}
 use Rattle.fr_cli.proofs.answering.answer_line.Goals as goal
 
 pub returns-in-Ok-clause-answers : goal.returns-in-Ok-clause-answers
-returns-in-Ok-clause-answers g c = λ clean.
-    let stands = g.D.Desk.stands in
-    line_asks (stands c.args.desk.now) (stands c.ask.new.self) c.args.line.now c.in-Ok.ask c.ask.result c.in-Ok.ensures
-    (c.ask.ensures.answered clean)
+returns-in-Ok-clause-answers g c = record {
+  does = λ clean.
+      let stands = g.D.Desk.stands in
+      line_asks (stands c.args.desk.now) (stands c.ask.new.self) c.args.line.now c.in-Ok.ask c.ask.result c.in-Ok.ensures
+      (c.ask.ensures.answered clean);
+  falls = c.ask.ensures.falls;
+}
 
 pub returns-in-Err : goal.returns-in-Err
 returns-in-Err g c = record {
-  falls = λ clean. clean;
-  answers = λ _. line_refused (g.D.Desk.stands c.args.desk.now) c.args.line.now c.in-Err.refusal (search rules) c.in-Err.ensures;
+  answers = record {
+    does = λ _. line_refused (g.D.Desk.stands c.args.desk.now) c.args.line.now c.in-Err.refusal (search rules) c.in-Err.ensures;
+    falls = λ clean. clean;
+  };
   fault = tt;
 }

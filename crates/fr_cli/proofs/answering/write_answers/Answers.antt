@@ -1,7 +1,7 @@
 use Rattle.std.proofs.Common.{◌≡◌, ◌++◌, ◌∷◌, [], Err, refl, sym, ap, ◌∙◌, subst, append_assoc, append-nil, take, drop, take-append-drop, rules, inl, inr}
 use Rattle.std.proofs.KnownBytes.{Appends-nil, Appends-trans, Appends-kept}
 use Rattle.fr_base.specs.declared.answer.Answer.TheVariants.{Done}
-use Rattle.fr_cli.specs.Answering.{AnswersLines, HasWritten}
+use Rattle.fr_cli.specs.Answering.{AnswersLines, WasWritten}
 use Rattle.fr_cli.specs.Outcomes.{line_of}
 use Rattle.fr_cli.specs.Script.{request_lines}
 use Rattle.fr_cli.specs.declared.script_fault.ScriptFault.TheVariants.{NoMemory, WriteFailed}
@@ -21,51 +21,59 @@ loop-line-init g c = record {
   answered = no_lines (g.D.Desk.clean c.args.desk.now) (g.D.Desk.stands c.args.desk.now);
 }
 
-pub returns-in_err-answer-clause-written : goal.returns-in_err-answer-clause-written
-returns-in_err-answer-clause-written g c =
+pub returns-in_err-answer : goal.returns-in_err-answer
+returns-in_err-answer g c =
     let l = c.loop-line.invariant in
     let stands = g.D.Desk.stands in
     let clean = g.D.Desk.clean in
     let line = c.in-Some.line.now in
     let left = request_lines c.next.new.self.rest.now in
-    let lines : request_lines c.args.requests.now ≡ l.front ++ line ∷ left = l.lines ∙ ap (λ left. l.front ++ left) c.in-Some.ensures.steps in
+    let lines : request_lines c.args.lines.now ≡ l.front ++ line ∷ left = l.lines ∙ ap (λ left. l.front ++ left) c.in-Some.ensures.steps in
     let answered : AnswersLines (clean c.answer_line.new.desk) (stands c.args.desk.now) (stands c.answer_line.new.desk) l.front l.written =
     subst (λ d. AnswersLines (clean d) (stands c.args.desk.now) (stands d) l.front l.written) (sym c.in_err-answer.ensures.fault.1) l.answered in
     let is : c.from_residual.result ≡ Err NoMemory = search rules in
-    subst (HasWritten _ _ _ _ _ _) (sym is) (record {
-      all = tt;
-      early = cut_here _ _ _ _ _ _ _ _ _ l.front l.written (λ is. is) answered l.appended (line ∷ left, lines) (line, left, lines);
-      faults = inl refl;
-    })
+    record {
+      written = subst (WasWritten _ _ _ _ _ _) (sym is) (record {
+        all = tt;
+        early = cut_here _ _ _ _ _ _ _ _ _ l.front l.written (λ is. is) answered l.appended (line ∷ left, lines) (line, left, lines);
+        faults = inl refl;
+      });
+      falls = search rules;
+      same_writer = search rules;
+    }
 
-pub returns-in_err-text-clause-written : goal.returns-in_err-text-clause-written
-returns-in_err-text-clause-written g c =
+pub returns-in_err-text : goal.returns-in_err-text
+returns-in_err-text g c =
     let l = c.loop-line.invariant in
     let stands = g.D.Desk.stands in
     let clean = g.D.Desk.clean in
     let line = c.in-Some.line.now in
     let left = request_lines c.next.new.self.rest.now in
     let answer = c.in_ok-answer.answer in
-    let lines : request_lines c.args.requests.now ≡ l.front ++ line ∷ left = l.lines ∙ ap (λ left. l.front ++ left) c.in-Some.ensures.steps in
+    let lines : request_lines c.args.lines.now ≡ l.front ++ line ∷ left = l.lines ∙ ap (λ left. l.front ++ left) c.in-Some.ensures.steps in
     let is : c.from_residual-in_err-text.result ≡ Err NoMemory = search rules in
-    subst (HasWritten _ _ _ _ _ _) (sym is) (record {
-      all = tt;
-      early = record {
-        lines = l.front ++ line ∷ [];
-        done = (left, lines ∙ sym (append_assoc l.front (line ∷ []) left));
-        written = l.written;
-        missing = line_of answer;
-        appended = l.appended;
-        one = ([], answer, refl);
-        answered = lines_then _ _ _ (stands c.loop-line.desk) _ l.front (line ∷ []) l.written (line_of answer) c.answer_line.ensures.falls l.answered
-            (one_line _ _ _ line answer (line_of answer) c.in_ok-answer.ensures.answers refl);
-        whole = inr (l.front, (line, left, lines), lines_kept _ _ _ _ l.front l.written c.answer_line.ensures.falls l.answered);
-      };
-      faults = inl refl;
-    })
+    record {
+      written = subst (WasWritten _ _ _ _ _ _) (sym is) (record {
+        all = tt;
+        early = record {
+          lines = l.front ++ line ∷ [];
+          done = (left, lines ∙ sym (append_assoc l.front (line ∷ []) left));
+          written = l.written;
+          missing = line_of answer;
+          appended = l.appended;
+          one = ([], answer, refl);
+          answered = lines_then _ _ _ (stands c.loop-line.desk) _ l.front (line ∷ []) l.written (line_of answer) c.answer_line.ensures.answers.falls l.answered
+              (one_line _ _ _ line answer (line_of answer) c.in_ok-answer.ensures.answers.does refl);
+          whole = inr (l.front, (line, left, lines), lines_kept _ _ _ _ l.front l.written c.answer_line.ensures.answers.falls l.answered);
+        };
+        faults = inl refl;
+      });
+      falls = search rules;
+      same_writer = search rules;
+    }
 
-pub returns-in_err-write_all-clause-written : goal.returns-in_err-write_all-clause-written
-returns-in_err-write_all-clause-written g c =
+pub returns-in_err-write_all : goal.returns-in_err-write_all
+returns-in_err-write_all g c =
     let l = c.loop-line.invariant in
     let stands = g.D.Desk.stands in
     let text = c.deref.result.now in
@@ -75,23 +83,27 @@ returns-in_err-write_all-clause-written g c =
     let answer = c.in_ok-answer.answer in
     let is : text ≡ line_of answer = c.deref.ensures.value ∙ c.in_ok-text.ensures in
     let fails : c.from_residual-in_err-write_all.result ≡ Err WriteFailed = search rules in
-    subst (HasWritten _ _ _ _ _ _) (sym fails) (record {
-      all = tt;
-      early = record {
-        lines = l.front ++ line ∷ [];
-        done = (left, l.lines ∙ ap (λ left. l.front ++ left) c.in-Some.ensures.steps ∙ sym (append_assoc l.front (line ∷ []) left));
-        written = l.written ++ take n text;
-        missing = drop n text;
-        appended = Appends-trans _ _ _ l.written (take n text) l.appended cut;
-        one = (take n text, answer, sym is ∙ sym (take-append-drop n text));
-        answered = subst (AnswersLines _ _ _ (l.front ++ line ∷ []))
-            (ap (λ t. l.written ++ t) (sym (take-append-drop n text)) ∙ sym (append_assoc l.written (take n text) (drop n text)))
-            (lines_then _ _ _ (stands c.loop-line.desk) _ l.front (line ∷ []) l.written text c.answer_line.ensures.falls l.answered
-            (one_line _ _ _ line answer text c.in_ok-answer.ensures.answers is));
-        whole = inl refl;
-      };
-      faults = inr refl;
-    })
+    record {
+      written = subst (WasWritten _ _ _ _ _ _) (sym fails) (record {
+        all = tt;
+        early = record {
+          lines = l.front ++ line ∷ [];
+          done = (left, l.lines ∙ ap (λ left. l.front ++ left) c.in-Some.ensures.steps ∙ sym (append_assoc l.front (line ∷ []) left));
+          written = l.written ++ take n text;
+          missing = drop n text;
+          appended = Appends-trans _ _ _ l.written (take n text) l.appended cut;
+          one = (take n text, answer, sym is ∙ sym (take-append-drop n text));
+          answered = subst (AnswersLines _ _ _ (l.front ++ line ∷ []))
+              (ap (λ t. l.written ++ t) (sym (take-append-drop n text)) ∙ sym (append_assoc l.written (take n text) (drop n text)))
+              (lines_then _ _ _ (stands c.loop-line.desk) _ l.front (line ∷ []) l.written text c.answer_line.ensures.answers.falls l.answered
+              (one_line _ _ _ line answer text c.in_ok-answer.ensures.answers.does is));
+          whole = inl refl;
+        };
+        faults = inr refl;
+      });
+      falls = search rules;
+      same_writer = search rules;
+    }
 
 pub loop-line-preserved : goal.loop-line-preserved
 loop-line-preserved g c =
@@ -104,40 +116,48 @@ loop-line-preserved g c =
       can = tt;
       finite = tt;
       same = c.in_ok-write_all.ensures.same ∙ l.same;
-      falls = λ clean. l.falls (c.answer_line.ensures.falls clean);
+      falls = λ clean. l.falls (c.answer_line.ensures.answers.falls clean);
       front = l.front ++ line ∷ [];
       lines = l.lines ∙ ap (λ left. l.front ++ left) c.in-Some.ensures.steps ∙ sym (append_assoc l.front (line ∷ []) (request_lines c.next.new.self.rest.now));
       written = l.written ++ text;
       appended = Appends-trans _ _ _ l.written text l.appended c.in_ok-write_all.ensures.ok;
-      answered = lines_then _ _ _ (stands c.loop-line.desk) _ l.front (line ∷ []) l.written text c.answer_line.ensures.falls l.answered
-          (one_line _ _ _ line answer text c.in_ok-answer.ensures.answers (c.deref.ensures.value ∙ c.in_ok-text.ensures));
+      answered = lines_then _ _ _ (stands c.loop-line.desk) _ l.front (line ∷ []) l.written text c.answer_line.ensures.answers.falls l.answered
+          (one_line _ _ _ line answer text c.in_ok-answer.ensures.answers.does (c.deref.ensures.value ∙ c.in_ok-text.ensures));
     }
 
-pub returns-in_err-flush-clause-written : goal.returns-in_err-flush-clause-written
-returns-in_err-flush-clause-written g c =
+pub returns-in_err-flush : goal.returns-in_err-flush
+returns-in_err-flush g c =
     let l = c.loop-line.invariant in
     let fails : c.from_residual-in_err-flush.result ≡ Err WriteFailed = search rules in
-    subst (HasWritten _ _ _ _ _ _) (sym fails) (record {
-      all = tt;
-      early = record {
-        lines = l.front;
-        done = ([], l.lines ∙ ap (λ left. l.front ++ left) c.in-None.ensures.steps.0);
-        written = l.written;
-        missing = [];
-        appended = Appends-kept _ _ _ l.written l.appended c.flush.ensures.holds;
-        one = (line_of Done, Done, sym (append-nil (line_of Done)));
-        answered = subst (AnswersLines _ _ _ l.front) (sym (append-nil l.written)) l.answered;
-        whole = inl refl;
-      };
-      faults = inr refl;
-    })
-
-pub returns-clause-written : goal.returns-clause-written
-returns-clause-written g c =
-    let l = c.loop-line.invariant in
-    let all : request_lines c.args.requests.now ≡ l.front = l.lines ∙ ap (λ left. l.front ++ left) c.in-None.ensures.steps.0 ∙ append-nil l.front in
     record {
-      all = (l.written, Appends-kept _ _ _ l.written l.appended c.flush.ensures.holds, subst (λ lines. AnswersLines (g.D.Desk.clean c.loop-line.desk) (g.D.Desk.stands c.args.desk.now) (g.D.Desk.stands c.loop-line.desk) lines l.written) (sym all) l.answered);
-      early = tt;
-      faults = tt;
+      written = subst (WasWritten _ _ _ _ _ _) (sym fails) (record {
+        all = tt;
+        early = record {
+          lines = l.front;
+          done = ([], l.lines ∙ ap (λ left. l.front ++ left) c.in-None.ensures.steps.0);
+          written = l.written;
+          missing = [];
+          appended = Appends-kept _ _ _ l.written l.appended c.flush.ensures.holds;
+          one = (line_of Done, Done, sym (append-nil (line_of Done)));
+          answered = subst (AnswersLines _ _ _ l.front) (sym (append-nil l.written)) l.answered;
+          whole = inl refl;
+        };
+        faults = inr refl;
+      });
+      falls = search rules;
+      same_writer = search rules;
+    }
+
+pub returns : goal.returns
+returns g c =
+    let l = c.loop-line.invariant in
+    let all : request_lines c.args.lines.now ≡ l.front = l.lines ∙ ap (λ left. l.front ++ left) c.in-None.ensures.steps.0 ∙ append-nil l.front in
+    record {
+      written = record {
+        all = (l.written, Appends-kept _ _ _ l.written l.appended c.flush.ensures.holds, subst (λ lines. AnswersLines (g.D.Desk.clean c.loop-line.desk) (g.D.Desk.stands c.args.desk.now) (g.D.Desk.stands c.loop-line.desk) lines l.written) (sym all) l.answered);
+        early = tt;
+        faults = tt;
+      };
+      falls = search rules;
+      same_writer = search rules;
     }

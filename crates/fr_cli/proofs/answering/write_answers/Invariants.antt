@@ -12,7 +12,7 @@ invariant-loop-line g l = record {
   same : l.output.writer.ghost_name ≡ l.fn.output.writer.ghost_name;
   falls : g.D.Desk.clean l.desk → g.D.Desk.clean l.fn.desk;
   front : List (List ℕ);
-  lines : request_lines l.fn.requests ≡ front ++ request_lines l.line-iterator.rest.now;
+  lines : request_lines l.fn.lines ≡ front ++ request_lines l.line-iterator.rest.now;
   written : List ℕ;
   appended : Appends (g.W.Write.contents l.fn.output.writer.now) (g.W.Write.contents l.output.writer.now) written;
   answered : AnswersLines (g.D.Desk.clean l.desk) (g.D.Desk.stands l.fn.desk) (g.D.Desk.stands l.desk) front written;

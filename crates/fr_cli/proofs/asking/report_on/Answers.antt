@@ -9,7 +9,7 @@ returns-clause-prints g c =
     asks_same _ _ _ _ _ _ _ _ c.reader.ensures c.in_ok-request.ensures c.ask_as-given.ensures.answers in
     told_prints
     (IsForReader (IsAnswer (g.D.Desk.clean c.ask_as-given.new.desk) (g.D.Desk.stands c.args.desk.now) (g.D.Desk.stands c.ask_as-given.new.desk) (query_of c.args.query)))
-    c.for_reader.result c.told.result (c.ask_as-given.result, is, c.for_reader.ensures) c.told.ensures
+    c.for_reader.result c.tell_answer.result (c.ask_as-given.result, is, c.for_reader.ensures) c.tell_answer.ensures
 
 pub returns-clause-stays : goal.returns-clause-stays
 returns-clause-stays g c =

@@ -100,7 +100,7 @@ loop-line-preserved g c =
     let clear : HasNo 10 (begun ++ line) = has_no-append 10 begun line l.open_ended (split_clear c.loop-line.rest.now line after c.in-Some.ensures) in
     let fits : length (begun ++ line) ≤ max_line = search rules in
     record {
-      same = c.answer_requests.ensures.same ∙ l.same;
+      same = c.answer_requests.ensures.same_writer ∙ l.same;
       falls = λ clean. l.falls (c.answer_requests.ensures.falls clean);
       front = l.front ++ chunk;
       split = l.split ∙ ap (λ r. l.front ++ r) same ∙ sym (append_assoc l.front chunk after) ∙ ap (λ b. (l.front ++ chunk) ++ (b ++ after)) (sym none);

@@ -2,7 +2,7 @@ use Rattle.std.proofs.Common.{◌≡◌, ◌⊎◌, ◌++◌, ◌+◌, ◌<◌, 
 use Rattle.std.specs.Io.KnownBytes.{Consumes, IsAtEnd}
 use Rattle.std.proofs.KnownBytes.{Appends-nil, Appends-trans, Consumes-nil, Consumes-trans}
 use Rattle.fr_cli.specs.Answering.{AnswersLines}
-use Rattle.fr_cli.specs.Incoming.{AreShort, HasAnswered, HasAsked, HasLongLine, max_line}
+use Rattle.fr_cli.specs.Incoming.{AreShort, HasAnswered, WasAsked, HasLongLine, max_line}
 use Rattle.fr_cli.specs.Script.{HasNo, max_script, request_lines}
 use Rattle.fr_cli.specs.declared.input.InputFault.TheVariants.{ReadFailed, TooLong, TooManyReads}
 use Rattle.fr_cli.specs.declared.script_fault.ScriptFault.TheVariants as fault
@@ -42,9 +42,9 @@ returns-in-Ok-eq0-clause-answered g c =
     let none : take c.in-Ok-eq0.field-0 c.read.new.buf ≡ [] = search rules in
     let taken : Consumes (remaining c.args.reader.now) (remaining c.read.new.self) (l.front ++ c.loop.begun.items) =
     subst (Consumes _ _) (ap (λ r. (l.front ++ c.loop.begun.items) ++ r) none ∙ append-nil (l.front ++ c.loop.begun.items)) (Consumes-trans _ _ _ _ _ l.taken c.in-Ok-eq0.ensures.bytes.0) in
-    let has : HasAsked (clean c.answer_requests.new.desk) (stands c.loop.desk) (stands c.answer_requests.new.desk) (request_lines c.loop.begun.items)
+    let has : WasAsked (clean c.answer_requests.new.desk) (stands c.loop.desk) (stands c.answer_requests.new.desk) (request_lines c.loop.begun.items)
     (contents c.loop.output.writer.now) (contents c.answer_requests.new.output.writer.now) c.answer_requests.result =
-    subst (λ b. HasAsked (clean c.answer_requests.new.desk) (stands c.loop.desk) (stands c.answer_requests.new.desk) (request_lines b)
+    subst (λ b. WasAsked (clean c.answer_requests.new.desk) (stands c.loop.desk) (stands c.answer_requests.new.desk) (request_lines b)
     (contents c.loop.output.writer.now) (contents c.answer_requests.new.output.writer.now) c.answer_requests.result) c.deref.ensures.value c.answer_requests.ensures.asked in
     let short : AreShort (request_lines (l.front ++ c.loop.begun.items)) =
     short-then l.front c.loop.begun.items l.ends l.short (short_open c.loop.begun.items l.open_ended (subst (λ (n : ℕ). n ≤ max_line) c.loop.begun.ok.0 l.fits)) in

@@ -1,20 +1,35 @@
 use Rattle.std.proofs.Common.{rules, ◌≡◌, Err, subst, sym}
-use Rattle.fr_cli.specs.Incoming.{HasAsked}
+use Rattle.fr_cli.specs.Incoming.{WasAsked}
 use Rattle.fr_cli.proofs.IncomingLaws.{asked_early, asked_last, asked_on}
 use Rattle.fr_cli.proofs.incoming.answer_requests.Goals as goal
 
-pub returns-in_err-write_answers-clause-asked : goal.returns-in_err-write_answers-clause-asked
-returns-in_err-write_answers-clause-asked g c =
+pub returns-in_err-write_answers : goal.returns-in_err-write_answers
+returns-in_err-write_answers g c =
     let is : c.from_residual.result ≡ Err c.in_err-write_answers.field-0.0 = search rules in
-    subst (HasAsked _ _ _ _ _ _) (sym is)
-    (asked_early _ _ _ _ _ _ c.in_err-write_answers.field-0.0 c.in_err-write_answers.ensures.written.early c.in_err-write_answers.ensures.written.faults)
+    let early = c.in_err-write_answers.ensures.written in
+    record {
+      asked = subst (WasAsked _ _ _ _ _ _) (sym is) (asked_early _ _ _ _ _ _ c.in_err-write_answers.field-0.0 early.early early.faults);
+      falls = search rules;
+      same_writer = search rules;
+    }
 
-pub returns-then-is_none-clause-asked : goal.returns-then-is_none-clause-asked
-returns-then-is_none-clause-asked g c =
-    asked_on _ _ _ _ _ _ _ _ (λ is. is) (λ is cluster book stands. stands) c.in_ok-write_answers.ensures.written.all
+pub returns-then-is_none : goal.returns-then-is_none
+returns-then-is_none g c = record {
+  asked = asked_on _ _ _ _ _ _ _ _ (λ is. is) (λ is cluster book stands. stands) c.in_ok-write_answers.ensures.written.all;
+  falls = search rules;
+  same_writer = search rules;
+}
 
-pub returns-then-lasts-clause-asked : goal.returns-then-lasts-clause-asked
-returns-then-lasts-clause-asked g c = asked_on _ _ _ _ _ _ _ _ c.lasts.ensures.falls c.lasts.ensures.stays c.in_ok-write_answers.ensures.written.all
+pub returns-then-lasts : goal.returns-then-lasts
+returns-then-lasts g c = record {
+  asked = asked_on _ _ _ _ _ _ _ _ c.lasts.ensures.falls c.lasts.ensures.stays c.in_ok-write_answers.ensures.written.all;
+  falls = search rules;
+  same_writer = search rules;
+}
 
-pub returns-else-lasts-clause-asked : goal.returns-else-lasts-clause-asked
-returns-else-lasts-clause-asked g c = asked_last _ _ _ _ _ _ _ _ c.lasts.ensures.falls c.lasts.ensures.stays c.in_ok-write_answers.ensures.written.all
+pub returns-else-lasts : goal.returns-else-lasts
+returns-else-lasts g c = record {
+  asked = asked_last _ _ _ _ _ _ _ _ c.lasts.ensures.falls c.lasts.ensures.stays c.in_ok-write_answers.ensures.written.all;
+  falls = search rules;
+  same_writer = search rules;
+}

@@ -5,12 +5,12 @@ use Rattle.fr_cli.proofs.lines.split_script.Goals as goal
 pub returns-then-eq : goal.returns-then-eq
 returns-then-eq c =
     let (front, whole, so) = c.loop-line.invariant in
-    parts_of_found _ front _ _ _ whole so (record { line = c.in-Some.ensures.line; taken = c.in-Some.ensures.taken }) (sym c.eq.ensures ∙ c.if-eq.true)
+    parts_of_found _ front _ _ _ whole so c.in-Some.ensures.first (sym c.eq.ensures ∙ c.if-eq.true)
 
 pub loop-line-preserved : goal.loop-line-preserved
 loop-line-preserved c =
     let (front, whole, so) = c.loop-line.invariant in
-    parts_of_passed _ front _ _ _ whole so (record { line = c.in-Some.ensures.line; taken = c.in-Some.ensures.taken }) (sym c.eq.ensures ∙ c.if-eq.false)
+    parts_of_passed _ front _ _ _ whole so c.in-Some.ensures.first (sym c.eq.ensures ∙ c.if-eq.false)
 
 pub returns : goal.returns
 returns c =

@@ -1,8 +1,9 @@
 use Rattle.std.proofs.Common.{rules, ◌≡◌, ◌≤◌, length, Some, Ok}
 use Rattle.fr_base.specs.Cluster.{IsWellFormed}
 use Rattle.fr_text.specs.ClusterFile.{config_of}
-use Rattle.fr_cli.specs.Script.{max_script, parts_of}
-use Rattle.fr_cli.proofs.RunLaws.{run_of}
+use Rattle.fr_cli.specs.Runs.{IsRunOf}
+use Rattle.fr_cli.specs.Script.{max_script, parts_of, request_lines}
+use Rattle.fr_cli.proofs.RunLaws.{run_of, written_at}
 use Rattle.fr_cli.proofs.script.run_script.Goals as goal
 
 pub returns : goal.returns
@@ -16,9 +17,11 @@ returns g c =
     let split : parts_of bytes ≡ Some (c.in_ok-cluster.cluster.now, requests) = search rules in
     let file : config_of c.in_ok-cluster.cluster.now ≡ Ok config = search rules in
     let formed : IsWellFormed config = search rules in
+    let run : IsRunOf (remaining c.args.reader.now) (remaining c.read_all.new.reader) (contents c.args.writer.now) (contents c.write_answers.new.output.writer.now) c.write_answers.result =
     run_of _ _ _ (remaining c.args.reader.now) (remaining c.read_all.new.reader)
-    (contents c.args.writer.now) (contents c.answer_requests.new.writer) bytes requests config c.answer_requests.result
+    (contents c.args.writer.now) (contents c.write_answers.new.output.writer.now) bytes requests config c.write_answers.result
     tt c.in_ok-script.ensures.whole c.in_ok-script.ensures.end
     (record { size = size; cluster = c.in_ok-cluster.cluster.now; split = split; file = file; formed = formed })
     c.in-Ok.ensures.stands
-    c.answer_requests.ensures.written
+    (written_at contents _ _ _ (request_lines requests) _ _ _ c.write_answers.result c.new-output.ensures.holds c.write_answers.ensures.written) in
+    search (rules, run)

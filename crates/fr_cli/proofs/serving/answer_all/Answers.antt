@@ -3,7 +3,7 @@ use Rattle.std.proofs.KnownBytes.{Keeps-refl}
 use Rattle.fr_cli.specs.Serving.{ServesAll, TellsEach}
 use Rattle.fr_cli.specs.Visits.{AreVisited, Visit}
 use Rattle.fr_cli.proofs.ServingLaws.{served_until, serves_none, serves_then, tells_then}
-use Rattle.fr_cli.proofs.VisitLaws.{visited_then}
+use Rattle.fr_cli.proofs.VisitLaws.{sink, source, visited_then}
 use Rattle.fr_cli.proofs.serving.answer_all.Goals as goal
 
 pub loop-init : goal.loop-init
@@ -36,15 +36,15 @@ returns-in_err-lasts-clause-served g c =
     let l = c.loop.invariant in
     let fault = c.in_err-lasts.field-0.0 in
     let is : c.from_residual.result ≡ Err fault = search rules in
-    let (cannot, ended, stood, same, kept) = c.in_err-lasts.ensures.fault in
+    let (ended, stood) = c.in_err-lasts.ensures.ended in
     let came_in = λ (visits : List Visit).
-    AreVisited g.L.Listener g.L.Reader.Read g.L.Writer.Write c.args.service.now.seconds c.args.listener.now visits c.answer_next.new.listener in
+    AreVisited g.L.Listener (source g.L.Reader.Read g.L.Reader.Source) (sink g.L.Writer.Write g.L.Writer.Sink) c.args.service.now.seconds c.args.listener.now visits c.answer_next.new.listener in
     let few : length l.visits ≤ c.args.service.now.count = subst (λ n. n ≤ c.args.service.now.count) (sym l.each) (omega arith) in
-    served_until _ _ _ c.args.service.now.count _ came_in _ _ c.from_residual.result fault l.visits is cannot
+    served_until _ _ _ c.args.service.now.count _ came_in _ _ c.from_residual.result fault l.visits is c.in_err-lasts.ensures.fault
     (subst (λ now. g.L.Listener.ends now) (sym stood) ended)
-    (subst (λ now. AreVisited g.L.Listener g.L.Reader.Read g.L.Writer.Write c.args.service.now.seconds c.args.listener.now l.visits now) (sym stood) l.came_in)
-    (subst (λ d. ServesAll (g.D.Desk.clean d) (g.D.Desk.stands c.args.desk.now) (g.D.Desk.stands d) l.visits) (sym same) l.served)
-    (subst (λ told. TellsEach (g.E.Write.contents c.args.err.now.writer.now) told l.visits) (sym kept) l.told)
+    (subst (λ now. AreVisited g.L.Listener (source g.L.Reader.Read g.L.Reader.Source) (sink g.L.Writer.Write g.L.Writer.Sink) c.args.service.now.seconds c.args.listener.now l.visits now) (sym stood) l.came_in)
+    (subst (λ d. ServesAll (g.D.Desk.clean d) (g.D.Desk.stands c.args.desk.now) (g.D.Desk.stands d) l.visits) (sym c.in_err-lasts.ensures.stays) l.served)
+    (subst (λ told. TellsEach (g.E.Write.contents c.args.err.now.writer.now) told l.visits) (sym c.in_err-lasts.ensures.quiet) l.told)
     few
 
 pub returns-then-not-lasts-clause-served : goal.returns-then-not-lasts-clause-served

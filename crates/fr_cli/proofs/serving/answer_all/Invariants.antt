@@ -2,6 +2,7 @@
 use Rattle.std.proofs.Common.{◌≡◌, List, length}
 use Rattle.fr_cli.specs.Serving.{ServesAll, TellsEach}
 use Rattle.fr_cli.specs.Visits.{AreVisited, Visit}
+use Rattle.fr_cli.proofs.VisitLaws.{sink, source}
 use Rattle.fr_cli.proofs.serving.answer_all.Given as goal
 
 abbrev pub invariant-loop : goal.invariant-loop
@@ -10,7 +11,7 @@ invariant-loop g l = record {
   falls : g.D.Desk.clean l.desk → g.D.Desk.clean l.fn.desk;
   visits : List Visit;
   each : length visits ≡ l.counter;
-  came_in : AreVisited g.L.Listener g.L.Reader.Read g.L.Writer.Write l.service.seconds l.fn.listener visits l.listener;
+  came_in : AreVisited g.L.Listener (source g.L.Reader.Read g.L.Reader.Source) (sink g.L.Writer.Write g.L.Writer.Sink) l.service.seconds l.fn.listener visits l.listener;
   served : ServesAll (g.D.Desk.clean l.desk) (g.D.Desk.stands l.fn.desk) (g.D.Desk.stands l.desk) visits;
   told : TellsEach (g.E.Write.contents l.fn.err.writer.now) (g.E.Write.contents l.err.writer.now) visits;
 }

@@ -1,24 +1,25 @@
 use Rattle.std.proofs.Common.{◌≡◌, List, Err, inl, inr, refl, rules}
 use Rattle.fr_cli.specs.Visits.{AreVisitedAt, Visit}
 use Rattle.fr_cli.proofs.ServingLaws.{served_early, served_said}
+use Rattle.fr_cli.proofs.VisitLaws.{sink, source}
 use Rattle.fr_cli.proofs.serving.listen.Goals as goal
 
 pub returns-in_err-begin-clause-served : goal.returns-in_err-begin-clause-served
 returns-in_err-begin-clause-served g c =
     let fault = c.in_err-begin.field-0.0 in
     let is : c.from_residual.result ≡ Err fault = search rules in
-    let (cannot, refused, stood) = c.in_err-begin.ensures.err in
+    let (refused, stood) = c.in_err-begin.ensures.refused in
     let came_in = λ (visits : List Visit).
-    AreVisitedAt g.L.Listener g.L.Reader.Read g.L.Writer.Write c.args.service.port c.args.service.seconds c.args.listener.now visits c.begin.new.listener in
+    AreVisitedAt g.L.Listener (source g.L.Reader.Read g.L.Reader.Source) (sink g.L.Writer.Write g.L.Writer.Sink) c.args.service.port c.args.service.seconds c.args.listener.now visits c.begin.new.listener in
     served_early _ _ c.args.service.count _ _ came_in (g.E.Write.contents c.args.err.now.writer.now) c.from_residual.result fault is
-    (inl (cannot, inl (refused, stood))) (inl (refl, stood))
+    (inl (c.in_err-begin.ensures.fault, inl (refused, stood))) (inl (refl, stood))
 
 pub returns-in_err-announce-clause-served : goal.returns-in_err-announce-clause-served
 returns-in_err-announce-clause-served g c =
     let fault = c.in_err-announce.field-0.0 in
     let is : c.from_residual-in_err-announce.result ≡ Err fault = search rules in
     let came_in = λ (visits : List Visit).
-    AreVisitedAt g.L.Listener g.L.Reader.Read g.L.Writer.Write c.args.service.port c.args.service.seconds c.args.listener.now visits c.begin.new.listener in
+    AreVisitedAt g.L.Listener (source g.L.Reader.Read g.L.Reader.Source) (sink g.L.Writer.Write g.L.Writer.Sink) c.args.service.port c.args.service.seconds c.args.listener.now visits c.begin.new.listener in
     served_early _ _ c.args.service.count _ _ came_in (g.E.Write.contents c.args.err.now.writer.now)
     c.from_residual-in_err-announce.result fault is (inr (inr (refl, c.in_err-announce.ensures.fault))) (inr (c.begin.new.listener, c.in_ok-begin.ensures.ok, refl))
 

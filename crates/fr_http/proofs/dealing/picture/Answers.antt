@@ -4,8 +4,11 @@ use Rattle.fr_http.specs.Connection.{HasDrawn}
 use Rattle.fr_http.proofs.DealingLaws.{page_lacked}
 use Rattle.fr_http.proofs.dealing.picture.Goals as goal
 
-pub returns-in_err-page-clause-drawn : goal.returns-in_err-page-clause-drawn
-returns-in_err-page-clause-drawn g c =
+pub returns-in_err-page : goal.returns-in_err-page
+returns-in_err-page g c =
     let is : c.from_residual-in_err-page.result ≡ Err Unavailable = search rules in
-    subst (HasDrawn (g.D.Desk.clean c.read_plan.new.desk) (g.D.Desk.stands c.args.desk.now) (g.D.Desk.stands c.read_plan.new.desk) c.args.reader c.args.variant.now) (sym is)
-    (page_lacked _ _ _ c.args.reader c.args.variant.now c.in_ok-plan.plan c.in_ok-plan.ensures.reads)
+    record {
+      does = subst (HasDrawn c.args.reader c.args.variant.now (g.D.Desk.clean c.read_plan.new.desk) (g.D.Desk.stands c.args.desk.now) (g.D.Desk.stands c.read_plan.new.desk)) (sym is)
+          (page_lacked _ _ _ c.args.reader c.args.variant.now c.in_ok-plan.plan c.in_ok-plan.ensures.reads);
+      falls = search rules;
+    }

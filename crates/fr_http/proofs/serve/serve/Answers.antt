@@ -1,4 +1,4 @@
-use Rattle.std.proofs.Common.{◌≡◌, Err, refl, ap, ◌∙◌, subst, false}
+use Rattle.std.proofs.Common.{◌≡◌, Err, refl, ap, ◌∙◌, rules, subst, false}
 use Rattle.fr_base.specs.declared.answer.Answer.TheVariants as answer
 use Rattle.fr_http.specs.Connection.{HasTaken}
 use Rattle.fr_http.specs.Reply.{answer_reply, engine_reply}
@@ -8,28 +8,45 @@ use Rattle.fr_http.proofs.ServeLaws.{replied, served_asked, served_fault, served
 use Rattle.fr_http.proofs.serve.serve.Goals as goal
 
 pub returns-in-Ok-clause-served : goal.returns-in-Ok-clause-served
-returns-in-Ok-clause-served g c = served_asked _ _ _ _ _ _ _ _ c.in-Ok.demand c.answer.result c.in-Ok.ensures.taken c.answer.ensures.answered
+returns-in-Ok-clause-served g c =
+    record {
+      does = served_asked _ _ _ _ _ _ _ _ c.in-Ok.demand c.answer.result c.in-Ok.ensures.taken.does c.answer.ensures.answered.does;
+      same_reader = search rules;
+      same_writer = search rules;
+    }
 
 pub returns-in-Err-Engine-clause-served : goal.returns-in-Err-Engine-clause-served
 returns-in-Err-Engine-clause-served g c =
     let rejection = c.in-Err-Engine.rejection in
     let is : c.take.result ≡ Err (Engine rejection) = c.in-Err-Engine.is ∙ ap (λ u. Err u) c.in-Err-Engine.field-0-is in
     let t : HasTaken (g.D.Desk.stands c.args.desk.now) (g.R.Read.remaining c.args.input.now.reader.now) (g.R.Read.remaining c.take.new.input.reader.now)
-    (g.W.Write.contents c.args.output.now.writer.now) (g.W.Write.contents c.take.new.output.writer.now) (Err (Engine rejection)) = subst (HasTaken _ _ _ _ _) is c.take.ensures.taken in
-    served_unasked _ _ _ _ _ _ _ (Engine rejection) (engine_reply rejection) c.send.result t t.takes.0 t.takes.1 refl
-    (replied c.engine_reply.result (engine_reply rejection) false _ _ c.send.result c.engine_reply.ensures c.send.ensures.sent c.send.ensures.none)
+    (g.W.Write.contents c.args.output.now.writer.now) (g.W.Write.contents c.take.new.output.writer.now) (Err (Engine rejection)) = subst (HasTaken _ _ _ _ _) is c.take.ensures.taken.does in
+    record {
+      does = served_unasked _ _ _ _ _ _ _ (Engine rejection) (engine_reply rejection) c.send.result t t.takes.0 t.takes.1 refl
+          (replied c.engine_reply.result (engine_reply rejection) false _ _ c.send.result c.engine_reply.ensures c.send.ensures.sent.does);
+      same_reader = search rules;
+      same_writer = search rules;
+    }
 
 pub returns-in-Err-Refused-clause-served : goal.returns-in-Err-Refused-clause-served
 returns-in-Err-Refused-clause-served g c =
     let refusal = c.in-Err-Refused.refusal in
     let is : c.take.result ≡ Err (Refused refusal) = c.in-Err-Refused.is ∙ ap (λ u. Err u) c.in-Err-Refused.field-0-is in
     let t : HasTaken (g.D.Desk.stands c.args.desk.now) (g.R.Read.remaining c.args.input.now.reader.now) (g.R.Read.remaining c.take.new.input.reader.now)
-    (g.W.Write.contents c.args.output.now.writer.now) (g.W.Write.contents c.take.new.output.writer.now) (Err (Refused refusal)) = subst (HasTaken _ _ _ _ _) is c.take.ensures.taken in
-    served_unasked _ _ _ _ _ _ _ (Refused refusal) (answer_reply Post (answer.Refused refusal)) c.send-in-Err-Refused.result t t.takes.0 t.takes.1 refl
-    (replied c.answer_reply.result (answer_reply Post (answer.Refused refusal)) false _ _ c.send-in-Err-Refused.result c.answer_reply.ensures c.send-in-Err-Refused.ensures.sent c.send-in-Err-Refused.ensures.none)
+    (g.W.Write.contents c.args.output.now.writer.now) (g.W.Write.contents c.take.new.output.writer.now) (Err (Refused refusal)) = subst (HasTaken _ _ _ _ _) is c.take.ensures.taken.does in
+    record {
+      does = served_unasked _ _ _ _ _ _ _ (Refused refusal) (answer_reply Post (answer.Refused refusal)) c.send-in-Err-Refused.result t t.takes.0 t.takes.1 refl
+          (replied c.answer_reply.result (answer_reply Post (answer.Refused refusal)) false _ _ c.send-in-Err-Refused.result c.answer_reply.ensures c.send-in-Err-Refused.ensures.sent.does);
+      same_reader = search rules;
+      same_writer = search rules;
+    }
 
 pub returns-in-Err-Fault-clause-served : goal.returns-in-Err-Fault-clause-served
 returns-in-Err-Fault-clause-served g c =
     let fault = c.in-Err-Fault.fault in
     let is : c.take.result ≡ Err (Fault fault) = c.in-Err-Fault.is ∙ ap (λ u. Err u) c.in-Err-Fault.field-0-is in
-    served_fault _ _ _ _ _ _ (g.W.Write.contents c.take.new.output.writer.now) fault (subst (HasTaken _ _ _ _ _) is c.take.ensures.taken)
+    record {
+      does = served_fault _ _ _ _ _ _ (g.W.Write.contents c.take.new.output.writer.now) fault (subst (HasTaken _ _ _ _ _) is c.take.ensures.taken.does);
+      same_reader = search rules;
+      same_writer = search rules;
+    }

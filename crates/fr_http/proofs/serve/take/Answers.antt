@@ -13,13 +13,21 @@ pub returns-in_err-received-clause-taken : goal.returns-in_err-received-clause-t
 returns-in_err-received-clause-taken g c =
     let unasked = c.in_err-received.field-0.0 in
     let is : c.from_residual.result ≡ Err unasked = search rules in
-    subst (HasTaken _ _ _ _ _) (sym is) (received_nothing _ _ _ _ unasked c.in_err-received.ensures.received)
+    record {
+      does = subst (HasTaken _ _ _ _ _) (sym is) (received_nothing _ _ _ _ unasked c.in_err-received.ensures.received.does);
+      same_reader = search rules;
+      same_writer = search rules;
+    }
 
 pub returns-in_err-plan-clause-taken : goal.returns-in_err-plan-clause-taken
 returns-in_err-plan-clause-taken g c =
     let unasked = c.in_err-plan.field-0.0 in
     let is : c.from_residual-in_err-plan.result ≡ Err unasked = search rules in
-    subst (HasTaken _ _ _ _ _) (sym is) (planned_nothing _ _ _ _ c.in_ok-received.received unasked c.in_ok-received.ensures.received c.in_err-plan.ensures)
+    record {
+      does = subst (HasTaken _ _ _ _ _) (sym is) (planned_nothing _ _ _ _ c.in_ok-received.received unasked c.in_ok-received.ensures.received.does c.in_err-plan.ensures);
+      same_reader = search rules;
+      same_writer = search rules;
+    }
 
 pub returns-in_err-invite-clause-taken : goal.returns-in_err-invite-clause-taken
 returns-in_err-invite-clause-taken g c =
@@ -28,8 +36,12 @@ returns-in_err-invite-clause-taken g c =
     let w : Wanted = record { route = plan.route; length = plan.length } in
     let fault = c.in_err-invite.field-0.0 in
     let is : c.from_residual-in_err-invite.result ≡ Err (Fault fault) = search rules in
-    let (failed, is_due, front) = c.in_err-invite.ensures.err in
-    subst (HasTaken _ _ _ _ _) (sym is) (not_invited _ _ _ _ _ received w fault c.in_ok-received.ensures.received c.in_ok-plan.ensures.0 failed is_due front)
+    let (failed, is_due, front) = c.in_err-invite.ensures.sent.does in
+    record {
+      does = subst (HasTaken _ _ _ _ _) (sym is) (not_invited _ _ _ _ _ received w fault c.in_ok-received.ensures.received.does c.in_ok-plan.ensures.0 failed is_due front);
+      same_reader = search rules;
+      same_writer = search rules;
+    }
 
 pub returns-in_err-body-clause-taken : goal.returns-in_err-body-clause-taken
 returns-in_err-body-clause-taken g c =
@@ -38,12 +50,16 @@ returns-in_err-body-clause-taken g c =
     let w : Wanted = record { route = plan.route; length = plan.length } in
     let fault = c.in_err-body.field-0.0 in
     let is : c.from_residual-in_err-body.result ≡ Err (Fault fault) = search rules in
-    let (more, consumed, lacks, few) = c.in_err-body.ensures.body in
+    let (more, consumed, lacks, few) = c.in_err-body.ensures.body.does in
     let left = g.R.Read.remaining c.read_body.new.input.reader.now in
-    subst (HasTaken _ _ _ _ _) (sym is) (
-    no_body _ _ _ left _ _ received w more (record { has = c.in_ok-received.ensures.received; plan = c.in_ok-plan.ensures.0; written = c.in_ok-invite.ensures.ok }) (record { consumed = consumed; bound = subst (λ r. length more ≤ plan.length - length r) c.rest.ensures few }) fault
-    (subst (λ r. LacksBody plan.length (r ++ more) left fault) c.rest.ensures lacks)
-    )
+    record {
+      does = subst (HasTaken _ _ _ _ _) (sym is) (
+          no_body _ _ _ left _ _ received w more (record { has = c.in_ok-received.ensures.received.does; plan = c.in_ok-plan.ensures.0; written = c.in_ok-invite.ensures.sent.does }) (record { consumed = consumed; bound = subst (λ r. length more ≤ plan.length - length r) c.rest.ensures few }) fault
+          (subst (λ r. LacksBody plan.length (r ++ more) left fault) c.rest.ensures lacks)
+          );
+      same_reader = search rules;
+      same_writer = search rules;
+    }
 
 pub returns-in_err-matter-clause-taken : goal.returns-in_err-matter-clause-taken
 returns-in_err-matter-clause-taken g c =
@@ -52,15 +68,19 @@ returns-in_err-matter-clause-taken g c =
     let w : Wanted = record { route = plan.route; length = plan.length } in
     let unasked = c.in_err-matter.field-0.0 in
     let is : c.from_residual-in_err-matter.result ≡ Err unasked = search rules in
-    let (more, consumed, there, few) = c.in_ok-body.ensures.body in
+    let (more, consumed, there, few) = c.in_ok-body.ensures.body.does in
     let body = c.in_ok-body.body.items in
     let makes : MakesMatter plan.route (path_of received.0.target) body (Err unasked) =
     subst (λ b. MakesMatter plan.route (path_of received.0.target) b (Err unasked)) c.deref.ensures.value
     (subst (λ p. MakesMatter plan.route p c.deref.result.now (Err unasked)) c.in_ok-plan.ensures.1 c.in_err-matter.ensures) in
-    subst (HasTaken _ _ _ _ _) (sym is) (
-    no_matter _ _ _ _ _ _ received w more (record { has = c.in_ok-received.ensures.received; plan = c.in_ok-plan.ensures.0; written = c.in_ok-invite.ensures.ok }) (record { consumed = consumed; bound = subst (λ r. length more ≤ plan.length - length r) c.rest.ensures few }) body
-    (subst (λ r. front plan.length (r ++ more) ≡ Some body) c.rest.ensures there) unasked makes
-    )
+    record {
+      does = subst (HasTaken _ _ _ _ _) (sym is) (
+          no_matter _ _ _ _ _ _ received w more (record { has = c.in_ok-received.ensures.received.does; plan = c.in_ok-plan.ensures.0; written = c.in_ok-invite.ensures.sent.does }) (record { consumed = consumed; bound = subst (λ r. length more ≤ plan.length - length r) c.rest.ensures few }) body
+          (subst (λ r. front plan.length (r ++ more) ≡ Some body) c.rest.ensures there) unasked makes
+          );
+      same_reader = search rules;
+      same_writer = search rules;
+    }
 
 pub returns-in_err-actor-clause-taken : goal.returns-in_err-actor-clause-taken
 returns-in_err-actor-clause-taken g c =
@@ -68,23 +88,27 @@ returns-in_err-actor-clause-taken g c =
     let plan = c.in_ok-plan.plan in
     let w : Wanted = record { route = plan.route; length = plan.length } in
     let is : c.from_residual-in_err-actor.result ≡ Err (Refused UnknownKey) = search rules in
-    let (more, consumed, there, few) = c.in_ok-body.ensures.body in
+    let (more, consumed, there, few) = c.in_ok-body.ensures.body.does in
     let body = c.in_ok-body.body.items in
     let what = c.in_ok-matter.matter in
     let makes : matter_by plan.route (path_of received.0.target) body ≡ Some what =
     ap (λ p. matter_by plan.route p body) (sym c.in_ok-plan.ensures.1) ∙ ap (matter_by plan.route plan.path.now) (sym c.deref.ensures.value) ∙ c.in_ok-matter.ensures in
     let nobody : c.actor.result ≡ None = search rules in
-    subst (HasTaken _ _ _ _ _) (sym is) (
-    no_actor _ _ _ _ _ _ received w more (record { has = c.in_ok-received.ensures.received; plan = c.in_ok-plan.ensures.0; written = c.in_ok-invite.ensures.ok }) (record { consumed = consumed; bound = subst (λ r. length more ≤ plan.length - length r) c.rest.ensures few }) body
-    (subst (λ r. front plan.length (r ++ more) ≡ Some body) c.rest.ensures there) what makes (subst (FindsActor _ received.0) nobody c.actor.ensures)
-    )
+    record {
+      does = subst (HasTaken _ _ _ _ _) (sym is) (
+          no_actor _ _ _ _ _ _ received w more (record { has = c.in_ok-received.ensures.received.does; plan = c.in_ok-plan.ensures.0; written = c.in_ok-invite.ensures.sent.does }) (record { consumed = consumed; bound = subst (λ r. length more ≤ plan.length - length r) c.rest.ensures few }) body
+          (subst (λ r. front plan.length (r ++ more) ≡ Some body) c.rest.ensures there) what makes (subst (FindsActor _ received.0) nobody c.actor.ensures)
+          );
+      same_reader = search rules;
+      same_writer = search rules;
+    }
 
 pub returns-clause-taken : goal.returns-clause-taken
 returns-clause-taken g c =
     let received = c.in_ok-received.received in
     let plan = c.in_ok-plan.plan in
     let w : Wanted = record { route = plan.route; length = plan.length } in
-    let (more, consumed, there, few) = c.in_ok-body.ensures.body in
+    let (more, consumed, there, few) = c.in_ok-body.ensures.body.does in
     let body = c.in_ok-body.body.items in
     let what = c.in_ok-matter.matter in
     let actor = c.in_ok-actor.actor in
@@ -92,8 +116,12 @@ returns-clause-taken g c =
     ap (λ p. matter_by plan.route p body) (sym c.in_ok-plan.ensures.1) ∙ ap (matter_by plan.route plan.path.now) (sym c.deref.ensures.value) ∙ c.in_ok-matter.ensures in
     let found : c.actor.result ≡ Some actor = search rules in
     let is : c.asked_by.result ≡ asked_by actor (method_of plan.route) what = c.asked_by.ensures ∙ ap (λ m. asked_by actor m what) c.method.ensures in
-    subst (λ o. HasTaken (g.D.Desk.stands c.args.desk.now) (g.R.Read.remaining c.args.input.now.reader.now) (g.R.Read.remaining c.read_body.new.input.reader.now)
-    (g.W.Write.contents c.args.output.now.writer.now) (g.W.Write.contents c.invite.new.output.writer.now) (Ok o)) (sym is) (
-    to_ask _ _ _ _ _ _ received w more (record { has = c.in_ok-received.ensures.received; plan = c.in_ok-plan.ensures.0; written = c.in_ok-invite.ensures.ok }) (record { consumed = consumed; bound = subst (λ r. length more ≤ plan.length - length r) c.rest.ensures few }) body
-    (subst (λ r. front plan.length (r ++ more) ≡ Some body) c.rest.ensures there) what makes actor (subst (FindsActor _ received.0) found c.actor.ensures)
-    )
+    record {
+      does = subst (λ o. HasTaken (g.D.Desk.stands c.args.desk.now) (g.R.Read.remaining c.args.input.now.reader.now) (g.R.Read.remaining c.read_body.new.input.reader.now)
+          (g.W.Write.contents c.args.output.now.writer.now) (g.W.Write.contents c.invite.new.output.writer.now) (Ok o)) (sym is) (
+          to_ask _ _ _ _ _ _ received w more (record { has = c.in_ok-received.ensures.received.does; plan = c.in_ok-plan.ensures.0; written = c.in_ok-invite.ensures.sent.does }) (record { consumed = consumed; bound = subst (λ r. length more ≤ plan.length - length r) c.rest.ensures few }) body
+          (subst (λ r. front plan.length (r ++ more) ≡ Some body) c.rest.ensures there) what makes actor (subst (FindsActor _ received.0) found c.actor.ensures)
+          );
+      same_reader = search rules;
+      same_writer = search rules;
+    }

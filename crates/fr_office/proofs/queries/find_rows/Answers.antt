@@ -12,7 +12,7 @@ returns-in-Register g c = record {
   reads = search (rules, reads_then);
   told = λ now.
       let old = g.R.Records.stands c.args.records.now in
-      let new = g.R.Records.stands c.held.new.records in
-      subst (λ (q : Query Name ℕ). Replies (λ k b. found k.params b c.args.actor.now q) old new c.held.result) (sym c.in-Register.is)
-      (found-held old new c.args.actor.now c.in-Register.inventory c.held.result (c.held.ensures.told now));
+      let new = g.R.Records.stands c.inventory_rows.new.records in
+      subst (λ (q : Query Name ℕ). Replies (λ k b. found k.params b c.args.actor.now q) old new c.inventory_rows.result) (sym c.in-Register.is)
+      (found-held old new c.args.actor.now c.in-Register.inventory c.inventory_rows.result (c.inventory_rows.ensures.told now));
 }

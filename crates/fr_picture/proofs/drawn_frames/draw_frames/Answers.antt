@@ -23,7 +23,7 @@ loop-place-preserved g c =
       falls = λ now. c.loop-place.invariant.falls (c.draw_frame.ensures.falls now);
       drawn = λ now cl b stood sound.
           let so = c.loop-place.invariant.drawn (c.draw_frame.ensures.falls now) cl b stood sound in
-          let one = c.in_ok-draw_frame.ensures.reads now cl b so.0 sound in
+          let one = c.in_ok-draw_frame.ensures.does now cl b so.0 sound in
           let all = drawn_more cl b c.args.variant.now row gap frame one.1 (take i rows) c.args.gaps.now c.loop-place.frames.items i count there so.1 in (
             one.0,
             subst (λ (rs : List FrameRow). AreDrawn cl b c.args.variant.now rs c.args.gaps.now c.push.new.self.items) (sym more)

@@ -6,4 +6,4 @@ use Rattle.fr_picture.proofs.kinds.push_spans.Given as goal
 
 -- the text of those up to here
 abbrev pub invariant-loop-one : goal.invariant-loop-one
-invariant-loop-one l = string_bytes l.out ≡ string_bytes l.initial.out ++ flat_map (λ r. span_text r.first.cycle r.cycles) (take l.one-index l.kind)
+invariant-loop-one l = string_bytes l.out ≡ string_bytes l.initial.out ++ flat_map (λ r. span_text r.first.cycle r.cycles) (take l.one-index l.same)

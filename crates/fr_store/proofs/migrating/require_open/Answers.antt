@@ -8,5 +8,5 @@ pub returns-clause-same : goal.returns-clause-same
 returns-clause-same g c clean =
     let old = state g.S.Store c.args.conn.now in
     let new = state g.S.Store c.prepare.new.self in
-    stays_before old new (c.is_autocommit-settled.ensures.settled (rw (c.is_autocommit-settled.ensures.value, c.requires) refl))
+    stays_before old new (c.is_autocommit-committed.ensures.settled (rw (c.is_autocommit-committed.ensures.value, c.requires) refl))
     (prepared _ old new _ c.prepare.result (c.prepare.ensures.ok clean) (c.prepare.ensures.err clean))

@@ -15,7 +15,7 @@ loop-row-preserved c s =
     let more = turned rows at c.row-item.result (search rules) (search rules) in
     let slot = ap (λ v. nat_abs (number v)) c.in_ok-slot_at.ensures in
     let channel = ap (λ o. unwrap_or o A) c.in_ok-channel_at.ensures in
-    let name = ap words c.in_ok-name_at.ensures in
+    let name = ap words c.in_ok-name_at.ensures.value in
     let is : grant_shown c.row-item.result ≡ (record { slot = c.in_ok-slot_at.field-0; channel = c.in_ok-channel_at.field-0 }, c.in_ok-name_at.field-0) = λ i. (record { slot = slot i; channel = channel i }, name i) in
     grant_in s c.loop-row.grants.entries c.insert.new.self.entries (map grant_shown (reverse (take at rows))) (record { slot = c.in_ok-slot_at.field-0; channel = c.in_ok-channel_at.field-0 }) c.in_ok-name_at.field-0
     c.insert.ensures.was_ordered (search rules) (c.loop-row.invariant s)

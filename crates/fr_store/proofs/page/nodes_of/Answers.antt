@@ -13,4 +13,4 @@ loop-row-preserved c s =
     let name = c.in_ok-name_at.field-0 in
     let more = turned rows at c.row-item.result (search rules) (search rules) in
     node_in s c.loop-row.nodes.keys c.insert.new.self.keys (map name_shown (reverse (take at rows))) name (search rules) (c.loop-row.invariant s)
-    ∙ ap (set_of owned (λ n. (s, n))) (ap (λ n. n ∷ map name_shown (reverse (take at rows))) (sym (ap words c.in_ok-name_at.ensures)) ∙ sym (ap (map name_shown) more))
+    ∙ ap (set_of owned (λ n. (s, n))) (ap (λ n. n ∷ map name_shown (reverse (take at rows))) (sym (ap words c.in_ok-name_at.ensures.value)) ∙ sym (ap (map name_shown) more))

@@ -66,7 +66,7 @@ returns-clause-same g c clean up =
     let committed : begun.committed ≡ (state g.S.Store c.args.conn.now).committed = ap (λ h. (state g.S.Store h).committed) c.transaction-tx.ensures.begun in
     let open_then : begun.is_open ≡ (state g.S.Store c.args.conn.now).is_open = ap (λ h. (state g.S.Store h).is_open) c.transaction-tx.ensures.begun in
     let inside : begun.in_transaction ≡ true = ap (λ h. (state g.S.Store h).in_transaction) c.transaction-tx.ensures.begun in
-    let settled = c.is_autocommit-settled.ensures.settled (rw (c.is_autocommit-settled.ensures.value, c.requires) refl) in
+    let settled = c.is_autocommit-committed.ensures.settled (rw (c.is_autocommit-committed.ensures.value, c.requires) refl) in
     let all = as_before begun mid (state g.S.Store end) (λ was. now ∙ settled (rw (sym open_then) was) ∙ sym committed)
     (keeps c.args.sql.now begun mid inside [] c.query_all.result (c.query_all.ensures.ok here) (c.query_all.ensures.err here)) (c.drop-tx.ensures.undone late) up_late in
     subst (λ h. IsTrue (state g.S.Store c.args.conn.now).is_open × ((state g.S.Store h).now ≡ (state g.S.Store c.args.conn.now).now) × ((state g.S.Store h).committed ≡ (state g.S.Store c.args.conn.now).committed)) same

@@ -6,24 +6,21 @@ use Rattle.fr_layout.proofs.layout.Layout.admits.Goals as goal
 
 pub returns-then-has_signal : goal.returns-then-has_signal
 returns-then-has_signal c =
-    let signals = c.deref.ensures.value ∙ ap (λ (l : LayoutData). l.signals) c.self.view_is in
-    let found = c.has_signal.ensures ∙ (ap (has_signal c.deref.result.now) c.name.ensures ∙ ap (λ xs. has_signal xs c.args.signal.now.name) signals) in
+    let found = c.has_signal.ensures ∙ ap (has_signal c.args.self.now.signals) c.name.ensures in
     add_exists c.args.self.now c.args.signal.now (sym found ∙ c.if-has_signal.true)
 
 pub returns-then-len-ge-MAX_SIGNALS : goal.returns-then-len-ge-MAX_SIGNALS
 returns-then-len-ge-MAX_SIGNALS c =
-    let signals = c.deref.ensures.value ∙ ap (λ (l : LayoutData). l.signals) c.self.view_is in
-    let found = c.has_signal.ensures ∙ (ap (has_signal c.deref.result.now) c.name.ensures ∙ ap (λ xs. has_signal xs c.args.signal.now.name) signals) in
-    let size : length c.args.self.now.signals ≡ c.len.result = sym (ap length signals) ∙ (c.deref.ensures.len ∙ sym c.len.ensures) in
+    let found = c.has_signal.ensures ∙ ap (has_signal c.args.self.now.signals) c.name.ensures in
+    let size : length c.args.self.now.signals ≡ c.len.result = sym (c.len.ensures ∙ (c.self.inside.signals.ok.0 ∙ ap (λ (l : LayoutData). length l.signals) c.self.view_is)) in
     let many : 64 ≤ length c.args.self.now.signals = omega (arith, size, c.if-len-ge-MAX_SIGNALS.true) in
     let full : leb 64 (length c.args.self.now.signals) ≡ true = grind (arith, nat_tests, many) in
     add_limit c.args.self.now c.args.signal.now (sym found ∙ c.if-has_signal.false) full
 
 pub returns-then-not-lies_inside : goal.returns-then-not-lies_inside
 returns-then-not-lies_inside c =
-    let signals = c.deref.ensures.value ∙ ap (λ (l : LayoutData). l.signals) c.self.view_is in
-    let found = c.has_signal.ensures ∙ (ap (has_signal c.deref.result.now) c.name.ensures ∙ ap (λ xs. has_signal xs c.args.signal.now.name) signals) in
-    let size : length c.args.self.now.signals ≡ c.len.result = sym (ap length signals) ∙ (c.deref.ensures.len ∙ sym c.len.ensures) in
+    let found = c.has_signal.ensures ∙ ap (has_signal c.args.self.now.signals) c.name.ensures in
+    let size : length c.args.self.now.signals ≡ c.len.result = sym (c.len.ensures ∙ (c.self.inside.signals.ok.0 ∙ ap (λ (l : LayoutData). length l.signals) c.self.view_is)) in
     let few : length c.args.self.now.signals < 64 = omega (arith, size, c.if-len-ge-MAX_SIGNALS.false) in
     let room : leb 64 (length c.args.self.now.signals) ≡ false = grind (arith, nat_tests, few) in
     let outside : c.lies_inside.result ≡ false = grind (arith, c.if-not-lies_inside.true) in
@@ -32,9 +29,8 @@ returns-then-not-lies_inside c =
 
 pub returns : goal.returns
 returns c =
-    let signals = c.deref.ensures.value ∙ ap (λ (l : LayoutData). l.signals) c.self.view_is in
-    let found = c.has_signal.ensures ∙ (ap (has_signal c.deref.result.now) c.name.ensures ∙ ap (λ xs. has_signal xs c.args.signal.now.name) signals) in
-    let size : length c.args.self.now.signals ≡ c.len.result = sym (ap length signals) ∙ (c.deref.ensures.len ∙ sym c.len.ensures) in
+    let found = c.has_signal.ensures ∙ ap (has_signal c.args.self.now.signals) c.name.ensures in
+    let size : length c.args.self.now.signals ≡ c.len.result = sym (c.len.ensures ∙ (c.self.inside.signals.ok.0 ∙ ap (λ (l : LayoutData). length l.signals) c.self.view_is)) in
     let few : length c.args.self.now.signals < 64 = omega (arith, size, c.if-len-ge-MAX_SIGNALS.false) in
     let room : leb 64 (length c.args.self.now.signals) ≡ false = grind (arith, nat_tests, few) in
     let inside : c.lies_inside.result ≡ true = grind (arith, c.if-not-lies_inside.false) in

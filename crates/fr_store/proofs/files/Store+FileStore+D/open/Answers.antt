@@ -2,8 +2,9 @@ use Rattle.std.proofs.Common.{None, Some, arith}
 use Rattle.sqlite.specs.State.{HasCleanDisk}
 use Rattle.sqlite.specs.Files.{file_state, image_of}
 use Rattle.fr_store.specs.Refused.{files_alone, given_back, opens}
+use Rattle.fr_store.specs.declared.fault.StoreFault.TheVariants.{Unavailable}
 use Rattle.fr_store.proofs.OpenedLemmas.{opened_in}
-use Rattle.fr_store.proofs.RefusedLemmas.{all_left, not_opened, open_lacks, open_tells}
+use Rattle.fr_store.proofs.RefusedLemmas.{all_left, not_opened_in_files, open_handed, open_lacks, open_tells}
 use Rattle.fr_store.proofs.files.Store+FileStore+D.open.Goals as goal
 
 pub returns-in-Ok-open_on-clause-opened : goal.returns-in-Ok-open_on-clause-opened
@@ -20,10 +21,10 @@ returns-in-Ok-open_on-clause-survives g c =
     (c.in-Ok.conn, record { opens = λ clean. (connected clean).opens; found = λ clean. (connected clean).found }, c.in-Ok-open_on.ensures.survives)
 
 pub returns-in-Err-clause-refused : goal.returns-in-Err-clause-refused
-returns-in-Err-clause-refused g c = not_opened (image_of g.D.Disk c.args.files) c.in-Err.fault (given_back g.D.Disk (Some c.in-Err.left)) c.in-Err.ensures.refused
+returns-in-Err-clause-refused g c = not_opened_in_files (image_of g.D.Disk c.args.files) c.in-Err.fault (given_back g.D.Disk (Some c.in-Err.left)) c.in-Err.ensures.refused
 
 pub returns-in-None-clause-refused : goal.returns-in-None-clause-refused
-returns-in-None-clause-refused g c = open_lacks (image_of g.D.Disk c.args.files) None
+returns-in-None-clause-refused g c = let held = image_of g.D.Disk c.args.files in open_handed held Unavailable None (open_lacks held)
 
 pub returns-in-Some-clause-refused : goal.returns-in-Some-clause-refused
 returns-in-Some-clause-refused g c =
@@ -31,8 +32,8 @@ returns-in-Some-clause-refused g c =
     let files = c.in-Some.files in
     let refused = c.in-Err-open_on.ensures in
     let fault = c.in-Err-open_on.fault in
-    all_left opens held fault (files_alone g.D.Disk files) refused.not_made (λ clean.
+    open_handed held fault (given_back g.D.Disk (Some files)) (all_left opens held fault (files_alone g.D.Disk files) refused.not_made (λ clean.
     let closed = c.in-Some.ensures.closed clean in
     let before : HasCleanDisk (file_state c.in-Ok.conn) = omega (arith, refused.survives_still.clean, closed.clean) in
     let connected = c.in-Ok.ensures.connected before in
-    open_tells held fault files (file_state c.in-Ok.conn) (file_state c.in-Err-open_on.conn) (refused.told closed.clean) connected.opens.0 connected.reads (refused.unharmed closed.clean) closed)
+    open_tells held fault files (file_state c.in-Ok.conn) (file_state c.in-Err-open_on.conn) (refused.told closed.clean) connected.opens.0 connected.reads (refused.unharmed closed.clean) closed))

@@ -1,4 +1,4 @@
-use Rattle.std.proofs.Common.{None, arith}
+use Rattle.std.proofs.Common.{arith}
 use Rattle.sqlite.specs.State.{HasCleanDisk}
 use Rattle.sqlite.specs.Files.{file_state}
 use Rattle.sqlite_wal.specs.Files.{image_at}
@@ -20,7 +20,7 @@ pub returns-in-Err-clause-refused : goal.returns-in-Err-clause-refused
 returns-in-Err-clause-refused g c = not_migrated (image_at g.S.Start) c.in-Err.fault c.in-Err.left c.in-Err.ensures.refused
 
 pub returns-in_default-clause-refused : goal.returns-in_default-clause-refused
-returns-in_default-clause-refused g c = migrate_lacks (image_at g.S.Start) None
+returns-in_default-clause-refused g c = migrate_lacks (image_at g.S.Start)
 
 pub returns-in-Err-told-clause-refused : goal.returns-in-Err-told-clause-refused
 returns-in-Err-told-clause-refused g c =

@@ -10,4 +10,4 @@ pub loop-row-preserved : goal.loop-row-preserved
 loop-row-preserved c n =
     let name = c.in_ok-name_at.field-0 in
     c.remove.ensures.updates.0 n ∙ ap (cond (is_at (name_cmp name) n) None) (c.loop-row.invariant n)
-    ∙ less_one c.args.rows.now c.loop-row.row-index c.row-item.result name n (frame_at n c.args.frames.entries) (search rules) (search rules) (sym (ap words c.in_ok-name_at.ensures))
+    ∙ less_one c.args.rows.now c.loop-row.row-index c.row-item.result name n (frame_at n c.args.frames.entries) (search rules) (search rules) (sym (ap words c.in_ok-name_at.ensures.value))

@@ -1,4 +1,4 @@
-use Rattle.std.proofs.Common.{◌∙◌, None, ap, arith}
+use Rattle.std.proofs.Common.{◌∙◌, IfSome, ap, arith, false, inl, refl, true}
 use Rattle.sqlite.specs.Effect.{Database}
 use Rattle.sqlite.specs.Files.{file_state, HoldsDatabase}
 use Rattle.sqlite.specs.State.{HasCleanDisk}
@@ -6,7 +6,8 @@ use Rattle.sqlite.specs.Tree.{Trees}
 use Rattle.sqlite_wal.specs.Files.{image_at}
 use Rattle.fr_store.specs.Refused.{files_alone, makes}
 use Rattle.fr_store.proofs.FileLemmas.{found_opened}
-use Rattle.fr_store.proofs.RefusedLemmas.{all_left, make_faults, make_lacks, make_tells}
+use Rattle.fr_store.proofs.LeftLemmas.{IsLeftOf, IsSettled, left_unavailable, settled_left}
+use Rattle.fr_store.proofs.RefusedLemmas.{all_left, make_faults, make_lacks, make_tells, not_made}
 use Rattle.fr_store.proofs.paths.Store+FileStore+FileFrom+S.create_at.Goals as goal
 
 pub returns-in-Ok-create_on-clause-made : goal.returns-in-Ok-create_on-clause-made
@@ -33,10 +34,14 @@ returns-in-Ok-create_on-clause-survives g c =
     (c.in-Ok.conn, record { opens = c.in-Ok.ensures.opened; found = found }, c.in-Ok-create_on.ensures.survives)
 
 pub returns-in-Err-clause-refused : goal.returns-in-Err-clause-refused
-returns-in-Err-clause-refused g c = make_lacks (image_at g.S.Start) c.in-Err.left
+returns-in-Err-clause-refused g c =
+    let it = c.in-Err in
+    let rest : IfSome it.left (IsLeftOf (IsSettled true) (IsSettled false) it.field-0-0) = it.ensures.cause in
+    not_made (image_at g.S.Start) _ (left_unavailable (image_at g.S.Start) (IsSettled true) (IsSettled false) (λ file. inl refl)
+    (λ files log db image may. (settled_left g.S.Start files.log true log image.log may.0, settled_left g.S.Start files.db false db image.db may.1)) _ it.field-0-0 rest).stays
 
 pub returns-in-None-clause-refused : goal.returns-in-None-clause-refused
-returns-in-None-clause-refused g c = make_lacks (image_at g.S.Start) None
+returns-in-None-clause-refused g c = make_lacks (image_at g.S.Start)
 
 pub returns-in-Some-clause-refused : goal.returns-in-Some-clause-refused
 returns-in-Some-clause-refused g c =

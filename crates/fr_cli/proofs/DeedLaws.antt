@@ -1,0 +1,301 @@
+-- What a job did with the register of a file leads from what the file held to what it holds next.
+use Rattle.std.proofs.Common.{◌≡◌, ◌⊎◌, ◌∙◌, inl, inr, ℕ, List, [], append-nil, length, Some, None, Ok, Err, Result, Option, refl, subst, sym, ap}
+use Rattle.std.specs.Borrow.{Bor}
+use Rattle.std.specs.Global.{Vec}
+use Rattle.std.specs.Prelude.{IfSome, OnOk, ⊤}
+use Rattle.sqlite.specs.Files.{IsCleanLeft}
+use Rattle.sqlite.specs.declared.file.Leftover.{Leftover}
+use Rattle.sqlite.specs.declared.file.Leftover.TheVariants as left
+use Rattle.sqlite_disk.specs.declared.Disk.{Ghosts}
+use Rattle.sqlite_wal.specs.Recovery.{Image}
+use Rattle.fr_base.specs.Book.{Book, opening}
+use Rattle.fr_base.specs.Cluster.{Cluster, ClusterFile}
+use Rattle.fr_base.specs.Sound.{IsSound}
+use Rattle.fr_base.specs.declared.actor.Actor.{Actor}
+use Rattle.fr_base.specs.declared.answer.Answer.{Answer}
+use Rattle.fr_base.specs.declared.answer.Answer.TheVariants as answer
+use Rattle.fr_base.specs.declared.refusal.Refusal.{Refusal}
+use Rattle.fr_base.specs.declared.request.Ask.{Ask}
+use Rattle.fr_base.proofs.SoundLaws.{opening-sound}
+use Rattle.fr_store.specs.StoreFiles.{HoldsBook}
+use Rattle.fr_desks.specs.FileDesk.{Held, IsLeftWith}
+use Rattle.fr_desks.specs.Sessions.{Session}
+use Rattle.fr_http.specs.Connection.{AppendsFront, InSound}
+use Rattle.fr_picture.specs.Pages.{IsPage}
+use Rattle.fr_picture.specs.declared.plan.Plan.{Plan}
+use Rattle.fr_cli.specs.Asking.{IsForReader, asked_with, query_of}
+use Rattle.fr_cli.specs.Deeds.{Asked, Deed, Did, Drawn, IsDeedOf, IsShown, LacksAnswer, Lines, Visits, WereLines, asks_by, session_of}
+use Rattle.fr_cli.specs.Deliveries.{request_with}
+use Rattle.fr_cli.specs.Endings.{Tells, status_of, word_line}
+use Rattle.fr_cli.specs.Faults.{IsNotDelivered, IsNotReported, fault_word}
+use Rattle.fr_cli.specs.Incoming.{AreFirstOf, HasAnswered, IsAsked}
+use Rattle.fr_cli.specs.Jobs.{Ends, IsPerformed, Serves, Shows, Streams}
+use Rattle.fr_cli.specs.Outcomes.{line_of}
+use Rattle.fr_cli.specs.Performing.{Says, of_script}
+use Rattle.fr_cli.specs.Picturing.{plans_for}
+use Rattle.fr_cli.specs.Queries.{reader_named}
+use Rattle.fr_cli.specs.Reading.{PrintsRead}
+use Rattle.fr_cli.specs.RegisterFiles.{IsAnswerOfFile, IsDeliveryToFile, IsReadOfFile, LeadsInFile, StaysInFile}
+use Rattle.fr_cli.specs.Script.{request_lines}
+use Rattle.fr_cli.specs.ScriptRun.{AreAnswered, Replied, asks_in, with_ask}
+use Rattle.fr_cli.specs.Series.{AsksRegister, Follows, IsNextOf, LeadsBy, WasNotOpened, end_of}
+use Rattle.fr_cli.specs.Serving.{ServesAll}
+use Rattle.fr_cli.specs.Texts.{IsClusterAt, Readings}
+use Rattle.fr_cli.specs.Visits.{Comings, Visit}
+use Rattle.fr_cli.specs.declared.delivery.Delivery.{Delivery}
+use Rattle.fr_cli.specs.declared.failure.Failure.{Failure}
+use Rattle.fr_cli.specs.declared.failure.Failure.TheVariants as failure
+use Rattle.fr_cli.specs.declared.fault.Fault.{Fault}
+use Rattle.fr_cli.specs.declared.fault.Fault.TheVariants.{NoMemory}
+use Rattle.fr_cli.specs.declared.query.Inquiry.{Inquiry}
+use Rattle.fr_cli.specs.declared.script_fault.ScriptFault.{ScriptFault}
+use Rattle.fr_cli.specs.declared.words.Job.{Job}
+use Rattle.fr_cli.specs.declared.words.Job.TheVariants as job
+use Rattle.fr_cli.proofs.ServingLaws.{appends-kept}
+
+-- ---- streams
+
+some_map : (P Q : List ℕ → Type 0) (input : Option (List ℕ)) → ((bytes : List ℕ) → P bytes → Q bytes) → IfSome input P → IfSome input Q
+some_map P Q None follows p = tt
+some_map P Q (Some bytes) follows p = follows bytes p
+
+-- all of them are the first of them
+all_first : (lines : List (List ℕ)) (bytes : List ℕ) → lines ≡ request_lines bytes → AreFirstOf lines bytes
+all_first lines bytes all = ([], sym all ∙ sym (append-nil lines))
+
+-- a job that failed has not the status of one that was done
+not_done : (status : ℕ) → status ≡ 1 → status ≡ 0 → ⊥
+not_done status failed done = absurd cc
+
+-- ---- what is opened next
+
+-- what is left with a book holds it next, or what follows it
+next_holds : {D : Type 0} {g : Ghosts D} (left : Leftover D g) (next : Image) (c : Cluster) (b : Book) → IsCleanLeft left → IsNextOf left next → IsLeftWith left c b
+    → (x : Book) × Follows (end_of left) c b x × Held next c x
+next_holds (left.Files files) next c b is (inl same) holds = (b, refl, inl (subst (HoldsBook c b) (sym same) (holds is).0))
+next_holds (left.Files files) next c b is (inr crash) holds = (b, refl, inl ((holds is).1 next crash))
+next_holds (left.Unopened files) next c b is opened holds = absurd opened
+next_holds (left.Store it) next c b is (db, found, in_it) holds = let (x, near, register) = holds db found in (x, near, inr (db, in_it, register))
+
+-- what was done where there is no answer
+unanswered_did : (c : Cluster) (b last : Book) (asks : Cluster → Book → Result Ask Refusal) → (last ≡ b) ⊎ ((answer : Answer) × Replied c b (asks c b) answer last)
+    → (done : Session) × Did c b (Asked asks None) done last
+unanswered_did c b last asks (inl same) = (session_of [], inl (same, refl))
+unanswered_did c b last asks (inr (answer, replied)) = (session_of (with_ask (asks c b) answer []), inr (answer, (replied, refl)))
+
+module _ {D : Type 0} {g : Ghosts D} (held : Image) (rest : Option (Leftover D g)) where
+  -- Files are left, and the deed leads to what they hold next.
+  abbrev LeadsOn : Deed → Type 0
+  LeadsOn deed = (left : Leftover D g) × (rest ≡ Some left)
+      × ((next : Image) → IsCleanLeft left → IsNextOf left next → LeadsBy held (record { deed = deed; end = end_of left }) next)
+
+  asked_leads : (asks : Cluster → Book → Result Ask Refusal) (answer : Answer) → IsAnswerOfFile held rest asks answer → LeadsOn (Asked asks (Some answer))
+  asked_leads asks answer (last, is_left, answers) = (
+    last,
+    is_left.0,
+    λ next is opened c b there sound.
+        let (book, replied, after) = answers is c b there sound in
+        let (x, follows, holds) = next_holds last next c book is opened after in
+        (session_of (with_ask (asks c b) answer []), book, x, (replied, refl), follows, holds),
+  )
+
+  unanswered_leads : (asks : Cluster → Book → Result Ask Refusal) → LeadsInFile held rest asks → LeadsOn (Asked asks None)
+  unanswered_leads asks (last, is_left, leads) = (
+    last,
+    is_left.0,
+    λ next is opened c b there sound.
+        let (book, how, after) = leads is c b there sound in
+        let (x, follows, holds) = next_holds last next c book is opened after in
+        let (done, did) = unanswered_did c b book asks how in
+        (done, book, x, did, follows, holds),
+  )
+
+  -- where the book stays, whatever else is so of it
+  stays_lead : (deed : Deed) → ((c : Cluster) (b : Book) → Did c b deed (session_of []) b) → StaysInFile held rest → LeadsOn deed
+  stays_lead deed did (last, is_left, stays) = (
+    last,
+    is_left.0,
+    λ next is opened c b there sound.
+        let (x, follows, holds) = next_holds last next c b is opened (stays is c b there sound) in
+        (session_of [], b, x, did c b, follows, holds),
+  )
+
+  drawn_leads : (reader : Option Actor) (variant : List ℕ) (drawn : Result Plan Refusal) → IsReadOfFile held rest (plans_for reader variant) drawn
+      → LeadsOn (Drawn reader variant (Some drawn))
+  drawn_leads reader variant drawn (last, is_left, read) = (
+    last,
+    is_left.0,
+    λ next is opened c b there sound.
+        let (after, may) = read is c b there sound in
+        let (x, follows, holds) = next_holds last next c b is opened after in
+        (session_of [], b, x, (may, (refl, refl)), follows, holds),
+  )
+
+  lines_lead : (last : Leftover D g) → rest ≡ Some last → (lines : List (List ℕ)) (answers : List Answer)
+      → (IsCleanLeft last → InSound (Held held) (λ c b. (book : Book) × IsLeftWith last c book × AreAnswered c b lines answers book)) → LeadsOn (Lines lines answers)
+  lines_lead last same lines answers answered = (
+    last,
+    same,
+    λ next is opened c b there sound.
+        let (book, after, are) = answered is c b there sound in
+        let (x, follows, holds) = next_holds last next c book is opened after in
+        (session_of (asks_in c b lines answers), book, x, (are, refl), follows, holds),
+  )
+
+  visits_lead : (last : Leftover D g) → rest ≡ Some last → (visits : List Visit) → ServesAll (IsCleanLeft last) (Held held) (IsLeftWith last) visits
+      → LeadsOn (Visits visits)
+  visits_lead last same visits served = (
+    last,
+    same,
+    λ next is opened c b there sound.
+        let (xs, book, these, are, after) = served is c b there sound in
+        let (x, follows, holds) = next_holds last next c book is opened after in
+        (session_of (asks_by xs), book, x, (xs, these, are, refl), follows, holds),
+  )
+
+  -- ---- by job
+
+  module _ (read : Readings) (comings : Comings) (s : Streams) (status : ℕ) where
+    -- How a job ended: with a deed that leads on, or as one that did not open the file.
+    abbrev Leading : Job → Type 0
+    Leading j = WasNotOpened held rest comings s status
+        ⊎ ((left : Leftover D g) × (rest ≡ Some left) × (deed : Deed) × IsDeedOf read comings s status j deed
+        × ((next : Image) → IsCleanLeft left → IsNextOf left next → LeadsBy held (record { deed = deed; end = end_of left }) next))
+
+    -- with this deed
+    led : (j : Job) (deed : Deed) → IsDeedOf read comings s status j deed → LeadsOn deed → Leading j
+    led j deed is (left, same, leads) = inr (left, same, deed, is, leads)
+
+    lacking : (fault : Fault) → fault ≡ NoMemory → Shows (Err (failure.Fault fault)) s status → LacksAnswer s status
+    lacking fault lacks shown = subst (λ f. Shows (Err (failure.Fault f)) s status) lacks shown
+
+    -- of a fault for which no report is given
+    not_reported : (j : Job) (deed : Deed) (fault : Fault) → comings.none → Shows (Err (failure.Fault fault)) s status → (LacksAnswer s status → IsDeedOf read comings s status j deed)
+        → ((c : Cluster) (b : Book) → Did c b deed (session_of []) b) → IsNotReported held rest fault → Leading j
+    not_reported j deed fault none shown is did (inl not) = inl (fault, inr not, shown, none)
+    not_reported j deed fault none shown is did (inr (lacks, stays)) = led j deed (is (lacking fault lacks shown)) (stays_lead deed did stays)
+
+    reported : (db : Bor (List ℕ)) (query : Inquiry) (done : Result (Vec ℕ) Failure) (a : Answer) → Shows done s status → Says (λ fault. ⊥) (λ told. told ≡ a) done
+        → IsForReader (IsAnswerOfFile held rest (query_of query)) a → Leading (job.Report db query)
+    reported db query done a shown says (given, was, is_told) =
+        let told = subst (λ (x : Answer). IsShown s status x) is_told (done, shown, says) in
+        led (job.Report db query) (Asked (query_of query) (Some given)) (refl, told) (asked_leads (query_of query) given was)
+
+    report : (db : Bor (List ℕ)) (query : Inquiry) (done : Result (Vec ℕ) Failure) → comings.none → Shows done s status
+        → Says (IsNotReported held rest) (IsForReader (IsAnswerOfFile held rest (query_of query))) done → Leading (job.Report db query)
+    report db query (Ok text) none shown (a, was, kind, said) = reported db query (Ok text) a shown (a, refl, kind, said) was
+    report db query (Err (failure.RefusedRows text)) none shown (a, was, kind, said) = reported db query (Err (failure.RefusedRows text)) a shown (a, refl, kind, said) was
+    report db query (Err (failure.Refused line)) none shown (a, was, kind, said) = reported db query (Err (failure.Refused line)) a shown (a, refl, kind, said) was
+    report db query (Err (failure.Fault fault)) none shown may =
+        not_reported (job.Report db query) (Asked (query_of query) None) fault none shown (λ lacks. (refl, lacks)) (λ c b. inl (refl, refl)) may
+
+    drew : (db variant : Bor (List ℕ)) (supplier : Option (Bor (List ℕ))) (done : Result (Vec ℕ) Failure) (drawn : Result Plan Refusal) → Shows done s status
+        → PrintsRead (λ fault. ⊥) (λ r. r ≡ drawn) IsPage done → IsReadOfFile held rest (plans_for (reader_named supplier) variant.now) drawn → Leading (job.Picture db variant supplier)
+    drew db variant supplier done drawn shown says was =
+        led (job.Picture db variant supplier) (Drawn (reader_named supplier) variant.now (Some drawn)) (refl, refl, (done, shown, says)) (drawn_leads (reader_named supplier) variant.now drawn was)
+
+    picture : (db variant : Bor (List ℕ)) (supplier : Option (Bor (List ℕ))) (done : Result (Vec ℕ) Failure) → comings.none → Shows done s status
+        → PrintsRead (IsNotReported held rest) (IsReadOfFile held rest (plans_for (reader_named supplier) variant.now)) IsPage done → Leading (job.Picture db variant supplier)
+    picture db variant supplier (Ok text) none shown (plan, was, page) = drew db variant supplier (Ok text) (Ok plan) shown (plan, refl, page) was
+    picture db variant supplier (Err (failure.RefusedRows text)) none shown wrong = absurd wrong
+    picture db variant supplier (Err (failure.Refused line)) none shown (refusal, was, said) =
+        drew db variant supplier (Err (failure.Refused line)) (Err refusal) shown (refusal, refl, said) was
+    picture db variant supplier (Err (failure.Fault fault)) none shown may =
+        not_reported (job.Picture db variant supplier) (Drawn (reader_named supplier) variant.now None) fault none shown (λ lacks. (refl, refl, lacks)) (λ c b. (refl, refl)) may
+
+    -- of a fault for which no answer to a delivery is given
+    not_delivered : (db : Bor (List ℕ)) (delivery : Delivery) (fault : Fault) → comings.none → Shows (Err (failure.Fault fault)) s status
+        → IsNotDelivered held rest read delivery s.input.old s.input.new fault → Leading (job.Deliver db delivery)
+    not_delivered db delivery fault none shown (inl (unread, nothing)) = inl (fault, inl nothing, shown, none)
+    not_delivered db delivery fault none shown (inr (body, front, inl (lacks, nothing))) = inl (fault, inl nothing, shown, none)
+    not_delivered db delivery fault none shown (inr (body, front, inr (inl (key, given, inl not)))) = inl (fault, inr not, shown, none)
+    not_delivered db delivery fault none shown (inr (body, front, inr (inl (key, given, inr (lacks, leads))))) =
+        let asks = asked_with key (request_with delivery body) in
+        led (job.Deliver db delivery) (Asked asks None) ((body, key, front, given, refl), lacking fault lacks shown) (unanswered_leads asks leads)
+    not_delivered db delivery fault none shown (inr (body, front, inr (inr (dash, of, nothing)))) = inl (fault, inl nothing, shown, none)
+
+    delivered : (db : Bor (List ℕ)) (delivery : Delivery) (done : Result (Vec ℕ) Failure) (a : Answer) → Shows done s status → Says (λ fault. ⊥) (λ told. told ≡ a) done
+        → IsDeliveryToFile held rest read delivery s.input.old s.input.new a → Leading (job.Deliver db delivery)
+    delivered db delivery done a shown says (body, front, (key, given, was)) =
+        let asks = asked_with key (request_with delivery body) in
+        led (job.Deliver db delivery) (Asked asks (Some a)) ((body, key, front, given, refl), (done, shown, says)) (asked_leads asks a was)
+
+    deliver : (db : Bor (List ℕ)) (delivery : Delivery) (done : Result (Vec ℕ) Failure) → comings.none → Shows done s status
+        → Says (IsNotDelivered held rest read delivery s.input.old s.input.new) (IsDeliveryToFile held rest read delivery s.input.old s.input.new) done
+        → Leading (job.Deliver db delivery)
+    deliver db delivery (Ok text) none shown (a, was, kind, said) = delivered db delivery (Ok text) a shown (a, refl, kind, said) was
+    deliver db delivery (Err (failure.RefusedRows text)) none shown (a, was, kind, said) = delivered db delivery (Err (failure.RefusedRows text)) a shown (a, refl, kind, said) was
+    deliver db delivery (Err (failure.Refused line)) none shown (a, was, kind, said) = delivered db delivery (Err (failure.Refused line)) a shown (a, refl, kind, said) was
+    deliver db delivery (Err (failure.Fault fault)) none shown may = not_delivered db delivery fault none shown may
+
+    -- lines that were answered over the file
+    answered : (db : Bor (List ℕ)) (last : Leftover D g) → rest ≡ Some last → (asked : Result ⊤ ScriptFault) → status ≡ status_of (of_script asked)
+        → HasAnswered (IsCleanLeft last) (Held held) (IsLeftWith last) s.input.old s.input.new s.out.old s.out.new asked → Leading (job.Ask db)
+    answered db last same (Ok x) ends has =
+        let (lines, written, whole, short, appended, told) = has.all in
+        let were : WereLines s status lines told.answers = record {
+          first = some_map _ _ s.input.old (λ bytes so. all_first lines bytes so.0) whole;
+          each = told.each;
+          written = written;
+          missing = [];
+          appended = appended;
+          one = (line_of answer.Done, answer.Done, sym (append-nil (line_of answer.Done)));
+          bytes = append-nil written ∙ told.bytes;
+          all = λ done. (refl, some_map _ _ s.input.old (λ bytes so. so.0) whole);
+        } in
+        led (job.Ask db) (Lines lines told.answers) were (lines_lead last same lines told.answers told.answered)
+    answered db last same (Err fault) ends has =
+        let cut = has.early in
+        let were : WereLines s status cut.lines cut.answered.answers = record {
+          first = cut.done;
+          each = cut.answered.each;
+          written = cut.written;
+          missing = cut.missing;
+          appended = cut.appended;
+          one = cut.one;
+          bytes = cut.answered.bytes;
+          all = λ done. absurd (not_done status ends done);
+        } in
+        led (job.Ask db) (Lines cut.lines cut.answered.answers) were (lines_lead last same cut.lines cut.answered.answers cut.answered.answered)
+
+    ask : (db : Bor (List ℕ)) (done : Result ⊤ Fault) → comings.none → IsAsked held rest s.input.old s.input.new s.out.old s.out.new done → Ends done s status
+        → Leading (job.Ask db)
+    ask db done none (inl (fault, failed, not, kept, silent)) ends =
+        let (ended, told) = subst (λ (d : Result ⊤ Fault). Ends d s status) failed ends in inl (fault, inr not, (ended, silent, told), none)
+    ask db done none (inr (asked, last, is_left, same, at_end, has)) ends = answered db last is_left.0 asked (ends.0 ∙ ap status_of same) has
+
+    -- as many connections as were to be, where all were served
+    all_served : (count : ℕ) (visits : List Visit) (done : Result ⊤ Fault) → status ≡ status_of done → OnOk done (length visits ≡ count) → status ≡ 0 → length visits ≡ count
+    all_served count visits (Ok x) ends all zero = all
+    all_served count visits (Err fault) ends all zero = absurd (not_done status ends zero)
+
+    serve : (db : Bor (List ℕ)) (port count seconds : ℕ) → Serves held rest read comings port count seconds s status → Leading (job.Serve db port count seconds)
+    serve db port count seconds (done, told, ends, announced, inl (fault, failed, not, stayed, silent, kept), tells) =
+        let (written, begins, appended) = subst (λ (d : Result ⊤ Fault). Tells told s.err.new d) failed tells in
+        let front : AppendsFront s.err.old s.err.new (word_line (fault_word fault)) = (written, begins, appends-kept s.err.old told s.err.new written kept appended) in
+        inl (fault, inr not, (ends ∙ ap status_of failed, silent, front), stayed)
+    serve db port count seconds (done, told, ends, announced, inr (last, is_left, has), tells) =
+        led (job.Serve db port count seconds) (Visits has.visits) (has.came_in, all_served count has.visits done ends has.all) (visits_lead last is_left.0 has.visits has.served)
+
+    -- so a job that asks the register of a file
+    pub job_leads : (j : Job) → IsPerformed held rest read comings j s status → AsksRegister j → Leading j
+    job_leads job.Run did asks = absurd asks
+    job_leads (job.Create db config) did asks = absurd asks
+    job_leads (job.Migrate db) did asks = absurd asks
+    job_leads (job.Serve db port count seconds) (did, none, kept) asks = serve db port count seconds did
+    job_leads (job.Ask db) (done, did, ends, none, quiet) asks = ask db done quiet did ends
+    job_leads (job.Report db query) (done, shown, says, none, quiet) asks = report db query done quiet.1 shown says
+    job_leads (job.Picture db variant supplier) (done, shown, says, none, quiet) asks = picture db variant supplier done quiet.1 shown says
+    job_leads (job.Deliver db delivery) (done, shown, says, kept, quiet) asks = deliver db delivery done quiet shown says
+    job_leads (job.Check file) did asks = absurd asks
+    job_leads (job.Explain word) did asks = absurd asks
+
+-- a register's file that was made
+pub made_is_held : {D : Type 0} {g : Ghosts D} (held next : Image) (rest : Leftover D g) (read : Readings) (comings : Comings) (db config : Bor (List ℕ)) (s : Streams)
+    → IsPerformed held (Some rest) read comings (job.Create db config) s 0 → IsCleanLeft rest → IsNextOf rest next
+    → (f : ClusterFile) × IsClusterAt read config.now f × Held next f.cluster (opening f) × IsSound f.cluster (opening f)
+made_is_held {D} {g} held next rest read comings db config s ((Ok x, fault, (f, at, formed, (files, same, holds, bare)), silent, ends), quiet) is opened =
+    let these : rest ≡ left.Files files = cc in
+    let (book, only, still) = next_holds {g = g} (left.Files files) next f.cluster (opening f) (subst IsCleanLeft these is) (subst (λ l. IsNextOf l next) these opened) holds in
+    (f, at, subst (λ b. Held next f.cluster b) only still, opening-sound f formed)
+made_is_held held next rest read comings db config s ((Err fault, of, made, silent, ends), quiet) is opened = absurd (not_done 0 ends.0 refl)

@@ -1,5 +1,0 @@
-use Rattle.std.proofs.Common.{◌≡◌, take}
-use Rattle.fr_tables.proofs.cluster.copied.Given as goal
-
-abbrev pub invariant-loop-supplier : goal.invariant-loop-supplier
-invariant-loop-supplier l = l.suppliers ≡ take l.supplier-index l.list

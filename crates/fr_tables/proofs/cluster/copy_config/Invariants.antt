@@ -1,0 +1,5 @@
+use Rattle.std.proofs.Common.{◌≡◌, take}
+use Rattle.fr_tables.proofs.cluster.copy_config.Given as goal
+
+abbrev pub invariant-loop-supplier : goal.invariant-loop-supplier
+invariant-loop-supplier l = l.suppliers ≡ take l.supplier-index l.list
