@@ -1,6 +1,6 @@
 """All wrong bodies: those that the gate tries (crates/NAME/must-fail) and those that it leaves out (crates/NAME/wrong-bodies).
-In a copy of the tree the prover has to refuse each: at once with others what tests/lib/wrong.py can tell apart, and the rest alone.
-With names of crates, theirs alone."""
+In a copy of the tree the prover has to refuse each: at once with others what tests/lib/wrong.py can tell apart, and the rest alone, with what was proved
+of the crate as it stands, or from nothing where that comes to no verdict. With names of crates, theirs alone."""
 import os
 import re
 import shutil
@@ -12,7 +12,7 @@ from pathlib import Path
 
 from .lib.program import TOP
 from .lib.steps import PROCESSORS
-from .lib.wrong import NotJudged, groups, read_edit, texts_with, told_of
+from .lib.wrong import NotJudged, groups, read_edit, texts_with, told_alone, told_of
 
 TRIED = re.compile(r"rt: must-fail \w+/(\S+\.edit): (.*)")
 REFUSED = "refused, as it must be"
@@ -82,7 +82,7 @@ def try_at_once(crate, edits):
             try:
                 told = told_of(check(crate, group), crate.name, group)
                 print(f"{crate.name}: one check of {len(group)} edits tells of {len(told)}", flush=True)
-                found.update({name: f"{NAMES}): {it.goals}" if it.is_gone else f"{REFUSED}: {it.goals}" for name, it in told.items()})
+                found.update({name: said_of(it) for name, it in told.items()})
             except NotJudged as why:
                 print(f"{crate.name}: one check of {len(group)} edits judges none, since {why}", flush=True)
                 if len(group) > 1:
@@ -90,7 +90,23 @@ def try_at_once(crate, edits):
     return found
 
 
-def try_alone(crate, paths):
+def said_of(told):
+    """What a check tells of an edit, in the words of `rt must-fail`."""
+    return f"{NAMES}): {told.goals}" if told.is_gone else f"{REFUSED}: {told.goals}"
+
+
+def try_alone(crate, edits):
+    """What a check with each edit alone says of it, by its name, as far as it comes to a verdict."""
+    found = {}
+    for edit in edits:
+        try:
+            found[edit.name] = said_of(told_alone(check(crate, [edit]), crate.name))
+        except NotJudged as why:
+            print(f"{crate.name}: a check of {edit.name} alone judges nothing, since {why}", flush=True)
+    return found
+
+
+def try_from_nothing(crate, paths):
     """What `rt must-fail` says of each edit, by its name; of a crate with none left nothing is asked."""
     shutil.rmtree(crate / "must-fail", ignore_errors=True)
     (crate / "must-fail").mkdir()
@@ -112,16 +128,19 @@ def try_crate(crate):
         there = crate.parent.parent / "edits" / crate.name / str(number)
         there.mkdir(parents=True)
         paths.append(path.rename(there / path.name))
-    at_once = try_at_once(crate, [read_edit(it, crate) for it in paths])
-    alone = try_alone(crate, [it for it in paths if it.name not in at_once])
+    edits = [read_edit(it, crate) for it in paths]
+    found = try_at_once(crate, edits)
+    rest = [it for it in edits if it.name not in found]
+    found.update(try_alone(crate, [it for it in rest if it.lines]))
+    found.update(try_from_nothing(crate, [it for it in paths if it.name not in found]))
     passed = 0
     for path in paths:
-        said = at_once.get(path.name) or alone.get(path.name, "NOT TRIED")
+        said = found.get(path.name, "NOT TRIED")
         is_refused = said.startswith(REFUSED) and not said.startswith(NAMES)
         print(f"{crate.name}/{path.name}: {'' if is_refused else 'NOT COUNTED: '}{said}", flush=True)
         passed += is_refused
     minutes = (time.monotonic() - begun) / 60
-    print(f"{crate.name}: refused {passed} of {len(paths)}, {len(alone)} of them tried alone; {minutes:.1f} minutes", flush=True)
+    print(f"{crate.name}: refused {passed} of {len(paths)}, {len(rest)} of them tried alone; {minutes:.1f} minutes", flush=True)
     return passed, max(len(paths) - passed, int(not paths))
 
 

@@ -1,7 +1,11 @@
 """Wrong bodies, as the prover is asked of them: each text that an edit replaces stands once in its file. It needs nothing built."""
+import re
+
 from tests.lib.case import Case
 from tests.lib.program import TOP
-from tests.lib.wrong import NotJudged, Told, groups, read_edit, texts_with, told_of
+from tests.lib.wrong import NotJudged, Told, groups, read_edit, texts_with, told_alone, told_of
+
+FUNCTION = re.compile(r"\bfn (\w+)")
 
 
 class Edits(Case):
@@ -12,7 +16,8 @@ class Edits(Case):
             self.see(f"what is wrong with {edit.relative_to(TOP)}", [], list(self.faults(edit)))
 
     def faults(self, edit):
-        """The texts of an edit that do not stand once in their file, each behind the changes before it."""
+        """The texts of an edit that do not stand once in their file, each behind the changes before it; and functions that it adds where one of that
+        name stands."""
         texts, file, old = {}, None, None
         for line in edit.read_text().splitlines():
             word, _, said = line.partition(": ")
@@ -27,6 +32,9 @@ class Edits(Case):
                 if said == old:
                     yield f"no change: {old}"
                 texts[file] = texts[file].replace(old, said)
+                for name in {*FUNCTION.findall(said)} - {*FUNCTION.findall(old)}:
+                    if FUNCTION.findall(texts[file]).count(name) != 1:
+                        yield f"not one function in {file.name}: {name}"
             else:
                 yield f"a line that is not read: {line}"
 
@@ -150,3 +158,17 @@ class AtOnce(Case):
         two = f"fn names::other::PairDisplay::show: proved\n{SAID}"
         del told["shown.edit"]
         self.see("what it says where two functions share a name", told, told_of(two, "names", [below, first, shown]))
+
+    def test_alone(self):
+        show, of_first = "names::base::PairDisplay::show, returns-in-Big", "names::odd::Pair::first, returns-in-Big; names::odd::Pair::first, returns"
+        self.see("what a check says of one", Told("names::odd::is_below, returns; src/odd.rt:17, returns", False), told_alone(SAID, "names"))
+        gone = "".join(line for line in SAID.splitlines(True) if "is_below/" not in line and not line.startswith("note"))
+        self.see("what it says where all that fails names what is gone", Told(f"{of_first}; {show}", True), told_alone(gone, "names"))
+        for name, said in [
+            ("no verdict", SAID.replace("logic=not-proved", "logic=proved")),
+            ("no goal", "logic=not-proved"),
+            ("a text that is not read", f"src/odd.rt:3:1: error[syntax]: what is this\n{SAID}"),
+            ("a limit of the prover", SAID.replace("the two types differ", "antt ran out of stack")),
+        ]:
+            with self.subTest(f"a check that tells of {name} judges nothing"), self.assertRaises(NotJudged):
+                told_alone(said, "names")

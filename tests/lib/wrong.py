@@ -1,7 +1,8 @@
 """Wrong bodies that are tried at once: which functions an edit changes, which edits go together, and what one `rt check` says of each
 
 A function's proof rests on its own body and on the contracts of what it calls. So one check judges edits of the bodies of different functions, each
-with a contract: an edit is refused where a goal of a function that it changed is not proved. What is not clear so is left to `rt must-fail`."""
+with a contract: an edit is refused where a goal of a function that it changed is not proved. An edit that is checked alone is refused where any goal
+is not proved. What is not clear so is left to `rt must-fail`."""
 import re
 from typing import NamedTuple
 
@@ -190,3 +191,18 @@ def told_of(said, crate, group):
             elif own and len(called) == 1 and not any(map(body.holds, untried)) and len(edit.bodies) == 1:
                 told[edit.name] = Told(f"{called[0]}: {', '.join(dict.fromkeys(it.name for it in own if it.name))}", True)
     return told
+
+
+def told_alone(said, crate):
+    """What a check says of the one edit that it was made with: the goals that are not proved, of whichever functions."""
+    goals = failed_goals(said, crate)
+    failed = [it for it in goals if not it.is_gone]
+    names = dict.fromkeys(f"{place_of(it)}, {it.name}" for it in failed or goals)
+    if not names:
+        raise NotJudged("it names no goal that is not proved")
+    return Told("; ".join(names), not failed)
+
+
+def place_of(goal):
+    """Where a goal stands, in words."""
+    return goal.place if isinstance(goal.place, str) else ":".join(map(str, goal.place))
