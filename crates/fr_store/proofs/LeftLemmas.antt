@@ -1,6 +1,6 @@
 -- What is left of files in which no database was opened, from what the kit says of it.
-use Rattle.std.proofs.Common.{◌≡◌, ◌≢◌, ◌∙◌, ◌⊎◌, Bool, IfSome, List, None, Option, Some, ℕ, [], ◌∷◌, ap, if◌then◌else◌, inl, inr, refl, sym, subst}
-use Rattle.sqlite.specs.Files.{FailsToOpenFiles, HoldsDatabase, IsCleanLeft, LeavesFiles, image_of}
+use Rattle.std.proofs.Common.{◌≡◌, ◌≢◌, ◌∙◌, ◌⊎◌, Bool, IfSome, IsTrue, List, None, Option, Some, ℕ, [], ◌∷◌, ap, if◌then◌else◌, inl, inr, refl, sym, subst, ⊥}
+use Rattle.sqlite.specs.Files.{AreFoundIn, FailsToOpenFiles, HoldsDatabase, IsCleanLeft, LeavesFiles, image_of}
 use Rattle.sqlite.specs.Tree.{Trees}
 use Rattle.sqlite.specs.declared.error.Error.{Error}
 use Rattle.sqlite.specs.declared.error.Error.TheVariants.{SqliteFailure}
@@ -15,9 +15,12 @@ use Rattle.sqlite_disk.specs.declared.Files.{Files}
 use Rattle.sqlite_disk.specs.declared.modelled.Modelled.{Modelled}
 use Rattle.sqlite_disk.specs.declared.calls.Calls as calls
 use Rattle.sqlite_disk.specs.declared.start.Start as start
+use Rattle.sqlite_store.specs.FileStore.{recovers, view}
+use Rattle.sqlite_store.specs.declared.store.FileStore.{FileStore}
 use Rattle.sqlite_wal.specs.Files.{outcomes, seen_image}
 use Rattle.sqlite_wal.specs.Recovery.{Image}
-use Rattle.fr_store.specs.Refused.{HoldsStill, IsOther, IsSpared, IsUnopened, files_alone}
+use Rattle.fr_store.specs.Refused.{FindsStill, HoldsStill, IsOther, IsSpared, IsUnopened, files_alone}
+use Rattle.fr_store.specs.StoreFiles.{AreFoundAlone}
 use Rattle.fr_store.specs.declared.fault.StoreFault.{StoreFault}
 use Rattle.fr_store.specs.declared.fault.StoreFault.TheVariants.{NotARegister, NotEmpty, Unavailable, WrongSchema}
 use Rattle.fr_store.proofs.FileLemmas.{holds_none}
@@ -59,14 +62,26 @@ module _ {D : Type 0} {g : Ghosts D} where
     survives = λ image may d sound there. absurd (other (told d.trees there));
   }
 
-  pub unopened_files : (held : Image) (fault : StoreFault) (rest : Leftover D g) → (IsCleanLeft rest → (db : Trees) → HoldsDatabase held db → fault ≡ Unavailable) → fault ≢ NotEmpty → fault ≢ WrongSchema
-      → IsUnopened IsOther held fault (Some rest)
-  unopened_files held fault rest told made ours = record {
+  pub unopened_files : (held : Image) (fault : StoreFault) (files : Files D) → (IsCleanLeft (files_alone g files) → (db : Trees) → HoldsDatabase held db → fault ≡ Unavailable) → fault ≢ NotEmpty → fault ≢ WrongSchema
+      → IsUnopened IsOther held fault (Some (files_alone g files))
+  unopened_files held fault files told made ours = record {
     told = told;
-    stays = λ clean other. held_none held fault rest (told clean) other;
+    stays = λ clean other. held_none held fault (files_alone g files) (told clean) other;
+    finds = λ clean. tt;
     not_made = made;
     not_ours = ours;
     lost = λ none. absurd (let no = none in cc);
+  }
+
+  -- a store in which an open finds what it finds in the files
+  pub left_store : (held : Image) (it : FileStore D g) → (IsTrue (view it).is_clean → (db : Trees) → recovers it db → AreFoundAlone held db) → IsUnopened IsSpared held Unavailable (Some (left.Store it))
+  left_store held it finds = record {
+    told = λ clean db there. refl;
+    stays = λ clean other. absurd (other refl);
+    finds = λ clean db may. inl (finds clean db may);
+    not_made = λ other. cc;
+    not_ours = λ other. cc;
+    lost = λ none. refl;
   }
 
   left_still : (held : Image) (files : Files D) (rest : Leftover D g) (fault : StoreFault) → ((file : D) → g.may_leave file (g.seen file))
@@ -76,6 +91,14 @@ module _ {D : Type 0} {g : Ghosts D} where
   left_still held files (left.Unopened now) fault stays only told leaves other = held_none held fault (left.Unopened now) told other
   left_still held files (left.Store now) fault stays only told leaves other = held_none held fault (left.Store now) told other
 
+  left_finds : (held : Image) (files : Files D) (rest : Leftover D g) → image_of g files ≡ held → LeavesFiles files rest → FindsStill held (λ db. ⊥) rest
+  left_finds held files (left.Files now) same leaves = tt
+  left_finds held files (left.Unopened now) same leaves = tt
+  left_finds held files (left.Store now) same leaves = λ db may. inl (record {
+    recovered = subst (λ image. AreFoundIn image db) same (leaves db may).0;
+    only = λ trees there. (leaves db may).1 trees (subst (λ image. HoldsDatabase image trees) (sym same) there);
+  })
+
   -- what the kit leaves of files in which it opened no database, of a log and a database file like this
   abbrev pub IsLeftOf : (D → Type 0) → (D → Type 0) → Error → Leftover D g → Type 0
   IsLeftOf IsLog IsDb e rest = (files : Files D) × IsLog files.log × IsDb files.db × (IsCleanLeft rest → FailsToOpenFiles files rest e × LeavesFiles files rest)
@@ -83,11 +106,12 @@ module _ {D : Type 0} {g : Ghosts D} where
   -- of which a crash leaves what they held
   module _ (held : Image) (IsLog IsDb : D → Type 0) (stays : (file : D) → g.may_leave file (g.seen file))
       (only : (files : Files D) → IsLog files.log → IsDb files.db → (image : Image) → outcomes g files.log files.db image → (image.log ≡ held.log) × (image.db ≡ held.db)) where
+    is_held : (files : Files D) → IsLog files.log → IsDb files.db → image_of g files ≡ held
+    is_held files log db = same_image held (image_of g files) (only files log db (image_of g files) (stays files.log, stays files.db))
+
     no_database : (rest : Leftover D g) (e : Error) → e ≡ SqliteFailure NotADatabase → IsLeftOf IsLog IsDb e rest → IsCleanLeft rest → (db : Trees) → HoldsDatabase held db → ⊥
     no_database rest e is it clean db there =
-        let files = it.0 in
-        let same = same_image held (image_of g files) (only files it.1 it.2 (image_of g files) (stays files.log, stays files.db)) in
-        holds_none files rest e is (it.3 clean).0 db (subst (λ image. HoldsDatabase image db) (sym same) there)
+        holds_none it.0 rest e is (it.3 clean).0 db (subst (λ image. HoldsDatabase image db) (sym (is_held it.0 it.1 it.2)) there)
 
     pub left_no_database : (rest : Option (Leftover D g)) (e : Error) → e ≡ SqliteFailure NotADatabase → IfSome rest (IsLeftOf IsLog IsDb e) → rest ≢ None → IsUnopened IsSpared held NotARegister rest
     left_no_database None e is it some = absurd (some refl)
@@ -96,16 +120,18 @@ module _ {D : Type 0} {g : Ghosts D} where
         record {
           told = told;
           stays = λ clean spared. left_still held it.0 rest NotARegister stays (only it.0 it.1 it.2) (told clean) (it.3 clean).1 spared;
+          finds = λ clean. left_finds held it.0 rest (is_held it.0 it.1 it.2) (it.3 clean).1;
           not_made = λ other. cc;
           not_ours = λ other. cc;
           lost = λ none. absurd (let no = none in cc);
         }
 
     pub left_unavailable : (rest : Option (Leftover D g)) (e : Error) → IfSome rest (IsLeftOf IsLog IsDb e) → IsUnopened IsSpared held Unavailable rest
-    left_unavailable None e it = record { told = tt; stays = tt; not_made = λ other. cc; not_ours = λ other. cc; lost = λ none. refl }
+    left_unavailable None e it = record { told = tt; stays = tt; finds = tt; not_made = λ other. cc; not_ours = λ other. cc; lost = λ none. refl }
     left_unavailable (Some rest) e it = record {
       told = λ clean db there. refl;
       stays = λ clean spared. left_still held it.0 rest Unavailable stays (only it.0 it.1 it.2) (λ db there. refl) (it.3 clean).1 spared;
+      finds = λ clean. left_finds held it.0 rest (is_held it.0 it.1 it.2) (it.3 clean).1;
       not_made = λ other. cc;
       not_ours = λ other. cc;
       lost = λ none. refl;

@@ -1,5 +1,5 @@
 -- What a call says of files that it refuses, from what a connection over them says.
-use Rattle.std.proofs.Common.{◌≡◌, ◌≢◌, ◌∙◌, IfSome, Option, Some, None, inl, inr, refl, sym, subst, true≢false}
+use Rattle.std.proofs.Common.{◌≡◌, ◌≢◌, ◌∙◌, IfSome, IsTrue, Option, Some, None, inl, inr, refl, sym, subst, true≢false, ⊥}
 use Rattle.sqlite.specs.Effect.{Database, IsDatabase}
 use Rattle.sqlite.specs.Files.{HoldsDatabase, IsCleanLeft}
 use Rattle.sqlite.specs.State.{State, Opens}
@@ -8,13 +8,17 @@ use Rattle.sqlite.specs.declared.file.Leftover.{Leftover}
 use Rattle.sqlite.specs.declared.file.Leftover.TheVariants as left
 use Rattle.sqlite_disk.specs.declared.Disk.{Ghosts}
 use Rattle.sqlite_disk.specs.declared.Files.{Files}
+use Rattle.sqlite_store.specs.FileStore.{recovers, view}
+use Rattle.sqlite_store.specs.declared.store.FileStore.{FileStore}
 use Rattle.sqlite_wal.specs.Recovery.{Image}
+use Rattle.fr_base.specs.Book.{opening}
+use Rattle.fr_base.specs.Cluster.{ClusterFile}
 use Rattle.fr_tables.specs.Asking.{AreAsBefore, old_schema_number, our_schema_number}
 use Rattle.fr_store.specs.Opened.{HoldCommitted}
 use Rattle.fr_store.specs.Opening.{Refuses}
-use Rattle.fr_store.specs.Refused.{HoldsStill, IsOther, IsRefusedBy, IsSpared, IsToldBy, IsUnavailable, IsUnopened, Refusing, files_alone, in_files, makes, migrates, opens, wanting}
-use Rattle.fr_store.specs.Store.{Forbids}
-use Rattle.fr_store.specs.StoreFiles.{IsFound, IsHeld}
+use Rattle.fr_store.specs.Refused.{FindsStill, HoldsStill, IsOther, IsRefusedBy, IsSpared, IsToldBy, IsUnavailable, IsUnopened, Refusing, files_alone, given_back, in_files, makes, makes_closed, migrates, opens, wanting}
+use Rattle.fr_store.specs.Store.{Forbids, IsRegisterFor}
+use Rattle.fr_store.specs.StoreFiles.{IsFound, IsHeld, database_of}
 use Rattle.fr_store.specs.declared.fault.StoreFault.{StoreFault}
 use Rattle.fr_store.specs.declared.fault.StoreFault.TheVariants.{NotEmpty, NotARegister, WrongSchema, Unavailable}
 use Rattle.fr_store.proofs.AgainLemmas.{only_unavailable_files}
@@ -42,13 +46,21 @@ makes_alone held WrongSchema its told = absurd (told its.0 its.1 its.2)
 makes_alone held Unavailable its told = refl
 
 module _ {D : Type 0} {g : Ghosts D} where
+  -- ---- a store that is left
+
+  -- one of more databases
+  finds_more : (held : Image) (commits : Trees → Type 0) (left : Leftover D g) → FindsStill held (λ db. ⊥) left → FindsStill held commits left
+  finds_more held commits (left.Files files) h = tt
+  finds_more held commits (left.Unopened files) h = tt
+  finds_more held commits (left.Store it) h = λ db may. elim (h db may) [ inl found ↦ inl found | inr none ↦ absurd none ]
+
   -- ---- files in which no database was opened
 
   unopened_tells : (call : Refusing) (held : Image) (fault : StoreFault) (left : Leftover D g) → IsAlone call held fault → ((d : Database) → call.database d Unavailable)
-      → call.files held fault → ((db : Trees) → HoldsDatabase held db → fault ≡ Unavailable) → (call.spares fault left → HoldsStill held left) → IsToldBy call held fault left
-  unopened_tells call held fault left alone any cause told stays =
+      → call.files held fault → ((db : Trees) → HoldsDatabase held db → fault ≡ Unavailable) → (call.spares fault left → HoldsStill held left) → FindsStill held call.commits left → IsToldBy call held fault left
+  unopened_tells call held fault left alone any cause told stays finds =
       let why = λ (d : Database) (is : IsDatabase d) (there : HoldsDatabase held d.trees). subst (call.database d) (sym (told d.trees there)) (any d) in
-      record { told = why; cause = cause; known = λ its. alone its why; stays = stays }
+      record { told = why; cause = cause; known = λ its. alone its why; stays = stays; finds = finds }
 
   unopened : (call : Refusing) (held : Image) (fault : StoreFault) (rest : Option (Leftover D g)) → IsAlone call held fault → ((d : Database) → call.database d Unavailable)
       → (((db : Trees) → HoldsDatabase held db → fault ≡ Unavailable) → call.files held fault) → call.tells fault → IsUnopened call.spares held fault rest
@@ -56,7 +68,7 @@ module _ {D : Type 0} {g : Ghosts D} where
   unopened call held fault None alone any cause tells h = record { tells = tells; left = tt; lost = h.lost }
   unopened call held fault (Some left) alone any cause tells h = record {
     tells = tells;
-    left = λ clean. unopened_tells call held fault left alone any (cause (h.told clean)) (h.told clean) (h.stays clean);
+    left = λ clean. unopened_tells call held fault left alone any (cause (h.told clean)) (h.told clean) (h.stays clean) (finds_more held call.commits left (h.finds clean));
     lost = h.lost;
   }
 
@@ -79,11 +91,11 @@ module _ {D : Type 0} {g : Ghosts D} where
   -- ---- want of memory, or a fault of the files
 
   lacking : (call : Refusing) (held : Image) (rest : Option (Leftover D g)) → call.tells Unavailable → ((d : Database) → call.database d Unavailable) → call.files held Unavailable
-      → IfSome rest (λ left. IsCleanLeft left → call.spares Unavailable left → HoldsStill held left) → IsRefusedBy call IsUnavailable held Unavailable rest
-  lacking call held None tells database files stays = record { tells = tells; left = tt; lost = λ none. refl }
-  lacking call held (Some left) tells database files stays = record {
+      → IfSome rest (λ left. IsCleanLeft left → (call.spares Unavailable left → HoldsStill held left) × FindsStill held call.commits left) → IsRefusedBy call IsUnavailable held Unavailable rest
+  lacking call held None tells database files leaves = record { tells = tells; left = tt; lost = λ none. refl }
+  lacking call held (Some left) tells database files leaves = record {
     tells = tells;
-    left = λ clean. record { told = λ d is there. database d; cause = files; known = λ its. refl; stays = stays clean };
+    left = λ clean. record { told = λ d is there. database d; cause = files; known = λ its. refl; stays = (leaves clean).0; finds = (leaves clean).1 };
     lost = λ none. refl;
   }
 
@@ -98,16 +110,31 @@ module _ {D : Type 0} {g : Ghosts D} where
   make_lacks held = lacking makes held None (inr refl) (λ d. tt) tt tt
 
   -- no database was opened in which a register was to be made
-  pub not_made : (held : Image) (rest : Option (Leftover D g)) → IfSome rest (λ left. IsCleanLeft left → IsSpared Unavailable left → HoldsStill held left)
-      → IsRefusedBy makes IsUnavailable held Unavailable rest
-  not_made held rest stays = lacking makes held rest (inr refl) (λ d. tt) tt stays
+  pub not_made : (held : Image) (rest : Option (Leftover D g)) → IsUnopened IsSpared held Unavailable rest → IsRefusedBy makes IsUnavailable held Unavailable rest
+  not_made held None h = make_lacks held
+  not_made held (Some left) h = lacking makes held (Some left) (inr refl) (λ d. tt) tt (λ clean. (h.stays clean, h.finds clean))
 
-  other_than_itself : (held : Image) (rest : Option (Leftover D g)) → IfSome rest (λ left. IsCleanLeft left → Unavailable ≢ Unavailable → HoldsStill held left)
-  other_than_itself held None = tt
-  other_than_itself held (Some left) = λ clean other. absurd (other refl)
+  pub not_made_in_files : (held : Image) (files : Option (Files D)) → IsRefusedBy (in_files makes) IsUnavailable held Unavailable (given_back g files)
+  not_made_in_files held None = lacking (in_files makes) held None (inr refl) (λ d. tt) tt tt
+  not_made_in_files held (Some files) = lacking (in_files makes) held (Some (files_alone g files)) (inr refl) (λ d. tt) tt (λ clean. (λ other. absurd (other refl), tt))
 
-  pub not_made_in_files : (held : Image) (rest : Option (Leftover D g)) → IsRefusedBy (in_files makes) IsUnavailable held Unavailable rest
-  not_made_in_files held rest = lacking (in_files makes) held rest (inr refl) (λ d. tt) tt (other_than_itself held rest)
+  -- a register that was made, whose files failed to close
+  pub not_closed : (f : ClusterFile) (held : Image) (it : FileStore D g) → (IsTrue (view it).is_clean → (db : Trees) → recovers it db → IsRegisterFor f.cluster (opening f) (database_of db))
+      → IsRefusedBy (makes_closed f) IsUnavailable held Unavailable (Some (left.Store it))
+  not_closed f held it finds =
+      lacking (makes_closed f) held (Some (left.Store it)) (inr refl) (λ d. tt) tt (λ clean. (λ other. absurd (other refl), λ db may. inr (finds clean db may)))
+
+  -- one that was not made
+  pub not_closed_if_not_made : (f : ClusterFile) (held : Image) (fault : StoreFault) (rest : Option (Leftover D g)) → IsRefusedBy makes IsUnavailable held fault rest
+      → IsRefusedBy (makes_closed f) IsUnavailable held fault rest
+  not_closed_if_not_made f held fault None h = record { tells = h.tells; left = tt; lost = h.lost }
+  not_closed_if_not_made f held fault (Some left) h = record {
+    tells = h.tells;
+    left = λ clean.
+        let said = h.left clean in
+        record { told = said.told; cause = said.cause; known = said.known; stays = said.stays; finds = finds_more held (makes_closed f).commits left said.finds };
+    lost = h.lost;
+  }
 
   -- what is said of files at a path is said of files that were given
   spared : (fault : StoreFault) (left : Leftover D g) → fault ≢ Unavailable → IsSpared fault left
@@ -120,7 +147,7 @@ module _ {D : Type 0} {g : Ghosts D} where
   handed call held fault None spares h = record { tells = h.tells; left = tt; lost = h.lost }
   handed call held fault (Some left) spares h = record {
     tells = h.tells;
-    left = λ clean. let said = h.left clean in record { told = said.told; cause = said.cause; known = said.known; stays = λ other. said.stays (spares left other) };
+    left = λ clean. let said = h.left clean in record { told = said.told; cause = said.cause; known = said.known; stays = λ other. said.stays (spares left other); finds = said.finds };
     lost = h.lost;
   }
 
@@ -151,6 +178,7 @@ module _ {D : Type 0} {g : Ghosts D} where
           untouched = λ d is there. subst (IsHeld _) (kept ∙ same d is there) closed.held;
           survives = λ image may d is there. subst (IsHeld image) (kept ∙ same d is there) (closed.left image may);
         };
+        finds = tt;
       }
 
   pub open_tells : (held : Image) (fault : StoreFault) (files : Files D) (before after : State) → Refuses our_schema_number before.now fault

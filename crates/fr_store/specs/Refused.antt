@@ -1,7 +1,7 @@
 -- Refused: what a call says that refuses files in which it was to open, to migrate or to make a
 -- register. Which faults it tells, for what cause, and that what is left of the files holds what they
 -- held. The same of files in which no database was opened.
-use Rattle.std.specs.Prelude.{◌≡◌, ◌≢◌, ◌⊎◌, ℤ, Option, Some, None, IfSome, false, ⊤}
+use Rattle.std.specs.Prelude.{◌≡◌, ◌≢◌, ◌⊎◌, ℤ, Option, Some, None, IfSome, false, ⊤, ⊥}
 use Rattle.sqlite.specs.Effect.{Database, IsDatabase}
 use Rattle.sqlite.specs.Files.{HoldsDatabase, IsCleanLeft}
 use Rattle.sqlite.specs.Tree.{Trees}
@@ -10,13 +10,14 @@ use Rattle.sqlite.specs.declared.file.Leftover.TheVariants as left
 use Rattle.sqlite_disk.specs.declared.Disk.{Ghosts}
 use Rattle.sqlite_disk.specs.declared.Files.{Files}
 use Rattle.sqlite_wal.specs.Recovery.{Image}
-use Rattle.fr_base.specs.Book.{Book}
+use Rattle.sqlite_store.specs.FileStore.{recovers}
+use Rattle.fr_base.specs.Book.{Book, opening}
 use Rattle.fr_base.specs.Cluster.{Cluster, ClusterFile}
 use Rattle.fr_tables.specs.Asking.{old_schema_number, our_schema_number}
 use Rattle.fr_store.specs.Before.{HoldsBookBefore}
 use Rattle.fr_store.specs.Opening.{ForbidsFiles, Refuses, RefusesFiles}
-use Rattle.fr_store.specs.Store.{MayForbid, has_table}
-use Rattle.fr_store.specs.StoreFiles.{HoldsRegister, IsHeld, image_left, outcomes_left}
+use Rattle.fr_store.specs.Store.{IsRegisterFor, MayForbid, has_table}
+use Rattle.fr_store.specs.StoreFiles.{AreFoundAlone, HoldsRegister, IsHeld, database_of, image_left, outcomes_left}
 use Rattle.fr_store.specs.declared.fault.StoreFault.{StoreFault}
 use Rattle.fr_store.specs.declared.fault.StoreFault.TheVariants.{NotEmpty, NotARegister, WrongSchema, Unavailable}
 
@@ -31,18 +32,20 @@ IsSpared fault (left.Store it) = fault ≢ Unavailable
 
 -- What a call says of files that it refuses: which faults it tells of any files; why it refuses a
 -- database that they hold; why it refuses them, whatever they hold; which files it refuses by
--- Unavailable alone; and for which fault it says that what is left holds what they held.
+-- Unavailable alone; for which fault it says that what is left holds what they held; and which
+-- databases an open may find in a store that is left, beside what they held.
 pub record Refusing : Type 1 where
   pub tells : StoreFault → Type 0
   pub database : Database → StoreFault → Type 0
   pub files : Image → StoreFault → Type 0
   pub takes : Image → Type 0
   pub spares : {D : Type 0} {g : Ghosts D} → StoreFault → Leftover D g → Type 0
+  pub commits : Trees → Type 0
 
 -- a call that wants this number of the schema
 abbrev pub wanting : ℤ → (Image → Type 0) → Refusing
 wanting number takes =
-    record { tells = λ fault. fault ≢ NotEmpty; database = Refuses number; files = RefusesFiles number; takes = takes; spares = IsSpared }
+    record { tells = λ fault. fault ≢ NotEmpty; database = Refuses number; files = RefusesFiles number; takes = takes; spares = IsSpared; commits = λ db. ⊥ }
 
 -- the call that opens a register
 abbrev pub opens : Refusing
@@ -60,7 +63,12 @@ makes = record {
   files = ForbidsFiles;
   takes = λ held. (db : Database) × IsDatabase db × HoldsDatabase held db.trees × (has_table db.schema ≡ false);
   spares = IsSpared;
+  commits = λ db. ⊥;
 }
+
+-- the call that makes a register of this cluster and closes it
+abbrev pub makes_closed : ClusterFile → Refusing
+makes_closed f = record makes { commits = λ db. IsRegisterFor f.cluster (opening f) (database_of db) }
 
 -- a fault that tells more than Unavailable, whatever is left
 abbrev pub IsOther : {D : Type 0} {g : Ghosts D} → StoreFault → Leftover D g → Type 0
@@ -99,12 +107,20 @@ module _ {D : Type 0} {g : Ghosts D} where
     pub untouched : (d : Database) → IsDatabase d → HoldsDatabase held d.trees → IsHeld (image_left left) d
     pub survives : (image : Image) → outcomes_left left image → (d : Database) → IsDatabase d → HoldsDatabase held d.trees → IsHeld image d
 
+  -- What an open after a crash may find in a store that is left is what it finds in files that held
+  -- this, or one of these databases.
+  abbrev pub FindsStill : Image → (Trees → Type 0) → Leftover D g → Type 0
+  FindsStill held commits (left.Files files) = ⊤
+  FindsStill held commits (left.Unopened files) = ⊤
+  FindsStill held commits (left.Store it) = (db : Trees) → recovers it db → AreFoundAlone held db ⊎ commits db
+
   -- What a fault says of files that held this, where nobody else wrote to those that are left.
   pub record IsToldBy (call : Refusing) (held : Image) (fault : StoreFault) (left : Leftover D g) : Type 0 where
     pub told : (d : Database) → IsDatabase d → HoldsDatabase held d.trees → call.database d fault
     pub cause : call.files held fault
     pub known : call.takes held → fault ≡ Unavailable
     pub stays : call.spares fault left → HoldsStill held left
+    pub finds : FindsStill held call.commits left
 
   -- A call refuses files that held this, for a fault that it tells. Where nothing is left of them
   -- the fault is one for which files are not given back.
@@ -114,10 +130,12 @@ module _ {D : Type 0} {g : Ghosts D} where
     pub lost : rest ≡ None → Without fault
 
   -- No database was opened in files that held this. Where they held one, memory was refused or
-  -- there was a fault. For such a fault what is left holds what they held.
+  -- there was a fault. For such a fault what is left holds what they held; and for each an open finds
+  -- in a store that is left what they held.
   pub record IsUnopened (Spares : StoreFault → Leftover D g → Type 0) (held : Image) (fault : StoreFault) (rest : Option (Leftover D g)) : Type 0 where
     pub told : IfSome rest (λ left. IsCleanLeft left → (db : Trees) → HoldsDatabase held db → fault ≡ Unavailable)
     pub stays : IfSome rest (λ left. IsCleanLeft left → Spares fault left → HoldsStill held left)
+    pub finds : IfSome rest (λ left. IsCleanLeft left → FindsStill held (λ db. ⊥) left)
     pub not_made : fault ≢ NotEmpty
     pub not_ours : fault ≢ WrongSchema
     pub lost : rest ≡ None → fault ≡ Unavailable

@@ -33,6 +33,12 @@ pub record IsFound (image : Image) (db : Database) : Type 0 where
   pub sound : IsDatabase db
   pub only : (trees : Trees) → HoldsDatabase image trees → db.trees ≡ trees
 
+-- An open finds these trees in the files: the files recover to them, or nothing was there and they
+-- are empty. If the files hold a database, they are its trees.
+pub record AreFoundAlone (image : Image) (db : Trees) : Type 0 where
+  pub recovered : AreFoundIn image db
+  pub only : (trees : Trees) → HoldsDatabase image trees → db ≡ trees
+
 -- the database in these trees, with the tables of this schema, the last one and the index where the
 -- trees list them
 abbrev pub database_of : Trees → Database

@@ -1,13 +1,14 @@
-use Rattle.std.proofs.Common.{rules, IfSome, Some, ◌≡◌, ◌∙◌, arith, false, true, inl, refl, subst}
+use Rattle.std.proofs.Common.{rules, IfSome, Some, ◌≡◌, ◌∙◌, arith, false, true, inl, refl, sym, subst}
 use Rattle.sqlite.specs.State.{HasCleanDisk}
-use Rattle.sqlite.specs.Files.{file_state}
+use Rattle.sqlite.specs.Files.{AreFoundIn, file_state}
 use Rattle.sqlite_wal.specs.Files.{image_at}
 use Rattle.sqlite.specs.declared.error.Error.TheVariants.{SqliteFailure}
 use Rattle.sqlite.specs.declared.error.ErrorCode.TheVariants.{NotADatabase}
+use Rattle.sqlite_trees.proofs.Doubt.{no_doubt}
 use Rattle.fr_store.specs.Refused.{IsSpared, IsUnopened}
 use Rattle.fr_store.specs.declared.fault.StoreFault.TheVariants.{Unavailable}
 use Rattle.fr_store.proofs.FileLemmas.{found_opened}
-use Rattle.fr_store.proofs.LeftLemmas.{IsLeftOf, IsSettled, left_no_database, left_unavailable, settled_left}
+use Rattle.fr_store.proofs.LeftLemmas.{IsLeftOf, IsSettled, left_no_database, left_store, left_unavailable, settled_left}
 use Rattle.fr_store.proofs.paths.connect_at.Goals as goal
 
 pub returns-in-Ok-reopen-clause-connected : goal.returns-in-Ok-reopen-clause-connected
@@ -39,3 +40,13 @@ returns-in-Err-clause-refused g c =
     let left : IsUnopened IsSpared (image_at g.S.Start) Unavailable it.left = left_unavailable (image_at g.S.Start) (IsSettled true) (IsSettled false) (λ file. inl refl)
     (λ files log db image may. (settled_left g.S.Start files.log true log image.log may.0, settled_left g.S.Start files.db false db image.db may.1)) it.left it.field-0-0 rest in
     search (rules, left)
+
+pub returns-in-Err-reopen-clause-refused : goal.returns-in-Err-reopen-clause-refused
+returns-in-Err-reopen-clause-refused g c =
+    let held = image_at g.S.Start in
+    let it = c.in-Err-reopen in
+    left_store held it.store (λ clean db may.
+    let before : HasCleanDisk (file_state c.in-Ok.conn) = omega (arith, it.ensures.unharmed.clean, no_doubt _ clean) in
+    let finds = c.in-Ok.ensures.found before in
+    let is = it.ensures.left db (c.in-Ok.ensures.opened before).0.is_open may in
+    record { recovered = subst (AreFoundIn held) (sym is) finds.reads; only = λ trees there. is ∙ finds.holds trees there })

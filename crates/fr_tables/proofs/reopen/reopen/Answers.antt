@@ -1,7 +1,9 @@
-use Rattle.std.proofs.Common.{◌≡◌, false, arith, ap, sym, subst, ◌∙◌}
+use Rattle.std.proofs.Common.{◌≡◌, ◌∙◌, ap, arith, false, subst, sym}
+use Rattle.std.proofs.lemmas.Result.{IfErr-weaker}
 use Rattle.sqlite.specs.Tree.{Trees}
 use Rattle.sqlite_trees.specs.View.{IsClean}
 use Rattle.sqlite_catalog.specs.Listing.{IsSound}
+use Rattle.sqlite_rules.proofs.ViewLemmas.{still_quiet}
 use Rattle.sqlite.specs.Held.{state}
 use Rattle.fr_tables.specs.Schema.{register_schema, old_schema, layout_of, stats_at}
 use Rattle.fr_tables.specs.Tables.{AreOrdered, AreOrderedBefore}
@@ -48,3 +50,16 @@ returns-clause-trees g c =
     let unbroken : v.is_broken ≡ false = sym (c.is_broken.ensures was) ∙ c.if-is_broken.false in
     trees clean ∙ (c.into_store-store.ensures.undone.undone (open_if_sound v (g.met.S.Store.broken_if_shut c.into_store-store.result) unbroken)).0)
     c.over.ensures.opens c.over.ensures.clean c.over.ensures.trees
+
+pub returns-then-is_broken-clause-left : goal.returns-then-is_broken-clause-left
+returns-then-is_broken-clause-left g c db up may =
+    g.met.S.Store.settled c.args.conn.store db up (c.into_store-store.ensures.quiet.outcomes db may)
+
+pub returns-clause-unharmed : goal.returns-clause-unharmed
+returns-clause-unharmed g c = IfErr-weaker c.over.result _ _ (λ e. still_quiet c.into_store-store.ensures.quiet) c.over.ensures.unharmed
+
+pub returns-clause-left : goal.returns-clause-left
+returns-clause-left g c =
+    IfErr-weaker c.over.result _ _
+    (λ e kept db up may. g.met.S.Store.settled c.args.conn.store db up (c.into_store-store.ensures.quiet.outcomes db (kept.outcomes db may)))
+    c.over.ensures.unharmed

@@ -25,7 +25,7 @@ returns-in-Ok-create_on-clause-survives g c =
     (c.in-Ok.conn, record { opens = λ clean. (connected clean).opens; found = λ clean. (connected clean).found }, c.in-Ok-create_on.ensures.survives)
 
 pub returns-in-Err-clause-refused : goal.returns-in-Err-clause-refused
-returns-in-Err-clause-refused g c = not_made_in_files (image_of g.D.Disk c.args.files) (given_back g.D.Disk (Some c.in-Err.left))
+returns-in-Err-clause-refused g c = not_made_in_files (image_of g.D.Disk c.args.files) (Some c.in-Err.left)
 
 pub returns-in-None-clause-refused : goal.returns-in-None-clause-refused
 returns-in-None-clause-refused g c = let held = image_of g.D.Disk c.args.files in make_handed held Unavailable None (make_lacks held)

@@ -38,7 +38,7 @@ returns-in-Err-clause-refused g c =
     let it = c.in-Err in
     let rest : IfSome it.left (IsLeftOf (IsSettled true) (IsSettled false) it.field-0-0) = it.ensures.cause in
     not_made (image_at g.S.Start) _ (left_unavailable (image_at g.S.Start) (IsSettled true) (IsSettled false) (λ file. inl refl)
-    (λ files log db image may. (settled_left g.S.Start files.log true log image.log may.0, settled_left g.S.Start files.db false db image.db may.1)) _ it.field-0-0 rest).stays
+    (λ files log db image may. (settled_left g.S.Start files.log true log image.log may.0, settled_left g.S.Start files.db false db image.db may.1)) _ it.field-0-0 rest)
 
 pub returns-in-None-clause-refused : goal.returns-in-None-clause-refused
 returns-in-None-clause-refused g c = make_lacks (image_at g.S.Start)
