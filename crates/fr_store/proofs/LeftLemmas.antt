@@ -1,5 +1,5 @@
 -- What is left of files in which no database was opened, from what the kit says of it.
-use Rattle.std.proofs.Common.{◌≡◌, ◌≢◌, ◌∙◌, ◌⊎◌, Bool, IfSome, IsTrue, List, None, Option, Some, ℕ, [], ◌∷◌, ap, if◌then◌else◌, inl, inr, refl, sym, subst, ⊥}
+use Rattle.std.proofs.Common.{◌≡◌, ◌≢◌, ◌∙◌, ◌⊎◌, Bool, IfSome, IsTrue, List, None, Option, Some, ℕ, [], ◌∷◌, ap, if◌then◌else◌, inl, inr, refl, sym, subst}
 use Rattle.sqlite.specs.Files.{AreFoundIn, FailsToOpenFiles, HoldsDatabase, IsCleanLeft, LeavesFiles, image_of}
 use Rattle.sqlite.specs.Tree.{Trees}
 use Rattle.sqlite.specs.declared.error.Error.{Error}
@@ -106,12 +106,12 @@ module _ {D : Type 0} {g : Ghosts D} where
   -- of which a crash leaves what they held
   module _ (held : Image) (IsLog IsDb : D → Type 0) (stays : (file : D) → g.may_leave file (g.seen file))
       (only : (files : Files D) → IsLog files.log → IsDb files.db → (image : Image) → outcomes g files.log files.db image → (image.log ≡ held.log) × (image.db ≡ held.db)) where
-    is_held : (files : Files D) → IsLog files.log → IsDb files.db → image_of g files ≡ held
-    is_held files log db = same_image held (image_of g files) (only files log db (image_of g files) (stays files.log, stays files.db))
+    is_held : (rest : Leftover D g) (e : Error) → (it : IsLeftOf IsLog IsDb e rest) → image_of g it.0 ≡ held
+    is_held rest e it = let files = it.0 in same_image held (image_of g files) (only files it.1 it.2 (image_of g files) (stays files.log, stays files.db))
 
     no_database : (rest : Leftover D g) (e : Error) → e ≡ SqliteFailure NotADatabase → IsLeftOf IsLog IsDb e rest → IsCleanLeft rest → (db : Trees) → HoldsDatabase held db → ⊥
     no_database rest e is it clean db there =
-        holds_none it.0 rest e is (it.3 clean).0 db (subst (λ image. HoldsDatabase image db) (sym (is_held it.0 it.1 it.2)) there)
+        holds_none it.0 rest e is (it.3 clean).0 db (subst (λ image. HoldsDatabase image db) (sym (is_held rest e it)) there)
 
     pub left_no_database : (rest : Option (Leftover D g)) (e : Error) → e ≡ SqliteFailure NotADatabase → IfSome rest (IsLeftOf IsLog IsDb e) → rest ≢ None → IsUnopened IsSpared held NotARegister rest
     left_no_database None e is it some = absurd (some refl)
@@ -120,7 +120,7 @@ module _ {D : Type 0} {g : Ghosts D} where
         record {
           told = told;
           stays = λ clean spared. left_still held it.0 rest NotARegister stays (only it.0 it.1 it.2) (told clean) (it.3 clean).1 spared;
-          finds = λ clean. left_finds held it.0 rest (is_held it.0 it.1 it.2) (it.3 clean).1;
+          finds = λ clean. left_finds held it.0 rest (is_held rest e it) (it.3 clean).1;
           not_made = λ other. cc;
           not_ours = λ other. cc;
           lost = λ none. absurd (let no = none in cc);
@@ -131,7 +131,7 @@ module _ {D : Type 0} {g : Ghosts D} where
     left_unavailable (Some rest) e it = record {
       told = λ clean db there. refl;
       stays = λ clean spared. left_still held it.0 rest Unavailable stays (only it.0 it.1 it.2) (λ db there. refl) (it.3 clean).1 spared;
-      finds = λ clean. left_finds held it.0 rest (is_held it.0 it.1 it.2) (it.3 clean).1;
+      finds = λ clean. left_finds held it.0 rest (is_held rest e it) (it.3 clean).1;
       not_made = λ other. cc;
       not_ours = λ other. cc;
       lost = λ none. refl;

@@ -1,5 +1,5 @@
 -- What a call says of files that it refuses, from what a connection over them says.
-use Rattle.std.proofs.Common.{◌≡◌, ◌≢◌, ◌∙◌, IfSome, IsTrue, Option, Some, None, inl, inr, refl, sym, subst, true≢false, ⊥}
+use Rattle.std.proofs.Common.{◌≡◌, ◌≢◌, ◌∙◌, IfSome, IsTrue, Option, Some, None, inl, inr, refl, sym, subst, true≢false}
 use Rattle.sqlite.specs.Effect.{Database, IsDatabase}
 use Rattle.sqlite.specs.Files.{HoldsDatabase, IsCleanLeft}
 use Rattle.sqlite.specs.State.{State, Opens}

@@ -1,7 +1,7 @@
 -- Refused: what a call says that refuses files in which it was to open, to migrate or to make a
 -- register. Which faults it tells, for what cause, and that what is left of the files holds what they
 -- held. The same of files in which no database was opened.
-use Rattle.std.specs.Prelude.{◌≡◌, ◌≢◌, ◌⊎◌, ℤ, Option, Some, None, IfSome, false, ⊤, ⊥}
+use Rattle.std.specs.Prelude.{◌≡◌, ◌≢◌, ◌⊎◌, ℤ, Option, Some, None, IfSome, false, ⊤}
 use Rattle.sqlite.specs.Effect.{Database, IsDatabase}
 use Rattle.sqlite.specs.Files.{HoldsDatabase, IsCleanLeft}
 use Rattle.sqlite.specs.Tree.{Trees}
