@@ -2,6 +2,7 @@
 -- cause a register's file is refused.
 use Rattle.std.specs.Prelude.{◌≡◌, ◌≢◌, ◌⊎◌, ℕ, List, Option, Some, None, codes, Result, Err}
 use Rattle.sqlite.specs.Files.{IsCleanLeft}
+use Rattle.sqlite.specs.Tree.{Trees}
 use Rattle.sqlite.specs.declared.file.Leftover.{Leftover}
 use Rattle.sqlite_disk.specs.declared.Disk.{Ghosts}
 use Rattle.sqlite_wal.specs.Recovery.{Image}
@@ -24,7 +25,7 @@ use Rattle.fr_cli.specs.declared.fault.Fault.TheVariants.{Script, Config, Regist
 use Rattle.fr_http.specs.declared.fault.LinkFault.{LinkFault}
 use Rattle.fr_http.specs.declared.fault.LinkFault.TheVariants as link
 use Rattle.fr_store.specs.Opening.{ExplainsFiles, ForbidsFiles}
-use Rattle.fr_store.specs.Refused.{HoldsStill, IsSpared, NeedsNone}
+use Rattle.fr_store.specs.Refused.{FindsStill, HoldsStill, IsSpared, NeedsNone, makes_closed}
 use Rattle.fr_store.specs.declared.fault.StoreFault.{StoreFault}
 use Rattle.fr_store.specs.declared.fault.StoreFault.TheVariants as store
 use Rattle.fr_text.specs.ClusterFile.{config_fault_word, config_of}
@@ -73,29 +74,32 @@ IfLeft (Some left) P Q = Q left
 -- Of the files that held this, and of what is left of them, each fault of a job. As long as nobody else wrote to them.
 module _ {D : Type 0} {g : Ghosts D} (held : Image) (rest : Option (Leftover D g)) where
   -- Where something is left clean the fault came for such a cause. Files that are left still hold their database, also after a crash; where they
-  -- were not opened, or a store is left, that is told but for Unavailable. Where nothing is left the fault is such a one.
-  abbrev pub IsCaused : (Image → StoreFault → Type 0) → (StoreFault → Type 0) → StoreFault → Type 0
-  IsCaused Why Without fault = IfLeft rest (Without fault) (λ left. IsCleanLeft left → Why held fault × (IsSpared fault left → HoldsStill held left))
+  -- were not opened, or a store is left, that is told but for Unavailable. What an open after a crash may find in a store that is left is what it
+  -- finds in files that held this, or one of these databases. Where nothing is left the fault is such a one.
+  abbrev pub IsCaused : (Image → StoreFault → Type 0) → (StoreFault → Type 0) → (Trees → Type 0) → StoreFault → Type 0
+  IsCaused Why Without commits fault = IfLeft rest (Without fault)
+      (λ left. IsCleanLeft left → Why held fault × (IsSpared fault left → HoldsStill held left) × FindsStill held commits left)
 
-  -- For this a register's file is not made of a cluster file: it has a table, or making it failed.
-  abbrev pub IsNotMade : Fault → Type 0
-  IsNotMade fault = (of : StoreFault) × (fault ≡ Register of) × ((of ≡ store.NotEmpty) ⊎ (of ≡ store.Unavailable))
-      × IsCaused ForbidsFiles (λ f. f ≡ store.Unavailable) of
+  -- For this a register's file is not made of a cluster file: it has a table, or making it failed. Where its files failed to close, an open after a
+  -- crash may find in their store the new register.
+  abbrev pub IsNotMade : ClusterFile → Fault → Type 0
+  IsNotMade f fault = (of : StoreFault) × (fault ≡ Register of) × ((of ≡ store.NotEmpty) ⊎ (of ≡ store.Unavailable))
+      × IsCaused ForbidsFiles (λ of. of ≡ store.Unavailable) (makes_closed f).commits of
 
   -- For this no register's file is made of the cluster file at the path: none is had there, and then nothing is opened; or one
   -- was read, and no register's file is made of it.
   abbrev pub IsNotCreated : Readings → List ℕ → Fault → Type 0
   IsNotCreated read path fault = (IsNotRead read path fault × (rest ≡ None))
-      ⊎ ((f : ClusterFile) × IsClusterAt read path f × IsNotMade fault)
+      ⊎ ((f : ClusterFile) × IsClusterAt read path f × IsNotMade f fault)
 
   -- For this a register's file is not migrated: it is no register, or one of another schema than 1, or migrating it failed.
   abbrev pub IsNotMigrated : Fault → Type 0
-  IsNotMigrated (Register fault) = (fault ≢ store.NotEmpty) × IsCaused BarsMigration NeedsNone fault
+  IsNotMigrated (Register fault) = (fault ≢ store.NotEmpty) × IsCaused BarsMigration NeedsNone (λ db. ⊥) fault
   IsNotMigrated _ = ⊥
 
   -- For this a register's file is not opened: it is no register, or one of another schema than 2, or opening it failed.
   abbrev pub IsNotOpened : Fault → Type 0
-  IsNotOpened (Register fault) = (fault ≢ store.NotEmpty) × IsCaused ExplainsFiles NeedsNone fault
+  IsNotOpened (Register fault) = (fault ≢ store.NotEmpty) × IsCaused ExplainsFiles NeedsNone (λ db. ⊥) fault
   IsNotOpened _ = ⊥
 
   -- For this no report is given: the register is not opened; or it is, and memory is wanting then, and what is left holds the same book.

@@ -50,7 +50,7 @@ fn make<S: Start>(
     config: &Config,
     start: S,
 ) -> (Result<(), Fault>, Left<S>)
-    ensures fault { IfErr result.0 (IsNotMade (image_at S.Start) result.1) }
+    ensures fault { IfErr result.0 (IsNotMade (image_at S.Start) result.1 config.now) }
     ensures made { OnOk result.0 (IsLeftNew (image_at S.Start) result.1 config.now) }
 {
     make_private(rt, db);

@@ -47,6 +47,11 @@ one_of c P [] db each is = absurd is
 one_of c P (b ∷ books) db each (inl this) = (b, each.0, this)
 one_of c P (b ∷ books) db each (inr other) = one_of c P books db each.1 other
 
+-- of one that may be left it is that one
+pub the_one : (c : Cluster) (b : Book) (db : Trees) → IsForOne c (b ∷ []) db → IsRegisterFor c b (database_of db)
+the_one c b db (inl this) = this
+the_one c b db (inr none) = absurd none
+
 -- what is opened of files that were given up
 pub crash_found : {D Desk Found : Type 0} (g : Ghosts D) (stands : Desk → Standing) (serves : Desk → Type 0) (leaves : Desk → Leaving) (held : Image) (clean : Found → Type 0)
     (finds : Found → Standing) → ((desk : Desk) (c : Cluster) (b : Book) → serves desk → stands desk c b → leaves desk c (b ∷ [])) → CrashIsFound g stands serves leaves held clean finds

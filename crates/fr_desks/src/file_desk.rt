@@ -1,12 +1,12 @@
 //! Registers in files: made, migrated, opened as a desk that the other commands ask, and closed.
-ghost use Rattle.std.specs.Prelude.{List, IfErr, IfOk, IsTrue};
+ghost use Rattle.std.specs.Prelude.{[], ◌∷◌, List, IfErr, IfOk, IsTrue};
 ghost use Rattle.fr_base.specs.Book.{Book, opening};
 ghost use Rattle.fr_base.specs.Cluster.{Cluster};
 ghost use Rattle.fr_desks.specs.FileDesk.{AreGivenUp, FindsHeld, FindsOneOf, FindsRegister, IsLeftWith, LeavesBook};
 ghost use Rattle.fr_office.specs.Crashed.{leaves_of, serves_of};
 ghost use Rattle.fr_store.specs.Opened.{IsMigrated};
 ghost use Rattle.fr_store.specs.Opening.{AllowsCreation};
-ghost use Rattle.fr_store.specs.Refused.{IsRefusedBy, IsUnavailable, NeedsNone, makes, migrates, opens};
+ghost use Rattle.fr_store.specs.Refused.{IsRefusedBy, IsUnavailable, NeedsNone, makes, makes_closed, migrates, opens};
 ghost use Rattle.sqlite.specs.Files.{IsCleanLeft};
 ghost use Rattle.sqlite_store.specs.FileStore.{view};
 ghost use Rattle.sqlite_wal.specs.Files.{image_at};
@@ -30,7 +30,8 @@ pub type Left<S> = Option<Leftover<FileFrom<S>>>;
 pub type FileFault<S> = (StoreFault, Left<S>);
 
 /// Makes the register of this cluster in the file at a path, which has none, and closes it: the files that are
-/// left hold the book of a new register. `start` says what the file held as it was opened. No clause reaches the path.
+/// left hold the book of a new register. Where they fail to close, their store is left: what is opened after a crash is
+/// then the new register. `start` says what the file held as it was opened. No clause reaches the path.
 pub fn create<S: Start>(
     rt: &HostRuntime,
     path: &str,
@@ -42,7 +43,7 @@ pub fn create<S: Start>(
     ensures bare { IfOk result (λ files. AreClean ⟦<FileFrom<S> as Disk>⟧ files.log files.db
         → AllowsCreation (image_at S.Start)) }
     ensures refused { IfErr result (λ e.
-        IsRefusedBy makes IsUnavailable (image_at S.Start) e.0 e.1) }
+        IsRefusedBy (makes_closed config.now) IsUnavailable (image_at S.Start) e.0 e.1) }
 {
     let desk = new_desk(rt, path, config, start)?;
     match close_register(desk) {
@@ -60,6 +61,9 @@ fn new_desk<S: Start>(
 ) -> Result<FileDesk<S>, FileFault<S>>
     ensures stands { let it = ⟦<FileDesk<S> as Desk>⟧ in IfOk result (λ desk. it.clean desk
         → it.stands desk config.now.cluster (opening config.now)) }
+    ensures leaves { IfOk result (λ desk. ⟦<FileDesk<S> as Desk>⟧.clean desk
+        → leaves_of ⟦<Store<FileStore<FileFrom<S>>> as Records>⟧.leaves desk config.now.cluster
+        (opening config.now ∷ [])) }
     ensures bare { let it = ⟦<FileDesk<S> as Desk>⟧ in IfOk result (λ desk. it.clean desk
         → AllowsCreation (image_at S.Start)) }
     ensures refused { IfErr result (λ e.

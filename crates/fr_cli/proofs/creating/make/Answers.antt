@@ -6,4 +6,4 @@ pub returns-in-Ok-clause-made : goal.returns-in-Ok-clause-made
 returns-in-Ok-clause-made g c = (c.in-Ok.files, refl, c.in-Ok.ensures.book, c.in-Ok.ensures.bare)
 
 pub returns-in-Err-clause-fault : goal.returns-in-Err-clause-fault
-returns-in-Err-clause-fault g c = not_made _ _ _ c.in-Err.ensures.refused
+returns-in-Err-clause-fault g c = not_made _ _ _ _ c.in-Err.ensures.refused
