@@ -6,7 +6,7 @@ ghost use Rattle.fr_desks.specs.FileDesk.{AreGivenUp, FindsHeld, FindsOneOf, Fin
 ghost use Rattle.fr_office.specs.Crashed.{leaves_of, serves_of};
 ghost use Rattle.fr_store.specs.Opened.{IsMigrated};
 ghost use Rattle.fr_store.specs.Opening.{AllowsCreation};
-ghost use Rattle.fr_store.specs.Refused.{IsRefusedBy, IsUnavailable, NeedsNone, makes, makes_closed, migrates, opens};
+ghost use Rattle.fr_store.specs.Refused.{IsRefusedBy, IsUnavailable, NeedsNone, makes_closed, migrates, opens};
 ghost use Rattle.sqlite.specs.Files.{IsCleanLeft};
 ghost use Rattle.sqlite_store.specs.FileStore.{view};
 ghost use Rattle.sqlite_wal.specs.Files.{image_at};
@@ -67,7 +67,7 @@ fn new_desk<S: Start>(
     ensures bare { let it = ⟦<FileDesk<S> as Desk>⟧ in IfOk result (λ desk. it.clean desk
         → AllowsCreation (image_at S.Start)) }
     ensures refused { IfErr result (λ e.
-        IsRefusedBy makes IsUnavailable (image_at S.Start) e.0 e.1) }
+        IsRefusedBy (makes_closed config.now) IsUnavailable (image_at S.Start) e.0 e.1) }
 {
     // Gives the proof that the suppliers are in order.
     let _formed = config.params();

@@ -1,7 +1,7 @@
 use Rattle.std.proofs.Common.{[], ◌∷◌}
 use Rattle.sqlite_wal.specs.Files.{image_at}
 use Rattle.fr_base.specs.Book.{opening}
-use Rattle.fr_store.proofs.RefusedLemmas.{not_closed, not_closed_if_not_made}
+use Rattle.fr_store.proofs.RefusedLemmas.{not_closed}
 use Rattle.fr_desks.proofs.FileDeskLemmas.{the_one}
 use Rattle.fr_desks.proofs.file_desk.create.Goals as goal
 

@@ -1,11 +1,13 @@
 use Rattle.std.proofs.Common.{◌∙◌, [], ◌∷◌, subst, sym}
 use Rattle.sqlite.specs.Files.{file_state}
 use Rattle.sqlite.specs.State.{HasCleanDisk}
+use Rattle.sqlite_wal.specs.Files.{image_at}
 use Rattle.fr_base.specs.Book.{opening}
 use Rattle.fr_base.proofs.SuppliersLaws.{file_of-opening}
 use Rattle.fr_office.proofs.CrashedLaws.{kept_alone}
 use Rattle.fr_store.specs.Crashes.{StoredLeaves}
 use Rattle.fr_store.specs.Stored.{StandsStored}
+use Rattle.fr_store.proofs.RefusedLemmas.{not_closed_if_not_made}
 use Rattle.fr_desks.proofs.file_desk.new_desk.Goals as goal
 
 pub returns-in-Ok-clause-leaves : goal.returns-in-Ok-clause-leaves
@@ -33,3 +35,6 @@ returns-in-Ok-clause-stands g c clean =
 
 pub returns-in-Ok-clause-bare : goal.returns-in-Ok-clause-bare
 returns-in-Ok-clause-bare g c clean = (c.in-Ok.ensures.made (subst (λ w. HasCleanDisk (file_state w.records.conn)) c.new.ensures.value clean)).bare
+
+pub returns-in-Err-clause-refused : goal.returns-in-Err-clause-refused
+returns-in-Err-clause-refused g c = not_closed_if_not_made c.args.config.now (image_at g.S.Start) c.in-Err.refused.0 c.in-Err.refused.1 c.in-Err.ensures.refused
