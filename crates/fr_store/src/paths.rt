@@ -45,7 +45,7 @@ impl<S: Start> Store<FileStore<FileFrom<S>>> {
     /// Makes a register of this cluster in the file at a path, or in a new one: all of it, or nothing. The refusal is
     /// NotEmpty only where the file holds one of a register's tables already. `start` says what the file held as it was
     /// opened. A refusal may give back what is left of the files. Files that come back closed hold what they held,
-    /// whatever the fault.
+    /// whatever the fault; and what an open after a crash may find in a store that comes back is what they held.
     ///
     /// No clause reaches the path. Other paths than those of files, `:memory:` and `file:..`, are Unavailable.
     pub fn create_at(
