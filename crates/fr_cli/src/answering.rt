@@ -1,8 +1,8 @@
 //! Answers lines of requests by a desk, one after another.
 ghost use Rattle.std.specs.Prelude.{◌≡◌, IfErr, IfOk};
 ghost use Rattle.fr_base.specs.Actors.{actor_of};
-ghost use Rattle.fr_http.specs.Calls.{AsksDesk};
 ghost use Rattle.fr_http.specs.Connection.{InSound};
+ghost use Rattle.fr_picture.specs.Reports.{AsksDesk};
 ghost use Rattle.fr_cli.specs.Answering.{GivesAnswer, HasWritten, Reads};
 
 use crate::lines::{RequestLines, key_and_text};

@@ -1,9 +1,8 @@
--- Calls: what a call on an input, an output or a register comes to, in a record. That of a register is `fr_picture`'s.
+-- Calls: what a call on an input or an output comes to, in a record.
 use Rattle.std.specs.Prelude.{ℕ, ◌≡◌, List, Option}
 use Rattle.std.specs.declared.io.Read as Read
 use Rattle.std.specs.declared.io.Write as Write
 use Rattle.fr_text.specs.declared.output.Output.{Output}
-pub use Rattle.fr_picture.specs.Reports.{AsksDesk}
 use Rattle.fr_http.specs.declared.input.Input.{Input}
 
 -- A call reads of an input. This is so of the bytes that its reader had left, of those that it has left, and of what the call gives.
