@@ -12,6 +12,7 @@ use Rattle.fr_base.specs.Cluster.{Cluster}
 use Rattle.fr_desks.specs.FileDesk.{Held, IsLeftWith}
 use Rattle.fr_world.specs.Held.{Standing}
 use Rattle.fr_cli.specs.Answering.{AnswersLines, BeginWith, GoOnBehind, WasCutShort}
+use Rattle.fr_cli.specs.Guarding.{script_fault_unwatched}
 use Rattle.fr_cli.specs.Incoming.{AreFirstOf, AreFirstOfAll, AreShort, EndsAsking, EndsLines, HasAnswered, WasAsked, HasHeard, HasLongLine, IsAsked, max_line}
 use Rattle.fr_cli.specs.Performing.{of_script}
 use Rattle.fr_cli.specs.Script.{HasNo, max_script, request_lines}
@@ -21,6 +22,8 @@ use Rattle.fr_cli.specs.declared.input.InputFault.{InputFault}
 use Rattle.fr_cli.specs.declared.input.InputFault.TheVariants.{NoMemory as Wanting, ReadFailed as Unread, TooLong as Lengthy, TooManyReads as Many}
 use Rattle.fr_cli.specs.declared.script_fault.ScriptFault.{ScriptFault}
 use Rattle.fr_cli.specs.declared.script_fault.ScriptFault.TheVariants.{NoMemory, ReadFailed, TooLong, TooManyReads, Unavailable, WriteFailed}
+use Rattle.fr_cli.specs.declared.watch.WatchFault.{WatchFault}
+use Rattle.fr_cli.specs.declared.watch.WatchFault.TheVariants as watch
 use Rattle.fr_cli.proofs.AnsweringLaws.{cut_after, cut_as, cut_here, cut_moved, lines_moved, lines_stay, lines_then, no_lines}
 use Rattle.fr_cli.proofs.EndedLines.{requests-append}
 use Rattle.fr_cli.proofs.LineLemmas.{request_lines-none}
@@ -205,10 +208,10 @@ of_line-read fault (inr (inr (inl failed))) (inr e) = absurd cc
 of_line-read fault (inr (inr (inr ended))) (inl e) = absurd cc
 of_line-read fault (inr (inr (inr ended))) (inr e) = absurd cc
 
--- without memory and where the register has come to an end nothing more is asked
-ends_none : (fault : ScriptFault) → (fault ≡ NoMemory) ⊎ (fault ≡ Unavailable) → EndsAsking fault
-ends_none fault (inl none) = inl none
-ends_none fault (inr ended) = inr (inr ended)
+-- where the register's files are not watched nothing is asked
+ends_unwatched : (why : WatchFault) (fault : ScriptFault) → fault ≡ script_fault_unwatched why → EndsAsking fault
+ends_unwatched watch.NoMemory fault is = inl is
+ends_unwatched watch.Unavailable fault is = inr (inr is)
 
 -- what ends the asking is not that a line is too long
 pub not_long : (fault : ScriptFault) → EndsAsking fault → fault ≡ TooLong → ⊥
@@ -233,17 +236,17 @@ cut_within clean first old mid new input left a m b front bytes written fault fa
       faults = of_line fault of;
     }
 
--- Nothing was asked, and nothing was read.
-pub asked_none : (clean : Type 0) (old : Standing) (input a : Option (List ℕ)) (fault : ScriptFault) → (fault ≡ NoMemory) ⊎ (fault ≡ Unavailable)
+-- Nothing was asked, and nothing was read: the register's files are not watched.
+pub asked_none : (clean : Type 0) (old : Standing) (input a : Option (List ℕ)) (why : WatchFault) (fault : ScriptFault) → fault ≡ script_fault_unwatched why
     → HasAnswered clean old old input input a a (Err fault)
-asked_none clean old input a fault of =
+asked_none clean old input a why fault is =
     let first : IfSome input (AreFirstOf []) = on_input (AreFirstOf []) input input [] (Consumes-nil input) (λ more. (request_lines more, refl)) in
     record {
       all = tt;
       early = cut_here clean clean old old (λ lines. IfSome input (AreFirstOf lines)) (λ lines. IfSome input (AreFirstOf lines)) a a fault [] [] (λ is. is) (no_lines clean old) (Appends-nil a) first first;
-      unread = λ e. absurd (of_line-read fault (inr (ends_none fault of)) e);
-      too_long = λ e. absurd (not_long fault (ends_none fault of) cc);
-      faults = of_line fault (inr (ends_none fault of));
+      unread = λ e. absurd (of_line-read fault (inr (ends_unwatched why fault is)) e);
+      too_long = λ e. absurd (not_long fault (ends_unwatched why fault is) cc);
+      faults = of_line fault (inr (ends_unwatched why fault is));
     }
 
 -- The input has ended, and what was begun are its last lines.

@@ -1,5 +1,5 @@
 -- Connections are served, and then one more; what is told of their ends; and what that is for the file of the register.
-use Rattle.std.proofs.Common.{◌≡◌, ◌⊎◌, ◌≤◌, length, inl, inr, ℕ, List, [], ◌∷◌, ◌++◌, Option, Some, None, Result, Ok, Err, refl, sym, ap, ap₂, ◌∙◌, subst, arith}
+use Rattle.std.proofs.Common.{◌≡◌, ◌≤◌, length, inl, inr, ℕ, List, [], ◌∷◌, ◌++◌, Option, Some, None, Result, Ok, Err, refl, sym, ap, ap₂, ◌∙◌, subst, arith}
 use Rattle.std.specs.Prelude.{⊤}
 use Rattle.std.specs.Io.KnownBytes.{Appends, Keeps}
 use Rattle.std.proofs.KnownBytes.{Keeps-trans, Keeps-refl}
@@ -15,12 +15,14 @@ use Rattle.fr_http.specs.declared.fault.LinkFault.{LinkFault}
 use Rattle.fr_http.specs.declared.serve.Served.{Served}
 use Rattle.fr_http.proofs.ExchangeLaws.{exchanges-sound}
 use Rattle.fr_world.specs.Held.{Standing}
+use Rattle.fr_cli.specs.Guarding.{fault_unwatched}
 use Rattle.fr_cli.specs.Performing.{listening}
 use Rattle.fr_cli.specs.Serving.{HasServed, IsServed, ServesAll, ServesOne, StopsServing, TellsEach, TellsEnd}
 use Rattle.fr_cli.specs.Visits.{Visit, visit_of}
 use Rattle.fr_cli.specs.declared.fault.Fault.{Fault}
-use Rattle.fr_cli.specs.declared.fault.Fault.TheVariants.{CannotListen, NoMemory, Register}
-use Rattle.fr_store.specs.declared.fault.StoreFault.TheVariants.{Unavailable}
+use Rattle.fr_cli.specs.declared.fault.Fault.TheVariants.{CannotListen}
+use Rattle.fr_cli.specs.declared.watch.WatchFault.{WatchFault}
+use Rattle.fr_cli.specs.declared.watch.WatchFault.TheVariants as watch
 use Rattle.fr_cli.proofs.AskingLaws.{err_follows}
 use Rattle.fr_cli.proofs.OpenedLaws.{IsOver}
 
@@ -107,9 +109,9 @@ served_early clean s count said deaf CameIn a done fault is stops came = subst (
 })
 
 -- For this no connection is served: its files are not watched.
-pub stops_unwatched : (deaf : Type 0) (fault : Fault) → (fault ≡ NoMemory) ⊎ (fault ≡ Register Unavailable) → StopsServing deaf [] fault
-stops_unwatched deaf fault (inl lacked) = inr (inr (refl, inl lacked))
-stops_unwatched deaf fault (inr other) = inr (inl other)
+pub stops_unwatched : (deaf : Type 0) (why : WatchFault) (fault : Fault) → fault ≡ fault_unwatched why → StopsServing deaf [] fault
+stops_unwatched deaf watch.NoMemory fault is = inr (inr (refl, inl is))
+stops_unwatched deaf watch.Unavailable fault is = inr (inl is)
 
 -- No more connections could be accepted.
 pub served_until : (clean : Type 0) (old new : Standing) (count : ℕ) (deaf : Type 0) (CameIn : List Visit → Type 0) (a b : Option (List ℕ)) (done : Result ⊤ Fault) (fault : Fault) (visits : List Visit)

@@ -23,6 +23,7 @@ pub mod Faults
 pub mod Endings
 pub mod Performing
 pub mod Incoming
+pub mod Guarding
 pub mod Visits
 pub mod Serving
 pub mod Runs

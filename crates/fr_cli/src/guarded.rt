@@ -2,6 +2,7 @@
 ghost use Rattle.std.specs.Prelude.{◌≡◌, IfErr, IfOk};
 ghost use Rattle.fr_base.specs.Book.{Book};
 ghost use Rattle.fr_base.specs.Cluster.{Cluster};
+ghost use Rattle.fr_cli.specs.Guarding.{office_of};
 
 use crate::lasting::Lasting;
 use crate::watch::{Watch, WatchFault};
@@ -26,7 +27,7 @@ impl<'a, R: Records> Guarded<'a, R> {
         db: &'a str,
         office: Office<R>,
     ) -> Result<Guarded<'a, R>, (WatchFault, Office<R>)>
-        ensures ok { IfOk result (λ guarded. guarded.office ≡ office) }
+        ensures ok { IfOk result (λ guarded. office_of guarded ≡ office) }
         ensures err { IfErr result (λ failed. failed.1 ≡ office) }
     {
         match Watch::new(rt, db) {
@@ -41,7 +42,7 @@ impl<'a, R: Records> Guarded<'a, R> {
 
     /// The office.
     pub fn into_office(self) -> Office<R>
-        ensures { result ≡ self.entry.office }
+        ensures { result ≡ office_of self.entry }
     {
         let Guarded {
             office,
@@ -64,9 +65,9 @@ impl<'a, R: Records> Guarded<'a, R> {
 }
 
 impl<R: Records> Desk for Guarded<'_, R> {
-    ghost stands = { λ guarded. ⟦<Office<R> as Desk>⟧.stands guarded.office };
+    ghost stands = { λ guarded. ⟦<Office<R> as Desk>⟧.stands (office_of guarded) };
 
-    ghost clean = { λ guarded. ⟦<Office<R> as Desk>⟧.clean guarded.office };
+    ghost clean = { λ guarded. ⟦<Office<R> as Desk>⟧.clean (office_of guarded) };
 
     fn actor_of(&self, key: &str) -> Option<Actor> {
         self.office.actor_of(key)

@@ -1,5 +1,5 @@
 //! The files at an open register's path: whether they are still those that were there.
-ghost use Rattle.std.specs.Prelude.{◌≡◌, ◌⊎◌};
+ghost use Rattle.std.specs.Prelude.{◌≡◌};
 
 use crate::fault::Fault;
 use crate::script_fault::ScriptFault;
@@ -28,9 +28,10 @@ pub(crate) enum WatchFault {
 }
 
 impl From<io::Error> for WatchFault {
-    ghost use Rattle.std.specs.Prelude.{⊤};
+    ghost use Rattle.std.specs.IoError.{error_kind};
+    ghost use Rattle.fr_cli.specs.Guarding.{watch_fault_of};
 
-    ghost from_gives = { λ _ _. ⊤ };
+    ghost from_gives = { λ error fault. fault ≡ watch_fault_of (error_kind error) };
 
     fn from(error: io::Error) -> Self {
         match error.kind() {
@@ -41,10 +42,9 @@ impl From<io::Error> for WatchFault {
 }
 
 impl From<WatchFault> for Fault {
-    ghost use Rattle.fr_cli.specs.declared.fault.Fault.TheVariants.{NoMemory, Register};
-    ghost use Rattle.fr_store.specs.declared.fault.StoreFault.TheVariants.{Unavailable};
+    ghost use Rattle.fr_cli.specs.Guarding.{fault_unwatched};
 
-    ghost from_gives = { λ _ fault. (fault ≡ NoMemory) ⊎ (fault ≡ Register Unavailable) };
+    ghost from_gives = { λ watch fault. fault ≡ fault_unwatched watch };
 
     fn from(fault: WatchFault) -> Self {
         match fault {
@@ -55,9 +55,9 @@ impl From<WatchFault> for Fault {
 }
 
 impl From<WatchFault> for ScriptFault {
-    ghost use Rattle.fr_cli.specs.declared.script_fault.ScriptFault.TheVariants.{NoMemory, Unavailable};
+    ghost use Rattle.fr_cli.specs.Guarding.{script_fault_unwatched};
 
-    ghost from_gives = { λ _ fault. (fault ≡ NoMemory) ⊎ (fault ≡ Unavailable) };
+    ghost from_gives = { λ watch fault. fault ≡ script_fault_unwatched watch };
 
     fn from(fault: WatchFault) -> Self {
         match fault {
