@@ -78,7 +78,7 @@ module _ {D : Type 0} {g : Ghosts D} where
   -- what was asked of a register over a file was asked of the file
   asks_file : (held : Image) (rest : Option (Leftover D g)) (left : Leftover D g) (clean : Type 0) (old new : Standing)
       (asks : Cluster → Book → Result Ask Refusal) (answer : Answer) → rest ≡ Some left → IsOver held left clean old new
-      → IsAnswer clean old new asks answer → IsAnswerOfFile held rest asks answer
+      → IsAnswer asks clean old new answer → IsAnswerOfFile held rest asks answer
   asks_file held rest left clean old new asks answer is_left over is = (
     left,
     (is_left, over.opened),
@@ -111,17 +111,17 @@ module _ {D : Type 0} {g : Ghosts D} where
   -- so what is printed of its answer is said of the file
   pub says_of_file : (May : Fault → Type 0) (done : Result (Vec ℕ) Failure) (held : Image) (rest : Option (Leftover D g)) (left : Leftover D g) (clean : Type 0)
       (old new : Standing) (asks : Cluster → Book → Result Ask Refusal) → rest ≡ Some left → IsOver held left clean old new → May NoMemory
-      → Prints (IsAnswer clean old new asks) done → Says May (IsAnswerOfFile held rest asks) done
+      → Prints (IsAnswer asks clean old new) done → Says May (IsAnswerOfFile held rest asks) done
   says_of_file May done held rest left clean old new asks is_left over may p =
-      prints_says May (IsAnswerOfFile held rest asks) (IsAnswer clean old new asks) done
+      prints_says May (IsAnswerOfFile held rest asks) (IsAnswer asks clean old new) done
       (λ answer is. asks_file held rest left clean old new asks answer is_left over is) may p
 
   -- so what is printed for a reader
   pub read_of_file : (May : Fault → Type 0) (done : Result (Vec ℕ) Failure) (held : Image) (rest : Option (Leftover D g)) (left : Leftover D g) (clean : Type 0)
       (old new : Standing) (asks : Cluster → Book → Result Ask Refusal) → rest ≡ Some left → IsOver held left clean old new → May NoMemory
-      → Prints (IsForReader (IsAnswer clean old new asks)) done → Says May (IsForReader (IsAnswerOfFile held rest asks)) done
+      → Prints (IsForReader (IsAnswer asks clean old new)) done → Says May (IsForReader (IsAnswerOfFile held rest asks)) done
   read_of_file May done held rest left clean old new asks is_left over may p =
-      prints_says May (IsForReader (IsAnswerOfFile held rest asks)) (IsForReader (IsAnswer clean old new asks)) done
+      prints_says May (IsForReader (IsAnswerOfFile held rest asks)) (IsForReader (IsAnswer asks clean old new)) done
       (λ answer is. (is.0, asks_file held rest left clean old new asks is.0 is_left over is.1, is.2)) may p
 
   -- what is said of the answer to who has the key is said of the key that is given
@@ -136,9 +136,9 @@ module _ {D : Type 0} {g : Ghosts D} where
 
 -- the same was asked by the same
 pub asks_same : (clean : Type 0) (old new : Standing) (by who : Option Actor) (request asks : Request) (answer : Answer) → by ≡ who → request ≡ asks
-    → IsAnswer clean old new (λ c b. asked_by by request) answer → IsAnswer clean old new (λ c b. asked_by who asks) answer
+    → IsAnswer (λ c b. asked_by by request) clean old new answer → IsAnswer (λ c b. asked_by who asks) clean old new answer
 asks_same clean old new by who request asks answer e f is =
-    subst (λ r. IsAnswer clean old new (λ c b. asked_by who r) answer) f (subst (λ w. IsAnswer clean old new (λ c b. asked_by w request) answer) e is)
+    subst (λ r. IsAnswer (λ c b. asked_by who r) clean old new answer) f (subst (λ w. IsAnswer (λ c b. asked_by w request) clean old new answer) e is)
 
 -- ---- the book after what was asked
 
@@ -149,13 +149,13 @@ replied_stays c b (Some actor) query answer last (inl lacked) = lacked.2
 replied_stays c b (Some actor) query answer last (inr did) = did.1 ∙ query_leaves query c b actor
 
 -- a query leaves the book
-pub query_stays : (clean : Type 0) (old new : Standing) (query : Inquiry) (answer : Answer) → IsAnswer clean old new (query_of query) answer → Stays clean old new
+pub query_stays : (clean : Type 0) (old new : Standing) (query : Inquiry) (answer : Answer) → IsAnswer (query_of query) clean old new answer → Stays clean old new
 query_stays clean old new query answer asked = λ is c b stands sound.
     let (last, replied, after) = asked is c b stands sound in
     subst (λ (d : Book). new c d) (replied_stays c b (reader_of query) (query_with (λ name. name.now) (λ number. number) query.query) answer last replied) after
 
 -- what was asked leads to the book after it
-pub leads_on : (clean : Type 0) (old new : Standing) (asks : Cluster → Book → Result Ask Refusal) (answer : Answer) → IsAnswer clean old new asks answer → Leads clean old new asks
+pub leads_on : (clean : Type 0) (old new : Standing) (asks : Cluster → Book → Result Ask Refusal) (answer : Answer) → IsAnswer asks clean old new answer → Leads clean old new asks
 leads_on clean old new asks answer asked = λ is c b stands sound.
     let (last, replied, after) = asked is c b stands sound in (last, inr (answer, replied), after)
 

@@ -13,7 +13,7 @@ use Rattle.fr_cli.specs.Reading.{IsRead}
 
 -- what somebody read
 pub plan_somebody : (clean : Type 0) (old new : Standing) (reader : Option Actor) (who : Actor) (variant : List ℕ) (r : Result Plan Refusal) → reader ≡ Some who
-    → (clean → Reads old new r (λ c b plan. IsPlan c b who variant plan) (λ c b e. MayRefusePlan c b who variant e)) → IsRead clean old new (plans_for reader variant) r
+    → (clean → Reads old new r (λ c b plan. IsPlan c b who variant plan) (λ c b e. MayRefusePlan c b who variant e)) → IsRead (plans_for reader variant) clean old new r
 plan_somebody clean old new reader who variant (Ok plan) is reads = λ now c b stood sound.
     let read = reads now c b stood sound in
     (read.0, subst (λ reader. plans_for reader variant c b (Ok plan)) (sym is) read.1)
@@ -22,5 +22,5 @@ plan_somebody clean old new reader who variant (Err e) is reads = λ now c b sto
     (read.0, subst (λ reader. plans_for reader variant c b (Err e)) (sym is) read.1)
 
 -- nobody is refused
-pub plan_nobody : (clean : Type 0) (old : Standing) (reader : Option Actor) (variant : List ℕ) → reader ≡ None → IsRead clean old old (plans_for reader variant) (Err UnknownKey)
+pub plan_nobody : (clean : Type 0) (old : Standing) (reader : Option Actor) (variant : List ℕ) → reader ≡ None → IsRead (plans_for reader variant) clean old old (Err UnknownKey)
 plan_nobody clean old reader variant is = λ now c b stood sound. (stood, subst (λ reader. plans_for reader variant c b (Err UnknownKey)) (sym is) refl)

@@ -19,13 +19,13 @@ use Rattle.fr_cli.specs.declared.fault.Fault.TheVariants.{NoMemory}
 
 module _ {X : Type 0} where
   -- the book that is read stays
-  pub reads_stay : (clean : Type 0) (old new : Standing) (may : Reading X) (r : Result X Refusal) → IsRead clean old new may r → Stays clean old new
+  pub reads_stay : (clean : Type 0) (old new : Standing) (may : Reading X) (r : Result X Refusal) → IsRead may clean old new r → Stays clean old new
   reads_stay clean old new may r read = λ is c b stands sound. (read is c b stands sound).0
 
   -- what one reader is told is told to another that is the same
   pub read_same : (clean : Type 0) (old new : Standing) (may : Option Actor → Reading X) (reader wanted : Option Actor) (r : Result X Refusal) → reader ≡ wanted
-      → IsRead clean old new (may reader) r → IsRead clean old new (may wanted) r
-  read_same clean old new may reader wanted r is read = subst (λ who. IsRead clean old new (may who) r) is read
+      → IsRead (may reader) clean old new r → IsRead (may wanted) clean old new r
+  read_same clean old new may reader wanted r is read = subst (λ who. IsRead (may who) clean old new r) is read
 
   -- the line of a refusal, or no memory for it
   pub refused_reading : (Is : Result X Refusal → Type 0) (IsText : X → List ℕ → Type 0) (refusal : Refusal) (f : Failure) → Is (Err refusal)
@@ -45,7 +45,7 @@ module _ {X : Type 0} where
   module _ {D : Type 0} {g : Ghosts D} where
     -- what was read of a register over a file was read of the file
     reads_file : (held : Image) (rest : Option (Leftover D g)) (left : Leftover D g) (clean : Type 0) (old new : Standing) (may : Reading X) (r : Result X Refusal)
-        → rest ≡ Some left → IsOver held left clean old new → IsRead clean old new may r → IsReadOfFile held rest may r
+        → rest ≡ Some left → IsOver held left clean old new → IsRead may clean old new r → IsReadOfFile held rest may r
     reads_file held rest left clean old new may r is_left over is = (
       left,
       (is_left, over.opened),
@@ -58,7 +58,7 @@ module _ {X : Type 0} where
     -- so what is printed of it is said of the file
     pub reading_of_file : (May : Fault → Type 0) (IsText : X → List ℕ → Type 0) (done : Result (Vec ℕ) Failure) (held : Image) (rest : Option (Leftover D g)) (left : Leftover D g)
         (clean : Type 0) (old new : Standing) (may : Reading X) → rest ≡ Some left → IsOver held left clean old new → May NoMemory
-        → PrintsRead (λ fault. fault ≡ NoMemory) (IsRead clean old new may) IsText done → PrintsRead May (IsReadOfFile held rest may) IsText done
+        → PrintsRead (λ fault. fault ≡ NoMemory) (IsRead may clean old new) IsText done → PrintsRead May (IsReadOfFile held rest may) IsText done
     reading_of_file May IsText done held rest left clean old new may is_left over lacks p =
-        reading_says May (IsReadOfFile held rest may) (IsRead clean old new may) IsText done
+        reading_says May (IsReadOfFile held rest may) (IsRead may clean old new) IsText done
         (λ r is. reads_file held rest left clean old new may r is_left over is) lacks p

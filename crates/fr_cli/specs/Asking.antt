@@ -42,8 +42,8 @@ IsForReader Is answer = (given : Answer) × Is given × (answer ≡ for_reader g
 
 -- In each sound book for which the register stood this was asked, and may be answered so; and the register stands for the book
 -- after it.
-abbrev pub IsAnswer : Type 0 → Standing → Standing → (Cluster → Book → Result Ask Refusal) → Answer → Type 0
-IsAnswer clean old new asks answer = clean → InSound old (λ c b. (last : Book) × Replied c b (asks c b) answer last × new c last)
+abbrev pub IsAnswer : (Cluster → Book → Result Ask Refusal) → Type 0 → Standing → Standing → Answer → Type 0
+IsAnswer asks clean old new answer = clean → InSound old (λ c b. (last : Book) × Replied c b (asks c b) answer last × new c last)
 
 -- The register stands for the same book, or for the one after this was asked.
 abbrev pub Leads : Type 0 → Standing → Standing → (Cluster → Book → Result Ask Refusal) → Type 0

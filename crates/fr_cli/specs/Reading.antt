@@ -19,8 +19,8 @@ abbrev pub Reading : Type 0 → Type 1
 Reading X = Cluster → Book → Result X Refusal → Type 0
 
 -- In each sound book for which the register stood this may be read, and the register stands for the same book as before.
-abbrev pub IsRead : {X : Type 0} → Type 0 → Standing → Standing → Reading X → Result X Refusal → Type 0
-IsRead clean old new may read = clean → InSound old (λ c b. new c b × may c b read)
+abbrev pub IsRead : {X : Type 0} → Reading X → Type 0 → Standing → Standing → Result X Refusal → Type 0
+IsRead may clean old new read = clean → InSound old (λ c b. new c b × may c b read)
 
 -- The register stands for the same book as before.
 abbrev pub Stays : Type 0 → Standing → Standing → Type 0

@@ -31,7 +31,7 @@ module _ {D : Type 0} {g : Ghosts D} where
   -- and what is left holds the book after it.
   abbrev pub IsAnswerOfFile : Image → Option (Leftover D g) → (Cluster → Book → Result Ask Refusal) → Answer → Type 0
   IsAnswerOfFile held rest asks answer =
-      (last : Leftover D g) × IsLeftOf held rest last × IsAnswer (IsCleanLeft last) (Held held) (IsLeftWith last) asks answer
+      (last : Leftover D g) × IsLeftOf held rest last × IsAnswer asks (IsCleanLeft last) (Held held) (IsLeftWith last) answer
 
   -- So it is with what whoever has the key asks that is given.
   abbrev pub IsAnswerToGiven : Image → Option (Leftover D g) → List ℕ → Request → Option (List ℕ) → Option (List ℕ) → Answer → Type 0
@@ -45,7 +45,7 @@ module _ {D : Type 0} {g : Ghosts D} where
 
   -- So it is with what is read of the book; and what is left holds the same book.
   abbrev pub IsReadOfFile : {X : Type 0} → Image → Option (Leftover D g) → Reading X → Result X Refusal → Type 0
-  IsReadOfFile held rest may read = (last : Leftover D g) × IsLeftOf held rest last × IsRead (IsCleanLeft last) (Held held) (IsLeftWith last) may read
+  IsReadOfFile held rest may read = (last : Leftover D g) × IsLeftOf held rest last × IsRead may (IsCleanLeft last) (Held held) (IsLeftWith last) read
 
   -- The file was opened and closed. As long as nobody else wrote to it, it held a register, and what is left holds the same book.
   abbrev pub StaysInFile : Image → Option (Leftover D g) → Type 0

@@ -1,5 +1,6 @@
 //! Asks a register for a report, a change or a trial, and gives the text of its answer.
 ghost use Rattle.std.specs.Prelude.{◌≡◌, IfOk};
+ghost use Rattle.fr_picture.specs.Reports.{AsksDesk};
 ghost use Rattle.fr_cli.specs.Asked.{asked_by};
 ghost use Rattle.fr_cli.specs.Reading.{Stays};
 ghost use Rattle.fr_cli.specs.Asking.{IsAnswer, IsForReader, IsRefusedBy, IsToldBy, Leads, Prints, asked_with, for_reader, query_of};
@@ -23,8 +24,8 @@ pub fn report_on<D: Desk>(
 ) -> Result<Vec<u8>, Failure>
     ensures falls { D.clean desk.new → D.clean desk.old }
     ensures prints { Prints (IsForReader
-        (IsAnswer (D.clean desk.new) (D.stands desk.old) (D.stands desk.new)
-        (query_of query.entry))) result }
+        (IsAnswer (query_of query.entry) (D.clean desk.new) (D.stands desk.old)
+        (D.stands desk.new))) result }
     ensures stays { Stays (D.clean desk.new) (D.stands desk.old) (D.stands desk.new) }
 {
     let request = query.request(alloc)?;
@@ -40,8 +41,8 @@ pub fn change<D: Desk>(
     request: Request,
 ) -> Result<Vec<u8>, Failure>
     ensures falls { D.clean desk.new → D.clean desk.old }
-    ensures prints { Prints (IsAnswer (D.clean desk.new) (D.stands desk.old) (D.stands desk.new)
-        (asked_with key.now request)) result }
+    ensures prints { Prints (IsAnswer (asked_with key.now request) (D.clean desk.new)
+        (D.stands desk.old) (D.stands desk.new)) result }
     ensures leads { Leads (D.clean desk.new) (D.stands desk.old) (D.stands desk.new)
         (asked_with key.now request) }
 {
@@ -51,9 +52,7 @@ pub fn change<D: Desk>(
 
 // Asks as whoever has the key.
 fn ask_by<D: Desk>(alloc: Global, desk: &mut D, key: &[u8], request: Request) -> Answer
-    ensures falls { D.clean desk.new → D.clean desk.old }
-    ensures answers { IsAnswer (D.clean desk.new) (D.stands desk.old) (D.stands desk.new)
-        (asked_with key.now request) result }
+    ensures { AsksDesk D.Desk (IsAnswer (asked_with key.now request)) desk.old desk.new result }
 {
     let actor = actor_of(desk, key);
     ask_as(alloc, desk, actor, request)
@@ -61,9 +60,7 @@ fn ask_by<D: Desk>(alloc: Global, desk: &mut D, key: &[u8], request: Request) ->
 
 // Asks as this actor. Where there is none, the answer is `UnknownKey`.
 fn ask_as<D: Desk>(alloc: Global, desk: &mut D, actor: Option<Actor>, request: Request) -> Answer
-    ensures falls { D.clean desk.new → D.clean desk.old }
-    ensures answers { IsAnswer (D.clean desk.new) (D.stands desk.old) (D.stands desk.new)
-        (λ c b. asked_by actor request) result }
+    ensures { AsksDesk D.Desk (IsAnswer (λ c b. asked_by actor request)) desk.old desk.new result }
 {
     match actor {
         Some(actor) => desk.ask(alloc, &Ask { actor, request }),

@@ -1,6 +1,7 @@
 //! Draws the plan of a variant.
 ghost use Rattle.std.specs.Prelude.{◌≡◌};
 ghost use Rattle.fr_picture.specs.Pages.{IsPage};
+ghost use Rattle.fr_picture.specs.Reports.{AsksDesk};
 ghost use Rattle.fr_cli.specs.Picturing.{plans_for};
 ghost use Rattle.fr_cli.specs.Queries.{reader_named};
 ghost use Rattle.fr_cli.specs.Reading.{IsRead, PrintsRead, Stays};
@@ -22,8 +23,8 @@ pub fn picture<D: Desk>(
 ) -> Result<Vec<u8>, Failure>
     ensures falls { D.clean desk.new → D.clean desk.old }
     ensures prints { PrintsRead (λ fault. fault ≡ Lacking)
-        (IsRead (D.clean desk.new) (D.stands desk.old) (D.stands desk.new)
-        (plans_for (reader_named supplier.entry) variant.now)) IsPage result }
+        (IsRead (plans_for (reader_named supplier.entry) variant.now)
+        (D.clean desk.new) (D.stands desk.old) (D.stands desk.new)) IsPage result }
     ensures stays { Stays (D.clean desk.new) (D.stands desk.old) (D.stands desk.new) }
 {
     match plan_for(alloc, desk, variant, reader_named(supplier)) {
@@ -39,9 +40,7 @@ fn plan_for<D: Desk>(
     variant: &str,
     reader: Option<Actor>,
 ) -> Result<Plan, Refusal>
-    ensures falls { D.clean desk.new → D.clean desk.old }
-    ensures drawn { IsRead (D.clean desk.new) (D.stands desk.old) (D.stands desk.new)
-        (plans_for reader variant.now) result }
+    ensures { AsksDesk D.Desk (IsRead (plans_for reader variant.now)) desk.old desk.new result }
 {
     match reader {
         Some(reader) => read_plan(alloc, desk, &View { reader, variant }),

@@ -9,22 +9,22 @@ use Rattle.fr_cli.proofs.picturing.picture.Goals as goal
 pub returns-in_ok-write_page-in-Ok-clause-prints : goal.returns-in_ok-write_page-in-Ok-clause-prints
 returns-in_ok-write_page-in-Ok-clause-prints g c =
     let told = read_same (g.D.Desk.clean c.plan_for.new.desk) (g.D.Desk.stands c.args.desk.now) (g.D.Desk.stands c.plan_for.new.desk)
-    (λ who. plans_for who c.args.variant.now) c.reader_named.result (reader_named c.args.supplier) (Ok c.in-Ok.plan) c.reader_named.ensures c.in-Ok.ensures.drawn in
+    (λ who. plans_for who c.args.variant.now) c.reader_named.result (reader_named c.args.supplier) (Ok c.in-Ok.plan) c.reader_named.ensures c.in-Ok.ensures.does in
     (c.in-Ok.plan, told, search rules)
 
 pub returns-in-Err-clause-prints : goal.returns-in-Err-clause-prints
 returns-in-Err-clause-prints g c =
     let told = read_same (g.D.Desk.clean c.plan_for.new.desk) (g.D.Desk.stands c.args.desk.now) (g.D.Desk.stands c.plan_for.new.desk)
-    (λ who. plans_for who c.args.variant.now) c.reader_named.result (reader_named c.args.supplier) (Err c.in-Err.refusal) c.reader_named.ensures c.in-Err.ensures.drawn in
+    (λ who. plans_for who c.args.variant.now) c.reader_named.result (reader_named c.args.supplier) (Err c.in-Err.refusal) c.reader_named.ensures c.in-Err.ensures.does in
     refused_reading
-    (IsRead (g.D.Desk.clean c.plan_for.new.desk) (g.D.Desk.stands c.args.desk.now) (g.D.Desk.stands c.plan_for.new.desk) (plans_for (reader_named c.args.supplier) c.args.variant.now))
+    (IsRead (plans_for (reader_named c.args.supplier) c.args.variant.now) (g.D.Desk.clean c.plan_for.new.desk) (g.D.Desk.stands c.args.desk.now) (g.D.Desk.stands c.plan_for.new.desk))
     IsPage c.in-Err.refusal c.refused_reader.result told c.refused_reader.ensures
 
 pub returns-in_err-write_page-in-Ok-clause-stays : goal.returns-in_err-write_page-in-Ok-clause-stays
-returns-in_err-write_page-in-Ok-clause-stays g c = reads_stay _ _ _ (plans_for c.reader_named.result c.args.variant.now) (Ok c.in-Ok.plan) c.in-Ok.ensures.drawn
+returns-in_err-write_page-in-Ok-clause-stays g c = reads_stay _ _ _ (plans_for c.reader_named.result c.args.variant.now) (Ok c.in-Ok.plan) c.in-Ok.ensures.does
 
 pub returns-in_ok-write_page-in-Ok-clause-stays : goal.returns-in_ok-write_page-in-Ok-clause-stays
-returns-in_ok-write_page-in-Ok-clause-stays g c = reads_stay _ _ _ (plans_for c.reader_named.result c.args.variant.now) (Ok c.in-Ok.plan) c.in-Ok.ensures.drawn
+returns-in_ok-write_page-in-Ok-clause-stays g c = reads_stay _ _ _ (plans_for c.reader_named.result c.args.variant.now) (Ok c.in-Ok.plan) c.in-Ok.ensures.does
 
 pub returns-in-Err-clause-stays : goal.returns-in-Err-clause-stays
-returns-in-Err-clause-stays g c = reads_stay _ _ _ (plans_for c.reader_named.result c.args.variant.now) (Err c.in-Err.refusal) c.in-Err.ensures.drawn
+returns-in-Err-clause-stays g c = reads_stay _ _ _ (plans_for c.reader_named.result c.args.variant.now) (Err c.in-Err.refusal) c.in-Err.ensures.does
