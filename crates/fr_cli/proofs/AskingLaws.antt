@@ -1,6 +1,6 @@
 -- What is printed of an answer, and what of the register follows of it.
 use Rattle.std.proofs.Common.{◌≡◌, ◌∙◌, List, None, ℕ, Ok, Err, OnOk, Option, Some, Result, inl, inr, refl, subst, sym}
-use Rattle.std.specs.Prelude.{IfErr, ⊤}
+use Rattle.std.specs.Prelude.{◌⊎◌, IfErr, ⊤}
 use Rattle.fr_base.specs.Book.{Book}
 use Rattle.fr_base.specs.Cluster.{Cluster}
 use Rattle.fr_base.specs.declared.actor.Actor.{Actor}
@@ -19,7 +19,7 @@ use Rattle.sqlite_wal.specs.Recovery.{Image}
 use Rattle.fr_cli.specs.Asked.{asked_by}
 use Rattle.fr_cli.specs.Asking.{IsAnswer, IsForReader, IsRefusedBy, IsToldBy, Leads, Prints, asked_with, query_of}
 use Rattle.fr_cli.specs.Outcomes.{outcome_of}
-use Rattle.fr_cli.specs.Faults.{IsNotAnswered, IsNotGiven}
+use Rattle.fr_cli.specs.Faults.{IsNotReported, IsNotSent}
 use Rattle.fr_cli.specs.Keys.{IsKeyGiven}
 use Rattle.fr_cli.specs.Performing.{Says}
 use Rattle.fr_cli.specs.Queries.{reader_of}
@@ -27,7 +27,12 @@ use Rattle.fr_cli.specs.Reading.{Stays}
 use Rattle.fr_cli.specs.ScriptRun.{Replied}
 use Rattle.fr_cli.specs.declared.query.Inquiry.{Inquiry}
 use Rattle.fr_cli.specs.RegisterFiles.{IsAnswerOfFile, IsAnswerToGiven, LeadsInFile, StaysInFile}
-use Rattle.fr_cli.proofs.OpenedLaws.{IsOver}
+use Rattle.fr_cli.proofs.ErrandLaws.{done_over, leads_over}
+use Rattle.fr_cli.specs.Deliveries.{request_with}
+use Rattle.fr_cli.specs.Errands.{IsDoneOver, IsOver, tells}
+use Rattle.fr_cli.specs.declared.delivery.Delivery.{Delivery}
+use Rattle.fr_cli.specs.declared.telling.Telling.TheVariants as telling
+use Rattle.std.specs.Borrow.{Bor}
 use Rattle.fr_cli.specs.declared.fault.Fault.{Fault}
 use Rattle.fr_cli.specs.declared.fault.Fault.TheVariants.{NoMemory}
 use Rattle.std.specs.Global.{Vec}
@@ -74,65 +79,38 @@ says_more May Might Was Is (Err (failure.RefusedRows text)) might follows (answe
 says_more May Might Was Is (Err (failure.Refused line)) might follows (answer, is, kind, said) = (answer, follows answer is, kind, said)
 says_more May Might Was Is (Err (failure.Fault fault)) might follows may = might fault may
 
-module _ {D : Type 0} {g : Ghosts D} where
-  -- what was asked of a register over a file was asked of the file
-  asks_file : (held : Image) (rest : Option (Leftover D g)) (left : Leftover D g) (clean : Type 0) (old new : Standing)
-      (asks : Cluster → Book → Result Ask Refusal) (answer : Answer) → rest ≡ Some left → IsOver held left clean old new
-      → IsAnswer asks clean old new answer → IsAnswerOfFile held rest asks answer
-  asks_file held rest left clean old new asks answer is_left over is = (
-    left,
-    (is_left, over.opened),
-    λ kept c b there sound.
-        let up = over.closes kept in
-        let step = is up c b (over.finds up c b there) sound in
-        (step.0, step.1, over.leaves c step.0 step.2),
-  )
+module _ {D : Type 0} {g : Ghosts D} {held : Image} {rest : Option (Leftover D g)} where
+  module _ {last : Leftover D g} {clean : Type 0} {old new : Standing} (over : IsOver held rest last clean old new) where
+    -- what was asked of a register over a file was asked of the file
+    asks_file : (asks : Cluster → Book → Result Ask Refusal) (answer : Answer) → IsAnswer asks clean old new answer → IsAnswerOfFile held rest asks answer
+    asks_file asks answer is = (last, over.left, leads_over (λ c b last. Replied c b (asks c b) answer last) over is)
 
-  -- so it is with the book that it leads to, or leaves
-  pub leads_file : (held : Image) (rest : Option (Leftover D g)) (left : Leftover D g) (clean : Type 0) (old new : Standing)
-      (asks : Cluster → Book → Result Ask Refusal) → rest ≡ Some left → IsOver held left clean old new → Leads clean old new asks → LeadsInFile held rest asks
-  leads_file held rest left clean old new asks is_left over is = (
-    left,
-    (is_left, over.opened),
-    λ kept c b there sound.
-        let up = over.closes kept in
-        let led = is up c b (over.finds up c b there) sound in
-        (led.0, led.1, over.leaves c led.0 led.2),
-  )
+    -- so it is with the book that it leads to, or leaves
+    leads_file : (asks : Cluster → Book → Result Ask Refusal) → Leads clean old new asks → LeadsInFile held rest asks
+    leads_file asks is = (last, over.left, leads_over (λ c b last. (last ≡ b) ⊎ ((answer : Answer) × Replied c b (asks c b) answer last)) over is)
 
-  pub stays_file : (held : Image) (rest : Option (Leftover D g)) (left : Leftover D g) (clean : Type 0) (old new : Standing)
-      → rest ≡ Some left → IsOver held left clean old new → Stays clean old new → StaysInFile held rest
-  stays_file held rest left clean old new is_left over is = (
-    left,
-    (is_left, over.opened),
-    λ kept c b there sound. let up = over.closes kept in over.leaves c b (is up c b (over.finds up c b there) sound),
-  )
+    pub stays_file : Stays clean old new → StaysInFile held rest
+    stays_file is = (last, over.left, λ kept c b there sound. let up = over.closes kept in over.leaves c b (is up c b (over.finds up c b there) sound))
 
-  -- so what is printed of its answer is said of the file
-  pub says_of_file : (May : Fault → Type 0) (done : Result (Vec ℕ) Failure) (held : Image) (rest : Option (Leftover D g)) (left : Leftover D g) (clean : Type 0)
-      (old new : Standing) (asks : Cluster → Book → Result Ask Refusal) → rest ≡ Some left → IsOver held left clean old new → May NoMemory
-      → Prints (IsAnswer asks clean old new) done → Says May (IsAnswerOfFile held rest asks) done
-  says_of_file May done held rest left clean old new asks is_left over may p =
-      prints_says May (IsAnswerOfFile held rest asks) (IsAnswer asks clean old new) done
-      (λ answer is. asks_file held rest left clean old new asks answer is_left over is) may p
+  module _ {R : Type 0} {is_clean : R → Type 0} {stands : R → Standing} {same : Type 0} {done : Result (Vec ℕ) Failure} where
+    -- so what is printed for a reader is said of the file
+    pub reported_over : (query : Inquiry) → IsDoneOver held rest is_clean stands (λ fault of. of ≡ failure.Fault fault) same (tells (telling.Report query)) done
+        → Says (IsNotReported held rest) (IsForReader (IsAnswerOfFile held rest (query_of query))) done
+    reported_over query is =
+        done_over failure.Fault (Says (IsNotReported held rest) (IsForReader (IsAnswerOfFile held rest (query_of query)))) (tells (telling.Report query)) is (λ fault not kept. inl not)
+        (λ last clean old new over did.
+        prints_says _ _ _ _ (λ answer told. (told.0, asks_file over (query_of query) told.0 told.1, told.2)) (inr (refl, stays_file over did.1)) did.0)
 
-  -- so what is printed for a reader
-  pub read_of_file : (May : Fault → Type 0) (done : Result (Vec ℕ) Failure) (held : Image) (rest : Option (Leftover D g)) (left : Leftover D g) (clean : Type 0)
-      (old new : Standing) (asks : Cluster → Book → Result Ask Refusal) → rest ≡ Some left → IsOver held left clean old new → May NoMemory
-      → Prints (IsForReader (IsAnswer asks clean old new)) done → Says May (IsForReader (IsAnswerOfFile held rest asks)) done
-  read_of_file May done held rest left clean old new asks is_left over may p =
-      prints_says May (IsForReader (IsAnswerOfFile held rest asks)) (IsForReader (IsAnswer asks clean old new)) done
-      (λ answer is. (is.0, asks_file held rest left clean old new asks is.0 is_left over is.1, is.2)) may p
-
-  -- what is said of the answer to who has the key is said of the key that is given
-  pub given_says : (held : Image) (rest : Option (Leftover D g)) (word : List ℕ) (input left : Option (List ℕ)) (key : List ℕ) (request : Request)
-      (done : Result (Vec ℕ) Failure) → IsKeyGiven word input left key
-      → Says (IsNotAnswered held rest (asked_with key request)) (IsAnswerOfFile held rest (asked_with key request)) done
-      → Says (IsNotGiven held rest word request input left) (IsAnswerToGiven held rest word request input left) done
-  given_says held rest word input left key request (Ok text) given (answer, is, kind, said) = (answer, (key, given, is), kind, said)
-  given_says held rest word input left key request (Err (failure.RefusedRows text)) given (answer, is, kind, said) = (answer, (key, given, is), kind, said)
-  given_says held rest word input left key request (Err (failure.Refused line)) given (answer, is, kind, said) = (answer, (key, given, is), kind, said)
-  given_says held rest word input left key request (Err (failure.Fault fault)) given may = inl (key, given, may)
+    -- so what is printed of the answer to a delivery, by who has the key that is given
+    pub given_over : (delivery : Delivery) (input left : Option (List ℕ)) (key body : Bor (List ℕ)) → IsKeyGiven delivery.key.now input left key.now
+        → IsDoneOver held rest is_clean stands (λ fault of. of ≡ failure.Fault fault) same (tells (telling.Answer key delivery body)) done
+        → Says (IsNotSent held rest delivery body.now input left) (IsAnswerToGiven held rest delivery.key.now (request_with delivery body.now) input left) done
+    given_over delivery input left key body given is =
+        let asks = asked_with key.now (request_with delivery body.now) in
+        done_over failure.Fault (Says (IsNotSent held rest delivery body.now input left) (IsAnswerToGiven held rest delivery.key.now (request_with delivery body.now) input left))
+        (tells (telling.Answer key delivery body)) is (λ fault not kept. inr (inl (key.now, given, inl not)))
+        (λ last clean old new over did. prints_says _ _ _ _ (λ answer told. (key.now, given, asks_file over asks answer told))
+        (inr (inl (key.now, given, inr (refl, leads_file over asks did.1)))) did.0)
 
 -- the same was asked by the same
 pub asks_same : (clean : Type 0) (old new : Standing) (by who : Option Actor) (request asks : Request) (answer : Answer) → by ≡ who → request ≡ asks

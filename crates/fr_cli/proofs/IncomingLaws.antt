@@ -1,8 +1,8 @@
 -- Requests that come in piece by piece: which lines of the input they are.
 use Rattle.std.proofs.Common.{◌≡◌, ℕ, ◌+◌, ◌<◌, ◌≤◌, List, [], ◌∷◌, ◌++◌, length, Option, Some, None, IfSome, Result, Ok, Err, refl, sym, ap, ◌∙◌, subst, append_assoc, append-nil, arith, length-append, inl, inr}
 use Rattle.std.specs.Prelude.{◌⊎◌, OnOk, ⊤}
-use Rattle.std.specs.Io.KnownBytes.{Appends, Consumes, IsAtEnd}
-use Rattle.std.proofs.KnownBytes.{Appends-nil, Appends-trans, Consumes-nil}
+use Rattle.std.specs.Io.KnownBytes.{Appends, Consumes, IsAtEnd, Keeps}
+use Rattle.std.proofs.KnownBytes.{Appends-nil, Appends-trans, Consumes-nil, Keeps-refl}
 use Rattle.sqlite.specs.Files.{IsCleanLeft}
 use Rattle.sqlite.specs.declared.file.Leftover.{Leftover}
 use Rattle.sqlite_disk.specs.declared.Disk.{Ghosts}
@@ -27,7 +27,8 @@ use Rattle.fr_cli.specs.declared.watch.WatchFault.TheVariants as watch
 use Rattle.fr_cli.proofs.AnsweringLaws.{cut_after, cut_as, cut_here, cut_moved, lines_moved, lines_stay, lines_then, no_lines}
 use Rattle.fr_cli.proofs.EndedLines.{requests-append}
 use Rattle.fr_cli.proofs.LineLemmas.{request_lines-none}
-use Rattle.fr_cli.proofs.OpenedLaws.{IsOver}
+use Rattle.fr_cli.proofs.ErrandLaws.{done_over}
+use Rattle.fr_cli.specs.Errands.{AnswersInput, IsDoneOver, IsOver}
 
 -- ---- ends of lines
 
@@ -285,55 +286,45 @@ at_end clean first old mid new input left a m b front begun written (Err fault) 
 
 -- ---- over a file
 
-module _ {D : Type 0} {g : Ghosts D} where
+module _ {D : Type 0} {g : Ghosts D} {file : Image} {rest : Option (Leftover D g)} where
   -- What was asked of a register over a file was asked of the file.
-  pub asked_file : (file : Image) (rest : Option (Leftover D g)) (last : Leftover D g) (clean : Type 0) (old new : Standing) (input left a b : Option (List ℕ))
-      (asked : Result ⊤ ScriptFault) (done : Result ⊤ Fault) → rest ≡ Some last → IsOver file last clean old new → done ≡ of_script asked
-      → OnOk asked (IsAtEnd left) → HasAnswered clean old new input left a b asked → IsAsked file rest input left a b done
-  asked_file file rest last clean old new input left a b (Ok x) done is_left over is end has =
+  asked_file : {last : Leftover D g} {clean : Type 0} {old new : Standing} → IsOver file rest last clean old new → {input left a b : Option (List ℕ)} (asked : Result ⊤ ScriptFault)
+      → HasAnswered clean old new input left a b asked → HasAnswered (IsCleanLeft last) (Held file) (IsLeftWith last) input left a b asked
+  asked_file {last} {clean} {old} {new} over {input} {left} {a} {b} (Ok x) has =
       let (lines, written, all, short, appended, answered) = has.all in
-      inr (
-        Ok x,
-        last,
-        (is_left, over.opened),
-        is,
-        end,
-        record {
-          all = (
-            lines,
-            written,
-            all,
-            short,
-            appended,
-            lines_moved (IsCleanLeft last) clean (Held file) old new (IsLeftWith last) lines written over.closes over.finds over.leaves answered,
-          );
-          early = tt;
-          unread = tt;
-          too_long = λ e. absurd cc;
-          faults = tt;
-        },
-      )
-  asked_file file rest last clean old new input left a b (Err fault) done is_left over is end has = inr (
-    Err fault,
-    last,
-    (is_left, over.opened),
-    is,
-    end,
-    record {
-      all = tt;
-      early = cut_moved (IsCleanLeft last) clean (Held file) old new (IsLeftWith last) _ _ a b fault over.closes over.finds over.leaves has.early;
-      unread = λ e.
-          let (front, begun, written, taken, ends, open_ended, appended, answered) = has.unread e in (
-            front,
-            begun,
-            written,
-            taken,
-            ends,
-            open_ended,
-            appended,
-            lines_moved (IsCleanLeft last) clean (Held file) old new (IsLeftWith last) (request_lines front) written over.closes over.finds over.leaves answered,
-          );
-      too_long = has.too_long;
-      faults = has.faults;
-    },
-  )
+      record {
+        all = (lines, written, all, short, appended, lines_moved (IsCleanLeft last) clean (Held file) old new (IsLeftWith last) lines written over.closes over.finds over.leaves answered);
+        early = tt;
+        unread = tt;
+        too_long = λ e. absurd cc;
+        faults = tt;
+      }
+  asked_file {last} {clean} {old} {new} over {input} {left} {a} {b} (Err fault) has = record {
+    all = tt;
+    early = cut_moved (IsCleanLeft last) clean (Held file) old new (IsLeftWith last) _ _ a b fault over.closes over.finds over.leaves has.early;
+    unread = λ e.
+        let (front, begun, written, taken, ends, open_ended, appended, answered) = has.unread e in (
+          front,
+          begun,
+          written,
+          taken,
+          ends,
+          open_ended,
+          appended,
+          lines_moved (IsCleanLeft last) clean (Held file) old new (IsLeftWith last) (request_lines front) written over.closes over.finds over.leaves answered,
+        );
+    too_long = has.too_long;
+    faults = has.faults;
+  }
+
+  -- So it is by an errand.
+  pub asked_over : {R : Type 0} {is_clean : R → Type 0} {stands : R → Standing} {same kept : Type 0} {input left left' a b b' : Option (List ℕ)} {done : Result ⊤ Fault}
+      → left' ≡ left → b' ≡ b → (same → (left ≡ input) × (b ≡ a))
+      → IsDoneOver file rest is_clean stands (λ fault of. of ≡ fault) same (λ clean old new done. AnswersInput input left a b clean old new done × kept) done
+      → IsAsked file rest input left' a b' done
+  asked_over {kept = kept} {input} {left} {left'} {a} {b} {b'} {done} is_left is_b quiet is =
+      subst (λ l. IsAsked file rest input l a b' done) (sym is_left) (subst (λ o. IsAsked file rest input left a o done) (sym is_b)
+      (done_over (λ fault. fault) (IsAsked file rest input left a b) (λ clean old new done. AnswersInput input left a b clean old new done × kept) is
+      (λ fault not same.
+      let (unread, quiet) = quiet same in inl (fault, refl, not, subst (Keeps input) (sym unread) (Keeps-refl input), subst (Keeps a) (sym quiet) (Keeps-refl a)))
+      (λ last clean old new over did. let (asked, is, end, has) = did.0 in inr (asked, last, over.left, is, end, asked_file over asked has))))

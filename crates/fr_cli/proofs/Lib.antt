@@ -1,6 +1,6 @@
 mod LineLemmas
 mod EndedLines
-pub mod OpenedLaws
+pub mod ErrandLaws
 pub mod IncomingLaws
 mod CommandLaws
 mod NumberLaws

@@ -1,5 +1,5 @@
 -- What is printed of what was read of a register, and of one in a file.
-use Rattle.std.proofs.Common.{◌≡◌, List, ℕ, Option, Ok, Err, Some, Result, subst, sym}
+use Rattle.std.proofs.Common.{◌≡◌, List, ℕ, Option, Ok, Err, Result, inl, inr, refl, subst, sym}
 use Rattle.std.specs.Global.{Vec}
 use Rattle.fr_base.specs.declared.actor.Actor.{Actor}
 use Rattle.fr_base.specs.declared.answer.Answer.TheVariants as answer
@@ -11,7 +11,15 @@ use Rattle.sqlite_wal.specs.Recovery.{Image}
 use Rattle.fr_cli.specs.Asking.{IsRefusedBy, for_reader}
 use Rattle.fr_cli.specs.Reading.{IsRead, PrintsRead, Reading, Stays}
 use Rattle.fr_cli.specs.RegisterFiles.{IsReadOfFile}
-use Rattle.fr_cli.proofs.OpenedLaws.{IsOver}
+use Rattle.fr_cli.proofs.AskingLaws.{stays_file}
+use Rattle.fr_cli.proofs.ErrandLaws.{done_over}
+use Rattle.fr_cli.specs.Errands.{IsDoneOver, IsOver, tells}
+use Rattle.fr_cli.specs.Faults.{IsNotReported}
+use Rattle.fr_cli.specs.Picturing.{plans_for}
+use Rattle.fr_cli.specs.Queries.{reader_named}
+use Rattle.fr_cli.specs.declared.telling.Telling.TheVariants as telling
+use Rattle.fr_picture.specs.Pages.{IsPage}
+use Rattle.std.specs.Borrow.{Bor}
 use Rattle.fr_cli.specs.declared.failure.Failure.{Failure}
 use Rattle.fr_cli.specs.declared.failure.Failure.TheVariants as failure
 use Rattle.fr_cli.specs.declared.fault.Fault.{Fault}
@@ -42,23 +50,22 @@ module _ {X : Type 0} where
   reading_says May Is Was IsText (Err (failure.Refused line)) follows may p = (p.0, follows (Err p.0) p.1, p.2)
   reading_says May Is Was IsText (Err (failure.Fault fault)) follows may p = subst May (sym p) may
 
-  module _ {D : Type 0} {g : Ghosts D} where
-    -- what was read of a register over a file was read of the file
-    reads_file : (held : Image) (rest : Option (Leftover D g)) (left : Leftover D g) (clean : Type 0) (old new : Standing) (may : Reading X) (r : Result X Refusal)
-        → rest ≡ Some left → IsOver held left clean old new → IsRead may clean old new r → IsReadOfFile held rest may r
-    reads_file held rest left clean old new may r is_left over is = (
-      left,
-      (is_left, over.opened),
-      λ kept c b there sound.
-          let up = over.closes kept in
-          let read = is up c b (over.finds up c b there) sound in
-          (over.leaves c b read.0, read.1),
-    )
+module _ {D : Type 0} {g : Ghosts D} {held : Image} {rest : Option (Leftover D g)} where
+  -- what was read of a register over a file was read of the file
+  reads_file : {X : Type 0} {last : Leftover D g} {clean : Type 0} {old new : Standing} → IsOver held rest last clean old new → (may : Reading X) (r : Result X Refusal)
+      → IsRead may clean old new r → IsReadOfFile held rest may r
+  reads_file {last = last} over may r is = (
+    last,
+    over.left,
+    λ kept c b there sound.
+        let up = over.closes kept in let read = is up c b (over.finds up c b there) sound in (over.leaves c b read.0, read.1),
+  )
 
-    -- so what is printed of it is said of the file
-    pub reading_of_file : (May : Fault → Type 0) (IsText : X → List ℕ → Type 0) (done : Result (Vec ℕ) Failure) (held : Image) (rest : Option (Leftover D g)) (left : Leftover D g)
-        (clean : Type 0) (old new : Standing) (may : Reading X) → rest ≡ Some left → IsOver held left clean old new → May NoMemory
-        → PrintsRead (λ fault. fault ≡ NoMemory) (IsRead may clean old new) IsText done → PrintsRead May (IsReadOfFile held rest may) IsText done
-    reading_of_file May IsText done held rest left clean old new may is_left over lacks p =
-        reading_says May (IsReadOfFile held rest may) (IsRead may clean old new) IsText done
-        (λ r is. reads_file held rest left clean old new may r is_left over is) lacks p
+  -- so the page that is printed is that of the file
+  pub pictured_over : {R : Type 0} {is_clean : R → Type 0} {stands : R → Standing} {same : Type 0} {done : Result (Vec ℕ) Failure} (variant : Bor (List ℕ)) (supplier : Option (Bor (List ℕ)))
+      → IsDoneOver held rest is_clean stands (λ fault of. of ≡ failure.Fault fault) same (tells (telling.Picture variant supplier)) done
+      → PrintsRead (IsNotReported held rest) (IsReadOfFile held rest (plans_for (reader_named supplier) variant.now)) IsPage done
+  pictured_over variant supplier is =
+      let may = plans_for (reader_named supplier) variant.now in
+      done_over failure.Fault (PrintsRead (IsNotReported held rest) (IsReadOfFile held rest may) IsPage) (tells (telling.Picture variant supplier)) is (λ fault not kept. inl not)
+      (λ last clean old new over did. reading_says _ _ _ IsPage _ (reads_file over may) (inr (refl, stays_file over did.1)) did.0)

@@ -24,7 +24,7 @@ use Rattle.fr_cli.specs.declared.fault.Fault.TheVariants.{CannotListen}
 use Rattle.fr_cli.specs.declared.watch.WatchFault.{WatchFault}
 use Rattle.fr_cli.specs.declared.watch.WatchFault.TheVariants as watch
 use Rattle.fr_cli.proofs.AskingLaws.{err_follows}
-use Rattle.fr_cli.proofs.OpenedLaws.{IsOver}
+use Rattle.fr_cli.specs.Errands.{IsOver}
 
 -- ---- one exchange
 
@@ -151,11 +151,11 @@ served_said clean old new count said deaf deafer CameIn CameTo a b done is came 
 module _ {D : Type 0} {g : Ghosts D} where
   -- What was served by a register over a file was served from the file.
   pub served_file : (file : Image) (rest : Option (Leftover D g)) (left : Leftover D g) (clean : Type 0) (old new : Standing) (port count : ℕ) (stayed deaf : Type 0)
-      (CameIn : List Visit → Type 0) (out out' a b : Option (List ℕ)) (done : Result ⊤ Fault) → rest ≡ Some left → IsOver file left clean old new
+      (CameIn : List Visit → Type 0) (out out' a b : Option (List ℕ)) (done : Result ⊤ Fault) → IsOver file rest left clean old new
       → HasServed clean old new count (Appends out out' (listening port)) deaf CameIn a b done → IsServed file rest port count stayed deaf CameIn out out' a b done
-  served_file file rest left clean old new port count stayed deaf CameIn out out' a b done is_left over has = inr (
+  served_file file rest left clean old new port count stayed deaf CameIn out out' a b done over has = inr (
     left,
-    (is_left, over.opened),
+    over.left,
     record {
       visits = has.visits;
       came_in = has.came_in;

@@ -3,25 +3,24 @@ ghost use Rattle.std.specs.Prelude.{◌≡◌, ◌≢◌, codes};
 ghost use Rattle.std.specs.Io.KnownBytes.{Keeps};
 ghost use Rattle.std.specs.Str.Lines.{lines};
 ghost use Rattle.sqlite_wal.specs.Files.{image_at};
-ghost use Rattle.fr_cli.specs.Asking.{asked_with};
 ghost use Rattle.fr_cli.specs.Deliveries.{request_with};
-ghost use Rattle.fr_cli.specs.Faults.{IsNotAnswered, IsNotDelivered, IsNotGiven, IsNotSent};
+ghost use Rattle.fr_cli.specs.Faults.{IsNotDelivered, IsNotSent};
 ghost use Rattle.fr_cli.specs.Keys.{first_of};
 ghost use Rattle.fr_cli.specs.Performing.{Says};
-ghost use Rattle.fr_cli.specs.RegisterFiles.{IsAnswerOfFile, IsAnswerToGiven, IsDeliveryToFile};
+ghost use Rattle.fr_cli.specs.RegisterFiles.{IsAnswerToGiven, IsDeliveryToFile};
 ghost use Rattle.fr_cli.specs.Texts.{readings};
 
-use crate::asking::change;
 use crate::delivery::Delivery;
 use crate::failure::Failure;
 use crate::fault::Fault;
 use crate::files::read_front;
 use crate::input::{ReadBounds, read_line};
 use crate::lines::next_line;
+use crate::over_file::over_file;
 use crate::script_fault::ScriptFault;
+use crate::telling::Telling;
 use crate::text_files::TextFiles;
-use fr_base::{NoMemory, Request};
-use fr_desks::{Left, file_desk};
+use fr_desks::Left;
 use sqlite::Start;
 use std::io::Read;
 
@@ -62,7 +61,7 @@ pub fn deliver_file<S: Start, F: TextFiles, R: Read>(
     }
 }
 
-// Delivers a file of rows with these bytes.
+// Delivers a file of rows with these bytes. The key stands on the command line, or on standard input.
 fn deliver<S: Start, R: Read>(
     rt: &HostRuntime,
     db: &str,
@@ -79,32 +78,25 @@ fn deliver<S: Start, R: Read>(
     ensures quiet { delivery.entry.key.now ≢ codes "-"
         → Keeps (R.remaining input.old) (R.remaining input.new) }
 {
-    match delivery.request(rt.alloc(), body) {
-        Ok(request) => change_given(rt, db, start, delivery.key, request, input),
-        Err(NoMemory) => (Err(Failure::Fault(Fault::NoMemory)), None),
-    }
-}
-
-// Asks the register in a file for a change. The key stands on the command line, or on standard input.
-fn change_given<S: Start, R: Read>(
-    rt: &HostRuntime,
-    db: &str,
-    start: S,
-    key: &str,
-    request: Request,
-    input: &mut R,
-) -> (Result<Vec<u8>, Failure>, Left<S>)
-    ensures says { Says (IsNotGiven (image_at S.Start) result.1 key.now request
-        (R.remaining input.old) (R.remaining input.new))
-        (IsAnswerToGiven (image_at S.Start) result.1 key.now request (R.remaining input.old)
-        (R.remaining input.new)) result.0 }
-    ensures quiet { key.now ≢ codes "-" → Keeps (R.remaining input.old) (R.remaining input.new) }
-{
-    if key != KEY_ON_INPUT {
-        return change_file(rt, db, start, key.as_bytes(), request);
+    if delivery.key != KEY_ON_INPUT {
+        let key = delivery.key.as_bytes();
+        let mut answer = Telling::Answer {
+            key,
+            delivery,
+            body,
+        };
+        return over_file(rt, db, start, &mut answer);
     }
     match read_line(rt.alloc(), input, KEY_BOUNDS) {
-        Ok(front) => change_file(rt, db, start, first_line(&front), request),
+        Ok(front) => {
+            let key = first_line(&front);
+            let mut answer = Telling::Answer {
+                key,
+                delivery,
+                body,
+            };
+            over_file(rt, db, start, &mut answer)
+        }
         Err(fault) => (
             Err(Failure::Fault(Fault::Script(ScriptFault::from(fault)))),
             None,
@@ -119,25 +111,5 @@ fn first_line(bytes: &[u8]) -> &[u8]
     match next_line(bytes) {
         Some((line, _)) => line,
         None => &[],
-    }
-}
-
-// Asks the register in a file for a change, as whoever has the key.
-fn change_file<S: Start>(
-    rt: &HostRuntime,
-    db: &str,
-    start: S,
-    key: &[u8],
-    request: Request,
-) -> (Result<Vec<u8>, Failure>, Left<S>)
-    ensures { Says (IsNotAnswered (image_at S.Start) result.1 (asked_with key.now request))
-        (IsAnswerOfFile (image_at S.Start) result.1 (asked_with key.now request)) result.0 }
-{
-    match file_desk::open(rt, db, start) {
-        Ok(mut desk) => {
-            let done = change(rt.alloc(), &mut desk, key, request);
-            (done, Some(file_desk::close(desk)))
-        }
-        Err((fault, left)) => (Err(Failure::Fault(Fault::Register(fault))), left),
     }
 }

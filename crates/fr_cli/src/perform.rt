@@ -1,42 +1,30 @@
 //! Does a job, and says how it ended: what is printed of it, and its status.
 ghost use Rattle.std.specs.Prelude.{◌≡◌, ◌⊎◌, Err, Option, Result, IfErr, ⊤, List, ℕ};
-ghost use Rattle.std.specs.Borrow.{Bor};
-ghost use Rattle.std.specs.Global.{Vec};
 ghost use Rattle.std.specs.Io.KnownBytes.{Appends, Keeps};
 ghost use Rattle.sqlite_wal.specs.Files.{image_at};
-ghost use Rattle.fr_cli.specs.Asking.{IsForReader, query_of};
 ghost use Rattle.fr_cli.specs.Endings.{IsPrinted, Tells, status_of};
-ghost use Rattle.fr_cli.specs.Faults.{IsNotMigrated, IsNotReported};
+ghost use Rattle.fr_cli.specs.Faults.{IsNotMigrated};
 ghost use Rattle.fr_cli.specs.Jobs.{IsPerformed};
-ghost use Rattle.fr_cli.specs.Performing.{Says, of_script};
-ghost use Rattle.fr_cli.specs.Picturing.{plans_for};
-ghost use Rattle.fr_picture.specs.Pages.{IsPage};
-ghost use Rattle.fr_cli.specs.Queries.{reader_named};
-ghost use Rattle.fr_cli.specs.Reading.{PrintsRead};
-ghost use Rattle.fr_cli.specs.RegisterFiles.{IsAnswerOfFile, IsMoved, IsReadOfFile};
+ghost use Rattle.fr_cli.specs.Performing.{of_script};
+ghost use Rattle.fr_cli.specs.RegisterFiles.{IsMoved};
 ghost use Rattle.fr_cli.specs.Runs.{IsRunOf};
 ghost use Rattle.fr_cli.specs.Texts.{readings};
 ghost use Rattle.fr_cli.specs.Visits.{comings};
 ghost use Rattle.fr_http.specs.Connection.{AppendsFront};
-ghost use Rattle.fr_cli.specs.declared.failure.Failure.{Failure as Ended};
-ghost use Rattle.fr_cli.specs.declared.fault.Fault.{Fault as Word};
-ghost use Rattle.fr_cli.specs.declared.query.Inquiry.{Inquiry};
 ghost use Rattle.fr_cli.specs.declared.script_fault.ScriptFault.{ScriptFault as Early};
 
-use crate::asked_file::ask_file;
-use crate::asking::report_on;
+use crate::asked_file::Asking;
 use crate::checking::check;
 use crate::creating::create;
 use crate::delivered_file::deliver_file;
 use crate::explaining::explain_word;
-use crate::failure::Failure;
 use crate::fault::{Fault, of_script};
 use crate::listener::Listener;
-use crate::picturing::picture;
+use crate::over_file::over_file;
 use crate::printing::{end, print, print_all, tell};
-use crate::query::Inquiry;
 use crate::script::run_script;
 use crate::serving::{Service, serve};
+use crate::telling::Telling;
 use crate::text_files::TextFiles;
 use crate::words::{Job, WordFault};
 use fr_desks::{Left, file_desk};
@@ -94,11 +82,11 @@ pub fn perform<S: Start, F: TextFiles, R: Read, O: Write, E: Write, L: Listener>
             (end(done, &mut err), left)
         }
         Job::Ask { db } => {
-            let (done, left) = ask_file(rt, db, start, input, out);
+            let (done, left) = over_file(rt, db, start, &mut Asking { input, out });
             (end(done, &mut err), left)
         }
         Job::Report { db, query } => {
-            let (done, left) = report_file(rt, db, start, query);
+            let (done, left) = over_file(rt, db, start, &mut Telling::Report(query));
             (tell(done, out, &mut err), left)
         }
         Job::Picture {
@@ -106,7 +94,8 @@ pub fn perform<S: Start, F: TextFiles, R: Read, O: Write, E: Write, L: Listener>
             variant,
             supplier,
         } => {
-            let (done, left) = picture_file(rt, db, start, variant, supplier);
+            let mut picture = Telling::Picture { variant, supplier };
+            let (done, left) = over_file(rt, db, start, &mut picture);
             (tell(done, out, &mut err), left)
         }
         Job::Deliver { db, delivery } => {
@@ -169,45 +158,5 @@ fn migrate_file<S: Start>(rt: &HostRuntime, db: &str, start: S) -> (Result<(), F
     match file_desk::migrate(rt, db, start) {
         Ok(left) => (Ok(()), Some(left)),
         Err((fault, left)) => (Err(Fault::Register(fault)), left),
-    }
-}
-
-// The report of the register in a file.
-fn report_file<S: Start>(
-    rt: &HostRuntime,
-    db: &str,
-    start: S,
-    query: Inquiry<'_>,
-) -> (Result<Vec<u8>, Failure>, Left<S>)
-    ensures { Says (IsNotReported (image_at S.Start) result.1)
-        (IsForReader (IsAnswerOfFile (image_at S.Start) result.1 (query_of query.entry))) result.0 }
-{
-    match file_desk::open(rt, db, start) {
-        Ok(mut desk) => {
-            let done = report_on(rt.alloc(), &mut desk, query);
-            (done, Some(file_desk::close(desk)))
-        }
-        Err((fault, left)) => (Err(Failure::Fault(Fault::Register(fault))), left),
-    }
-}
-
-// The page of a variant's plan of the register in a file.
-fn picture_file<S: Start>(
-    rt: &HostRuntime,
-    db: &str,
-    start: S,
-    variant: &str,
-    supplier: Option<&str>,
-) -> (Result<Vec<u8>, Failure>, Left<S>)
-    ensures { PrintsRead (IsNotReported (image_at S.Start) result.1)
-        (IsReadOfFile (image_at S.Start) result.1
-        (plans_for (reader_named supplier.entry) variant.now)) IsPage result.0 }
-{
-    match file_desk::open(rt, db, start) {
-        Ok(mut desk) => {
-            let done = picture(rt.alloc(), &mut desk, variant, supplier);
-            (done, Some(file_desk::close(desk)))
-        }
-        Err((fault, left)) => (Err(Failure::Fault(Fault::Register(fault))), left),
     }
 }

@@ -1,20 +1,24 @@
-use Rattle.std.proofs.Common.{List, Option, ℕ, inl, inr, refl, subst}
-use Rattle.sqlite_wal.specs.Files.{image_at}
-use Rattle.fr_base.specs.declared.request.Request.{Request}
-use Rattle.fr_cli.specs.Faults.{IsNotGiven}
-use Rattle.fr_cli.specs.Performing.{Says}
-use Rattle.fr_cli.specs.RegisterFiles.{IsAnswerToGiven}
-use Rattle.fr_cli.proofs.AskingLaws.{says_more}
+use Rattle.std.proofs.Common.{inl, inr, refl, rules}
+use Rattle.std.proofs.KnownBytes.{Keeps-refl}
+use Rattle.fr_cli.proofs.AskingLaws.{given_over}
 use Rattle.fr_cli.proofs.delivered_file.deliver.Goals as goal
+
+pub returns-then-ne-clause-says : goal.returns-then-ne-clause-says
+returns-then-ne-clause-says g c =
+    given_over c.args.delivery _ _ (record { ref_ptr = (0, 0); now = _ }) c.args.body (inl (search rules, search rules, Keeps-refl (g.R.Read.remaining c.args.input.now))) c.over_file.ensures
 
 pub returns-in-Ok-clause-says : goal.returns-in-Ok-clause-says
 returns-in-Ok-clause-says g c =
-    let input : Option (List ℕ) = g.R.Read.remaining c.args.input.now in
-    let left : Option (List ℕ) = g.R.Read.remaining c.change_given.new.input in
-    let said = subst (λ (r : Request). Says (IsNotGiven (image_at g.S.Start) c.change_given.result.1 c.args.delivery.key.now r input left)
-    (IsAnswerToGiven (image_at g.S.Start) c.change_given.result.1 c.args.delivery.key.now r input left) c.change_given.result.0)
-    c.in-Ok.ensures c.change_given.ensures.says in
-    says_more _ _ _ _ c.change_given.result.0 (λ fault not. inr not) (λ answer is. is) said
+    given_over c.args.delivery _ _ c.first_line-key.result c.args.body (inr (search rules, (c.in-Ok.front.items, c.in-Ok.ensures.line, search rules))) c.over_file-in-Ok.ensures
 
 pub returns-in-Err-clause-says : goal.returns-in-Err-clause-says
-returns-in-Err-clause-says g c = inl (refl, refl)
+returns-in-Err-clause-says g c = inr (inr (search rules, (c.in-Err.fault, search rules), refl))
+
+pub returns-then-ne-clause-quiet : goal.returns-then-ne-clause-quiet
+returns-then-ne-clause-quiet g c = λ other. Keeps-refl (g.R.Read.remaining c.args.input.now)
+
+pub returns-in-Ok-clause-quiet : goal.returns-in-Ok-clause-quiet
+returns-in-Ok-clause-quiet g c = λ other. absurd (other (search rules))
+
+pub returns-in-Err-clause-quiet : goal.returns-in-Err-clause-quiet
+returns-in-Err-clause-quiet g c = λ other. absurd (other (search rules))

@@ -1,5 +1,8 @@
-use Rattle.std.proofs.Common.{refl, rules}
+use Rattle.std.proofs.Common.{ap, refl, rules}
 use Rattle.std.proofs.KnownBytes.{Keeps-refl}
+use Rattle.fr_cli.proofs.AskingLaws.{reported_over}
+use Rattle.fr_cli.proofs.IncomingLaws.{asked_over}
+use Rattle.fr_cli.proofs.ReadingLaws.{pictured_over}
 use Rattle.fr_cli.proofs.perform.perform.Goals as goal
 
 pub returns-in-Create : goal.returns-in-Create
@@ -17,13 +20,23 @@ returns-in-Serve g c =
       Keeps-refl (g.R.Read.remaining c.args.input.now),
     )
 
+pub returns-in-Ask : goal.returns-in-Ask
+returns-in-Ask g c = rw c.in-Ask.is (
+  c.over_file-done.result.0,
+  asked_over (search rules) (search rules)
+      (λ same. (ap (λ e. g.R.Read.remaining e.input.now) same, ap (λ e. g.O.Write.contents e.out.now) same)) c.over_file-done.ensures,
+  search rules,
+  search rules,
+  refl,
+)
+
 pub returns-in-Report : goal.returns-in-Report
-returns-in-Report g c = rw c.in-Report.is
-    (c.report_file-done.result.0, search rules, c.report_file-done.ensures, search rules, (Keeps-refl (g.R.Read.remaining c.args.input.now), refl))
+returns-in-Report g c = let done = c.over_file-done-in-Report in
+    rw c.in-Report.is (done.result.0, search rules, reported_over c.in-Report.query done.ensures, search rules, (Keeps-refl (g.R.Read.remaining c.args.input.now), refl))
 
 pub returns-in-Picture : goal.returns-in-Picture
-returns-in-Picture g c = rw c.in-Picture.is
-    (c.picture_file-done.result.0, search rules, c.picture_file-done.ensures, search rules, (Keeps-refl (g.R.Read.remaining c.args.input.now), refl))
+returns-in-Picture g c = let done = c.over_file-done-in-Picture in rw c.in-Picture.is
+    (done.result.0, search rules, pictured_over c.in-Picture.variant c.in-Picture.supplier done.ensures, search rules, (Keeps-refl (g.R.Read.remaining c.args.input.now), refl))
 
 pub returns-in-Deliver : goal.returns-in-Deliver
 returns-in-Deliver g c = rw c.in-Deliver.is (c.deliver_file-done.result.0, search rules, c.deliver_file-done.ensures.says, c.deliver_file-done.ensures.quiet, refl)

@@ -1,0 +1,57 @@
+//! A register's file, opened for an errand and closed behind it.
+ghost use Rattle.std.specs.Prelude.{◌≡◌};
+ghost use Rattle.sqlite_wal.specs.Files.{image_at};
+ghost use Rattle.fr_cli.specs.Errands.{IsDoneOver};
+
+use crate::fault::Fault;
+use fr_base::Desk;
+use fr_desks::{FileDesk, Left, file_desk};
+use fr_office::Office;
+use fr_world::Records;
+use sqlite::Start;
+
+/// What is done with an open register.
+pub(crate) trait Errand {
+    ghost use Rattle.fr_cli.specs.Errands.{Doing};
+
+    /// What is had of it, where it is done.
+    type Done;
+
+    /// Why it is not done.
+    type Fault: From<Fault>;
+
+    /// What it does, by what the errand was and is.
+    ghost does: { Self → Self → Doing Self.Done Self.Fault };
+
+    /// Does it with the register, whose file is at `db`, and gives the register back.
+    fn carry_out<R: Records>(
+        &mut self,
+        rt: &HostRuntime,
+        db: &str,
+        office: Office<R>,
+    ) -> (Result<Self::Done, Self::Fault>, Office<R>)
+        ensures falls { ⟦<Office<R> as Desk>⟧.clean result.1 → ⟦<Office<R> as Desk>⟧.clean office }
+        ensures does { let it = ⟦<Office<R> as Desk>⟧ in does self.old self.new
+            (it.clean result.1) (it.stands office) (it.stands result.1) result.0 };
+}
+
+/// Opens the register in the file at `db`, does the errand with it and closes it. Gives what is left of the file beside what
+/// came of the errand. `start` says what the file held as it was opened.
+pub(crate) fn over_file<S: Start, E: Errand>(
+    rt: &HostRuntime,
+    db: &str,
+    start: S,
+    errand: &mut E,
+) -> (Result<E::Done, E::Fault>, Left<S>)
+    ensures { let it = ⟦<FileDesk<S> as Desk>⟧ in
+        IsDoneOver (image_at S.Start) result.1 it.clean it.stands E.Fault.from_gives
+        (errand.new ≡ errand.old) (E.does errand.old errand.new) result.0 }
+{
+    match file_desk::open(rt, db, start) {
+        Ok(desk) => {
+            let (done, after) = errand.carry_out(rt, db, desk);
+            (done, Some(file_desk::close(after)))
+        }
+        Err((fault, left)) => (Err(E::Fault::from(Fault::Register(fault))), left),
+    }
+}

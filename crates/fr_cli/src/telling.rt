@@ -1,0 +1,69 @@
+//! An errand whose answer is printed: a report, a picture or a delivery.
+
+use crate::asking::{change, report_on};
+use crate::delivery::Delivery;
+use crate::failure::Failure;
+use crate::fault::Fault;
+use crate::over_file::Errand;
+use crate::picturing::picture;
+use crate::query::Inquiry;
+use fr_base::NoMemory;
+use fr_office::Office;
+use fr_world::Records;
+
+/// What is told of a register.
+#[derive(Drop)]
+pub(crate) enum Telling<'a> {
+    /// A report.
+    Report(Inquiry<'a>),
+    /// The page of a variant's plan, as the integrator sees it, or the supplier that is named.
+    Picture {
+        variant: &'a str,
+        supplier: Option<&'a str>,
+    },
+    /// The answer to a delivery of a file with these bytes, by whoever has the key.
+    Answer {
+        key: &'a [u8],
+        delivery: Delivery<'a>,
+        body: &'a [u8],
+    },
+}
+
+impl Errand for Telling<'_> {
+    ghost use Rattle.fr_cli.specs.Errands.{tells};
+
+    type Done = Vec<u8>;
+
+    type Fault = Failure;
+
+    ghost does = { λ telling _. tells telling };
+
+    fn carry_out<R: Records>(
+        &mut self,
+        rt: &HostRuntime,
+        _db: &str,
+        mut office: Office<R>,
+    ) -> (Result<Vec<u8>, Failure>, Office<R>) {
+        match *self {
+            Telling::Report(query) => {
+                let done = report_on(rt.alloc(), &mut office, query);
+                (done, office)
+            }
+            Telling::Picture { variant, supplier } => {
+                let done = picture(rt.alloc(), &mut office, variant, supplier);
+                (done, office)
+            }
+            Telling::Answer {
+                key,
+                delivery,
+                body,
+            } => match delivery.request(rt.alloc(), body) {
+                Ok(request) => {
+                    let done = change(rt.alloc(), &mut office, key, request);
+                    (done, office)
+                }
+                Err(NoMemory) => (Err(Failure::Fault(Fault::NoMemory)), office),
+            },
+        }
+    }
+}
