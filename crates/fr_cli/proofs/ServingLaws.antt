@@ -2,7 +2,7 @@
 use Rattle.std.proofs.Common.{◌≡◌, ◌≤◌, length, inl, inr, ℕ, List, [], ◌∷◌, ◌++◌, Option, Some, None, Result, Ok, Err, refl, sym, ap, ap₂, ◌∙◌, subst, arith}
 use Rattle.std.specs.Prelude.{⊤}
 use Rattle.std.specs.Io.KnownBytes.{Appends, Keeps}
-use Rattle.std.proofs.KnownBytes.{Keeps-trans, Keeps-refl}
+use Rattle.std.proofs.KnownBytes.{Appends-nil, Keeps-trans, Keeps-refl}
 use Rattle.std.proofs.lemmas.List.{map_push}
 use Rattle.sqlite.specs.declared.file.Leftover.{Leftover}
 use Rattle.sqlite_disk.specs.declared.Disk.{Ghosts}
@@ -17,14 +17,16 @@ use Rattle.fr_http.proofs.ExchangeLaws.{exchanges-sound}
 use Rattle.fr_world.specs.Held.{Standing}
 use Rattle.fr_cli.specs.Guarding.{fault_unwatched}
 use Rattle.fr_cli.specs.Performing.{listening}
-use Rattle.fr_cli.specs.Serving.{HasServed, IsServed, ServesAll, ServesOne, StopsServing, TellsEach, TellsEnd}
-use Rattle.fr_cli.specs.Visits.{Visit, visit_of}
+use Rattle.fr_cli.specs.Serving.{HasServed, IsServed, IsServedOver, ServesAll, ServesOne, StopsServing, TellsEach, TellsEnd}
+use Rattle.fr_cli.specs.Visits.{Comings, Visit, visit_of}
 use Rattle.fr_cli.specs.declared.fault.Fault.{Fault}
 use Rattle.fr_cli.specs.declared.fault.Fault.TheVariants.{CannotListen}
+use Rattle.fr_cli.specs.declared.serving.Service.{Service}
 use Rattle.fr_cli.specs.declared.watch.WatchFault.{WatchFault}
 use Rattle.fr_cli.specs.declared.watch.WatchFault.TheVariants as watch
 use Rattle.fr_cli.proofs.AskingLaws.{err_follows}
-use Rattle.fr_cli.specs.Errands.{IsOver}
+use Rattle.fr_cli.proofs.ErrandLaws.{done_over}
+use Rattle.fr_cli.specs.Errands.{IsDoneOver, IsOver, ServesConnections}
 
 -- ---- one exchange
 
@@ -170,3 +172,24 @@ module _ {D : Type 0} {g : Ghosts D} where
       first = has.first;
     },
   )
+
+  -- So it is by an errand.
+  pub served_over : {R L : Type 0} {is_clean : R → Type 0} {stands : R → Standing} {same kept : Type 0} {file : Image} {rest : Option (Leftover D g)} (service : Service) (came : L → Comings)
+      {l l' : L} {out out' o a b b' : Option (List ℕ)} {done : Result ⊤ Fault} → l' ≡ l → o ≡ out' → b' ≡ b → (same → (came l).none × (out' ≡ out) × (b ≡ a))
+      → IsDoneOver file rest is_clean stands (λ fault of. of ≡ fault) same (λ clean old new done. ServesConnections service (came l) out out' a b clean old new done × kept) done
+      → IsServedOver file rest service (came l') out o a b' done
+  served_over {kept = kept} {file} {rest} service came {l} {l'} {out} {out'} {o} {a} {b} {b'} {done} is_l is_o is_b quiet is =
+      subst (λ l. IsServedOver file rest service (came l) out o a b' done) (sym is_l) (subst (λ o. IsServedOver file rest service (came l) out o a b' done) (sym is_o)
+      (subst (λ b. IsServedOver file rest service (came l) out out' a b done) (sym is_b)
+      (done_over (λ fault. fault) (IsServedOver file rest service (came l) out out' a b) (λ clean old new done. ServesConnections service (came l) out out' a b clean old new done × kept) is
+      (λ fault not same.
+      let (none, unsaid, untold) = quiet same in
+      let said : Keeps out out' = subst (Keeps out) (sym unsaid) (Keeps-refl out) in (
+        (([], (listening service.port, refl), subst (λ o. Appends out o []) (sym unsaid) (Appends-nil out)), tt, inl said),
+        inl (fault, refl, not, none, said, subst (Keeps a) (sym untold) (Keeps-refl a)),
+      ))
+      (λ last clean old new over did. (
+        did.0.0,
+        served_file file rest last clean old new service.port service.count (came l).none ((came l).deaf service.port)
+            ((came l).at service.port service.seconds) out out' a b done over did.0.1,
+      )))))

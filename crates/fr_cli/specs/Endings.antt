@@ -3,12 +3,10 @@
 use Rattle.std.specs.Prelude.{◌≡◌, ◌≢◌, ◌⊎◌, [], ℕ, List, ◌++◌, codes, Option, Some, None, Result, Ok, Err, OnErr, OnOk, ⊤}
 use Rattle.std.specs.Global.{Vec}
 use Rattle.std.specs.Io.KnownBytes.{Appends, Keeps}
-use Rattle.std.specs.declared.io.Write as Write
 use Rattle.sqlite.specs.declared.file.Leftover.{Leftover}
 use Rattle.sqlite.specs.declared.file.Leftover.TheVariants as left
 use Rattle.sqlite_disk.specs.declared.Disk.{Ghosts}
 use Rattle.fr_http.specs.Connection.{AppendsFront}
-use Rattle.fr_text.specs.declared.output.Output.{Output}
 use Rattle.fr_cli.specs.Faults.{fault_word}
 use Rattle.fr_cli.specs.declared.failure.Failure.{Failure}
 use Rattle.fr_cli.specs.declared.failure.Failure.TheVariants as failure
@@ -56,13 +54,6 @@ IsTold (Ok text) out out' err err' status = IsPrinted text.items out out' err er
 IsTold (Err (failure.RefusedRows text)) out out' err err' status = (status ≡ 1) × ((printed : ℕ) × IsPrinted text.items out out' err err' printed)
 IsTold (Err (failure.Refused line)) out out' err err' status = (status ≡ 1) × Keeps out out' × AppendsFront err err' line.items
 IsTold (Err (failure.Fault fault)) out out' err err' status = (status ≡ 1) × Keeps out out' × AppendsFront err err' (word_line (fault_word fault))
-
--- A call prints to standard output, and tells to an output of standard error: this is so of the bytes that standard output and standard
--- error held and hold, and of what the call gives. It is the same standard error still.
-pub record TellsOn {O E X : Type 0} (out : Write.Ghosts O) (err : Write.Ghosts E)
-    (Does : Option (List ℕ) → Option (List ℕ) → Option (List ℕ) → Option (List ℕ) → X → Type 0) (old new : O) (held now : Output E) (given : X) : Type 0 where
-  pub does : Does (out.contents old) (out.contents new) (err.contents held.writer.now) (err.contents now.writer.now) given
-  pub same_err : now.writer.ghost_name ≡ held.writer.ghost_name
 
 -- What is left of a job's file is the store that it had, since it failed to close, or to open.
 abbrev pub FailedToClose : {D : Type 0} {g : Ghosts D} → Option (Leftover D g) → Type 0

@@ -1,7 +1,7 @@
 -- Errands: what is done with a register whose file is opened for it, and closed behind it.
 use Rattle.std.specs.Prelude.{◌≡◌, ◌⊎◌, ℕ, List, Option, Result, Err, OnOk, ⊤}
 use Rattle.std.specs.Global.{Vec}
-use Rattle.std.specs.Io.KnownBytes.{IsAtEnd}
+use Rattle.std.specs.Io.KnownBytes.{Appends, IsAtEnd}
 use Rattle.sqlite.specs.Files.{IsCleanLeft}
 use Rattle.sqlite.specs.declared.file.Leftover.{Leftover}
 use Rattle.sqlite_disk.specs.declared.Disk.{Ghosts}
@@ -15,14 +15,17 @@ use Rattle.fr_cli.specs.Deliveries.{request_with}
 use Rattle.fr_cli.specs.Faults.{IsNotOpened}
 use Rattle.fr_cli.specs.Incoming.{HasAnswered}
 use Rattle.fr_cli.specs.Opened.{IsLeftOf}
-use Rattle.fr_cli.specs.Performing.{of_script}
+use Rattle.fr_cli.specs.Performing.{listening, of_script}
 use Rattle.fr_cli.specs.Picturing.{plans_for}
 use Rattle.fr_cli.specs.Queries.{reader_named}
 use Rattle.fr_cli.specs.Reading.{IsRead, PrintsRead, Stays}
+use Rattle.fr_cli.specs.Serving.{HasServed, IsAnnounced}
+use Rattle.fr_cli.specs.Visits.{Comings}
 use Rattle.fr_cli.specs.declared.failure.Failure.{Failure}
 use Rattle.fr_cli.specs.declared.fault.Fault.{Fault}
 use Rattle.fr_cli.specs.declared.fault.Fault.TheVariants.{NoMemory}
 use Rattle.fr_cli.specs.declared.script_fault.ScriptFault.{ScriptFault}
+use Rattle.fr_cli.specs.declared.serving.Service.{Service}
 use Rattle.fr_cli.specs.declared.telling.Telling.{Telling}
 use Rattle.fr_cli.specs.declared.telling.Telling.TheVariants as telling
 use Rattle.fr_picture.specs.Pages.{IsPage}
@@ -43,6 +46,11 @@ tells (telling.Answer key delivery body) clean old new done =
 abbrev pub AnswersInput : Option (List ℕ) → Option (List ℕ) → Option (List ℕ) → Option (List ℕ) → Doing ⊤ Fault
 AnswersInput input left a b clean old new done = (asked : Result ⊤ ScriptFault) × (done ≡ of_script asked) × OnOk asked (IsAtEnd left)
     × HasAnswered clean old new input left a b asked
+
+-- Connections that come in are served. The line of a server that listens is printed, and the ends of those that failed are told.
+abbrev pub ServesConnections : Service → Comings → Option (List ℕ) → Option (List ℕ) → Option (List ℕ) → Option (List ℕ) → Doing ⊤ Fault
+ServesConnections service came out out' a b clean old new done = IsAnnounced (came.heard service.port) service.port out out' done
+    × HasServed clean old new service.count (Appends out out' (listening service.port)) (came.deaf service.port) (came.at service.port service.seconds) a b done
 
 module _ {D : Type 0} {g : Ghosts D} (held : Image) (rest : Option (Leftover D g)) where
   -- A register stood so over the file, and then so, behind which the file was closed, and this is left of it.

@@ -19,7 +19,7 @@ use Rattle.fr_cli.specs.Endings.{word_line}
 use Rattle.fr_cli.specs.Faults.{IsNotOpened, link_word}
 use Rattle.fr_cli.specs.Performing.{listening}
 use Rattle.fr_cli.specs.Opened.{IsLeftOf}
-use Rattle.fr_cli.specs.Visits.{MayListen, Visit, visit_of}
+use Rattle.fr_cli.specs.Visits.{Comings, MayListen, Visit, visit_of}
 use Rattle.fr_cli.specs.declared.fault.Fault.{Fault}
 use Rattle.fr_cli.specs.declared.fault.Fault.TheVariants.{CannotListen, NoMemory, Register, WriteFailed}
 use Rattle.fr_cli.specs.declared.listener.Listener as Listener
@@ -83,3 +83,9 @@ IsServed {D} {g} file rest port count stayed deaf CameIn out out' a b done =
     ((fault : Fault) × (done ≡ Err fault) × IsNotOpened file rest fault × stayed × Keeps out out' × Keeps a b)
     ⊎ ((last : Leftover D g) × IsLeftOf file rest last
     × HasServed (IsCleanLeft last) (Held file) (IsLeftWith last) count (Appends out out' (listening port)) deaf CameIn a b done)
+
+-- The same of a service, with the line that says where the server listens.
+abbrev pub IsServedOver : {D : Type 0} {g : Ghosts D} → Image → Option (Leftover D g) → Service → Comings → Option (List ℕ) → Option (List ℕ) → Option (List ℕ) → Option (List ℕ)
+    → Result ⊤ Fault → Type 0
+IsServedOver file rest service came out out' a b done = IsAnnounced (came.heard service.port) service.port out out' done
+    × IsServed file rest service.port service.count came.none (came.deaf service.port) (came.at service.port service.seconds) out out' a b done

@@ -9,7 +9,6 @@ use crate::fault::Fault;
 use crate::printing::end;
 use fr_desks::Left;
 use fr_store::StoreFault;
-use fr_text::Output;
 use sqlite::{Leftover, Start};
 use std::io::Write;
 
@@ -25,7 +24,7 @@ pub fn end_closed<S: Start, E: Write>(status: u8, left: &Left<S>, err: &mut E) -
     match left {
         Some(Leftover::Store(_)) if status == 0 => {
             let fault = Fault::Register(StoreFault::Unavailable);
-            end(Err(fault), &mut Output::new(err))
+            end(Err(fault), err)
         }
         _ => status,
     }

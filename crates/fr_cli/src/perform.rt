@@ -56,16 +56,15 @@ pub fn perform<S: Start, F: TextFiles, R: Read, O: Write, E: Write, L: Listener>
           err = record { old = E.contents err.old; new = E.contents err.new };
         } result.0 }
 {
-    let mut err = Output::new(err);
     match *job {
-        Job::Run => (end_script(rt.alloc(), input, out, &mut err), None),
+        Job::Run => (end_script(rt.alloc(), input, out, err), None),
         Job::Create { db, config } => {
             let (done, left) = create(rt, db, config, start, files);
-            (end(done, &mut err), left)
+            (end(done, err), left)
         }
         Job::Migrate { db } => {
             let (done, left) = migrate_file(rt, db, start);
-            (end(done, &mut err), left)
+            (end(done, err), left)
         }
         Job::Serve {
             db,
@@ -78,16 +77,16 @@ pub fn perform<S: Start, F: TextFiles, R: Read, O: Write, E: Write, L: Listener>
                 count,
                 seconds,
             };
-            let (done, left) = serve(rt, db, start, service, listener, out, &mut err);
-            (end(done, &mut err), left)
+            let (done, left) = serve(rt, db, start, service, listener, out, err);
+            (end(done, err), left)
         }
         Job::Ask { db } => {
             let (done, left) = over_file(rt, db, start, &mut Asking { input, out });
-            (end(done, &mut err), left)
+            (end(done, err), left)
         }
         Job::Report { db, query } => {
             let (done, left) = over_file(rt, db, start, &mut Telling::Report(query));
-            (tell(done, out, &mut err), left)
+            (tell(done, out, err), left)
         }
         Job::Picture {
             db,
@@ -96,17 +95,17 @@ pub fn perform<S: Start, F: TextFiles, R: Read, O: Write, E: Write, L: Listener>
         } => {
             let mut picture = Telling::Picture { variant, supplier };
             let (done, left) = over_file(rt, db, start, &mut picture);
-            (tell(done, out, &mut err), left)
+            (tell(done, out, err), left)
         }
         Job::Deliver { db, delivery } => {
             let (done, left) = deliver_file(rt, db, start, delivery, files, input);
-            (tell(done, out, &mut err), left)
+            (tell(done, out, err), left)
         }
         Job::Check { file } => {
             let done = check(rt.alloc(), files, file);
-            (tell(done, out, &mut err), None)
+            (tell(done, out, err), None)
         }
-        Job::Explain { word } => (tell(explain_word(rt.alloc(), word), out, &mut err), None),
+        Job::Explain { word } => (tell(explain_word(rt.alloc(), word), out, err), None),
     }
 }
 
@@ -123,14 +122,13 @@ pub fn explain<O: Write, E: Write>(fault: &WordFault, out: &mut O, err: &mut E) 
         → (result ≡ 1) × Keeps (O.contents out.old) (O.contents out.new)
         × Tells (E.contents err.old) (E.contents err.new) (Err Fault.NoMemory) }
 {
-    let mut err = Output::new(err);
     match fault {
-        WordFault::Help { text } => print_all(text.as_bytes(), out, &mut err),
+        WordFault::Help { text } => print_all(text.as_bytes(), out, err),
         WordFault::Usage { text } => {
-            let _ = print(text.as_bytes(), &mut err);
+            let _ = print(text.as_bytes(), &mut Output::new(err));
             2
         }
-        WordFault::NoMemory => end(Err(Fault::NoMemory), &mut err),
+        WordFault::NoMemory => end(Err(Fault::NoMemory), err),
     }
 }
 
@@ -139,13 +137,12 @@ fn end_script<R: Read, O: Write, E: Write>(
     alloc: Global,
     input: &mut R,
     out: &mut O,
-    err: &mut Output<'_, E>,
+    err: &mut E,
 ) -> u8
     ensures run { (done : Result ⊤ Early) × (result ≡ status_of (of_script done))
-        × Tells (E.contents err.old.writer.now) (E.contents err.new.writer.now) (of_script done)
+        × Tells (E.contents err.old) (E.contents err.new) (of_script done)
         × IsRunOf (R.remaining input.old) (R.remaining input.new) (O.contents out.old)
         (O.contents out.new) done }
-    ensures same { err.new.writer.ghost_name ≡ err.old.writer.ghost_name }
 {
     end(of_script(run_script(alloc, input, out)), err)
 }

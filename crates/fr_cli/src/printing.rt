@@ -1,7 +1,7 @@
 //! What is printed of a job on standard output and standard error, and its status.
 ghost use Rattle.std.specs.Prelude.{◌≡◌, ◌≤◌};
 ghost use Rattle.fr_http.specs.Calls.{WritesTo};
-ghost use Rattle.fr_cli.specs.Endings.{IsPrinted, IsTold, NamesFault, Prints, Tells, TellsOn, status_of};
+ghost use Rattle.fr_cli.specs.Endings.{IsPrinted, IsTold, NamesFault, Prints, Tells, status_of};
 
 use crate::failure::Failure;
 use crate::fault::Fault;
@@ -9,12 +9,9 @@ use fr_text::{Output, WRITE_RETRIES, WriteFailed};
 use std::io::Write;
 
 /// Prints the text of a job, or why it was not done, and gives its status.
-pub fn tell<O: Write, E: Write>(
-    done: Result<Vec<u8>, Failure>,
-    out: &mut O,
-    err: &mut Output<'_, E>,
-) -> u8
-    ensures { TellsOn O.Write E.Write (IsTold done) out.old out.new err.old err.new result }
+pub fn tell<O: Write, E: Write>(done: Result<Vec<u8>, Failure>, out: &mut O, err: &mut E) -> u8
+    ensures { IsTold done (O.contents out.old) (O.contents out.new) (E.contents err.old)
+        (E.contents err.new) result }
 {
     match done {
         Ok(text) => print_all(&text, out, err),
@@ -23,7 +20,7 @@ pub fn tell<O: Write, E: Write>(
             1
         }
         Err(Failure::Refused { line }) => {
-            let _ = print(&line, err);
+            let _ = print(&line, &mut Output::new(err));
             1
         }
         Err(Failure::Fault(fault)) => end(Err(fault), err),
@@ -31,8 +28,9 @@ pub fn tell<O: Write, E: Write>(
 }
 
 /// Prints a whole text, and gives the status.
-pub fn print_all<O: Write, E: Write>(text: &[u8], out: &mut O, err: &mut Output<'_, E>) -> u8
-    ensures { TellsOn O.Write E.Write (IsPrinted text.now) out.old out.new err.old err.new result }
+pub fn print_all<O: Write, E: Write>(text: &[u8], out: &mut O, err: &mut E) -> u8
+    ensures { IsPrinted text.now (O.contents out.old) (O.contents out.new) (E.contents err.old)
+        (E.contents err.new) result }
 {
     match print(text, &mut Output::new(out)) {
         Ok(()) => 0,
@@ -41,15 +39,14 @@ pub fn print_all<O: Write, E: Write>(text: &[u8], out: &mut O, err: &mut Output<
 }
 
 /// The status of a job that ended so. The fault's word is printed.
-pub fn end<E: Write>(done: Result<(), Fault>, err: &mut Output<'_, E>) -> u8
+pub fn end<E: Write>(done: Result<(), Fault>, err: &mut E) -> u8
     ensures status { result ≡ status_of done }
-    ensures tells { Tells (E.contents err.old.writer.now) (E.contents err.new.writer.now) done }
-    ensures same { err.new.writer.ghost_name ≡ err.old.writer.ghost_name }
+    ensures tells { Tells (E.contents err.old) (E.contents err.new) done }
 {
     match done {
         Ok(()) => 0,
         Err(fault) => {
-            let _ = print_word(fault.word(), err);
+            let _ = print_word(fault.word(), &mut Output::new(err));
             1
         }
     }

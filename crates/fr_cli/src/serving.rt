@@ -3,7 +3,7 @@ ghost use Rattle.std.specs.Prelude.{◌≡◌, ◌⊎◌, ◌∷◌, [], false, 
 ghost use Rattle.std.specs.Io.KnownBytes.{Appends};
 ghost use Rattle.sqlite_wal.specs.Files.{image_at};
 ghost use Rattle.fr_cli.specs.Performing.{listening};
-ghost use Rattle.fr_cli.specs.Serving.{Announces, HasServed, IsAnnounced, IsServed, ServesOne, TellsEach, TellsEnd};
+ghost use Rattle.fr_cli.specs.Serving.{Announces, HasServed, IsAnnounced, IsServedOver, ServesOne, TellsEach, TellsEnd};
 ghost use Rattle.fr_cli.specs.Visits.{AreVisited, IsVisited, Visit, comings};
 ghost use Rattle.fr_cli.specs.declared.fault.Fault.TheVariants.{CannotListen, Register};
 ghost use Rattle.fr_http.specs.Exchanges.{was_asked};
@@ -13,13 +13,14 @@ use crate::fault::{Fault, link_word};
 use crate::guarded::Guarded;
 use crate::lasting::Lasting;
 use crate::listener::Listener;
+use crate::over_file::{Errand, over_file};
 use crate::printing::{print, print_word};
 use fr_base::Desk;
-use fr_desks::{Left, file_desk};
-use fr_http::{LinkFault, Served, serve_one};
+use fr_desks::Left;
+use fr_http::{LinkFault, Served, Source, serve_one};
 use fr_office::Office;
 use fr_store::StoreFault;
-use fr_text::Output;
+use fr_text::{Output, Sink};
 use fr_world::Records;
 use sqlite::Start;
 use std::alloc::Global;
@@ -36,64 +37,88 @@ pub struct Service {
     pub seconds: u32,
 }
 
-/// Serves the register in the file at `db`: as many connections as the service has, one after another. A connection's fault is
-/// printed, and the next connection is served. Where another file stands in the place of the register's, or a fault has shut the
-/// register, a request is answered `Unavailable`, and the server ends with that fault. What came in at the listener is answered,
-/// and nothing else. Closes the file, and gives what is left of it. `start` says what the file held as it was opened.
-pub fn serve<S: Start, L: Listener, O: Write, E: Write>(
+/// A register served: as many connections as the service has, one after another. A connection's fault is printed, and the next
+/// connection is served. Where another file stands in the place of the register's, or a fault has shut the register, a request
+/// is answered `Unavailable`, and the server ends with that fault. What came in at the listener is answered, and nothing else.
+#[derive(Drop)]
+pub(crate) struct Serving<'l, 'o, 'e, L, O, E> {
+    pub service: Service,
+    pub listener: &'l mut L,
+    /// Where the line is printed that says where the server listens.
+    pub out: &'o mut O,
+    /// Where the faults of connections are told.
+    pub err: &'e mut E,
+}
+
+impl<R, W, L, O, E> Errand for Serving<'_, '_, '_, L, O, E>
+where
+    R: Source + Drop,
+    W: Sink + Drop,
+    L: Listener<Reader = R, Writer = W>,
+    O: Write,
+    E: Write,
+{
+    ghost use Rattle.std.specs.Prelude.{◌≡◌};
+    ghost use Rattle.fr_cli.specs.Errands.{ServesConnections};
+    ghost use Rattle.fr_cli.specs.Visits.{comings};
+
+    type Done = ();
+
+    type Fault = Fault;
+
+    ghost does = { λ it then clean old new done. ServesConnections it.service
+        (comings L.Listener R.Source W.Sink it.listener.now then.listener.now)
+        (O.contents it.out.now) (O.contents then.out.now)
+        (E.contents it.err.now) (E.contents then.err.now) clean old new done
+        × ((then.listener.ghost_name ≡ it.listener.ghost_name)
+        × ((then.out.ghost_name ≡ it.out.ghost_name)
+        × (then.err.ghost_name ≡ it.err.ghost_name))) };
+
+    fn carry_out<T: Records>(
+        &mut self,
+        rt: &HostRuntime,
+        db: &str,
+        office: Office<T>,
+    ) -> (Result<(), Fault>, Office<T>) {
+        match Guarded::new(rt, db, office) {
+            Ok(mut guarded) => {
+                let done = listen(
+                    rt.alloc(),
+                    &mut guarded,
+                    self.service,
+                    self.listener,
+                    self.out,
+                    self.err,
+                );
+                (done, guarded.into_office())
+            }
+            Err((fault, office)) => (Err(Fault::from(fault)), office),
+        }
+    }
+}
+
+/// Serves the register in the file at `db`, as [`Serving`] says. Closes the file, and gives what is left of it. `start` says what
+/// the file held as it was opened.
+pub(crate) fn serve<S: Start, L: Listener, O: Write, E: Write>(
     rt: &HostRuntime,
     db: &str,
     start: S,
     service: Service,
     listener: &mut L,
     out: &mut O,
-    err: &mut Output<'_, E>,
+    err: &mut E,
 ) -> (Result<(), Fault>, Left<S>)
-    ensures announced { Announces L.Listener O.Write service listener.old out.old out.new result.0 }
-    ensures served { let came = comings L.Listener L.Reader.Source L.Writer.Sink listener.old
-        listener.new in
-        IsServed (image_at S.Start) result.1 service.port service.count came.none
-        (came.deaf service.port) (came.at service.port service.seconds)
-        (O.contents out.old) (O.contents out.new)
-        (E.contents err.old.writer.now) (E.contents err.new.writer.now) result.0 }
-    ensures same { err.new.writer.ghost_name ≡ err.old.writer.ghost_name }
+    ensures { let came = comings L.Listener L.Reader.Source L.Writer.Sink listener.old listener.new in
+        IsServedOver (image_at S.Start) result.1 service came (O.contents out.old)
+        (O.contents out.new) (E.contents err.old) (E.contents err.new) result.0 }
 {
-    match file_desk::open(rt, db, start) {
-        Ok(desk) => {
-            let (done, served) = serve_office(rt, db, desk, service, listener, out, err);
-            (done, Some(file_desk::close(served)))
-        }
-        Err((fault, left)) => (Err(Fault::Register(fault)), left),
-    }
-}
-
-// Serves the register, whose file is at `db`, and gives the register back.
-fn serve_office<R: Records, L: Listener, O: Write, E: Write>(
-    rt: &HostRuntime,
-    db: &str,
-    office: Office<R>,
-    service: Service,
-    listener: &mut L,
-    out: &mut O,
-    err: &mut Output<'_, E>,
-) -> (Result<(), Fault>, Office<R>)
-    ensures falls { ⟦<Office<R> as Desk>⟧.clean result.1 → ⟦<Office<R> as Desk>⟧.clean office }
-    ensures announced { Announces L.Listener O.Write service listener.old out.old out.new result.0 }
-    ensures served { let it = ⟦<Office<R> as Desk>⟧ in
-        let came = comings L.Listener L.Reader.Source L.Writer.Sink listener.old listener.new in
-        HasServed (it.clean result.1) (it.stands office) (it.stands result.1) service.count
-        (Appends (O.contents out.old) (O.contents out.new) (listening service.port))
-        (came.deaf service.port) (came.at service.port service.seconds)
-        (E.contents err.old.writer.now) (E.contents err.new.writer.now) result.0 }
-    ensures same { err.new.writer.ghost_name ≡ err.old.writer.ghost_name }
-{
-    match Guarded::new(rt, db, office) {
-        Ok(mut guarded) => {
-            let done = listen(rt.alloc(), &mut guarded, service, listener, out, err);
-            (done, guarded.into_office())
-        }
-        Err((fault, office)) => (Err(Fault::from(fault)), office),
-    }
+    let mut serving = Serving {
+        service,
+        listener,
+        out,
+        err,
+    };
+    over_file(rt, db, start, &mut serving)
 }
 
 // Listens, and serves as many connections as the service has.
@@ -103,7 +128,7 @@ fn listen<D: Lasting, L: Listener, O: Write, E: Write>(
     service: Service,
     listener: &mut L,
     out: &mut O,
-    err: &mut Output<'_, E>,
+    err: &mut E,
 ) -> Result<(), Fault>
     ensures falls { D.clean desk.new → D.clean desk.old }
     ensures announced { Announces L.Listener O.Write service listener.old out.old out.new result }
@@ -112,8 +137,7 @@ fn listen<D: Lasting, L: Listener, O: Write, E: Write>(
         HasServed (D.clean desk.new) (D.stands desk.old) (D.stands desk.new) service.count
         (Appends (O.contents out.old) (O.contents out.new) (listening service.port))
         (came.deaf service.port) (came.at service.port service.seconds)
-        (E.contents err.old.writer.now) (E.contents err.new.writer.now) result }
-    ensures same { err.new.writer.ghost_name ≡ err.old.writer.ghost_name }
+        (E.contents err.old) (E.contents err.new) result }
 {
     begin(listener, service.port)?;
     announce(alloc, service.port, out)?;
@@ -144,15 +168,14 @@ fn answer_all<D: Lasting, L: Listener, E: Write>(
     listener: &mut L,
     service: &Service,
     desk: &mut D,
-    err: &mut Output<'_, E>,
+    err: &mut E,
 ) -> Result<(), Fault>
     ensures falls { D.clean desk.new → D.clean desk.old }
     ensures served { HasServed (D.clean desk.new) (D.stands desk.old) (D.stands desk.new)
         service.now.count ⊤ (L.ends listener.new) (λ visits.
         AreVisited L.Listener L.Reader.Source L.Writer.Sink service.now.seconds listener.old visits
-        listener.new) (E.contents err.old.writer.now) (E.contents err.new.writer.now) result }
+        listener.new) (E.contents err.old) (E.contents err.new) result }
     ensures fault { IfErr result (λ fault. (fault ≡ CannotListen) ⊎ (fault ≡ Register Unavailable)) }
-    ensures same { err.new.writer.ghost_name ≡ err.old.writer.ghost_name }
 {
     for _ in 0..service.count {
         let lasts = answer_next(alloc, listener, service.seconds, desk, err)?;
@@ -169,18 +192,17 @@ fn answer_next<D: Lasting, L: Listener, E: Write>(
     listener: &mut L,
     seconds: u32,
     desk: &mut D,
-    err: &mut Output<'_, E>,
+    err: &mut E,
 ) -> Result<bool, Fault>
     ensures falls { D.clean desk.new → D.clean desk.old }
     ensures served { OnOk result ((visit : Visit)
         × IsVisited L.Listener L.Reader.Source L.Writer.Sink seconds listener.old visit listener.new
         × ServesOne (D.clean desk.new) (D.stands desk.old) (D.stands desk.new) visit
-        × TellsEach (E.contents err.old.writer.now) (E.contents err.new.writer.now) (visit ∷ [])) }
+        × TellsEach (E.contents err.old) (E.contents err.new) (visit ∷ [])) }
     ensures fault { IfErr result (λ fault. fault ≡ CannotListen) }
     ensures ended { OnErr result (L.ends listener.old × (listener.new ≡ listener.old)) }
     ensures stays { OnErr result (desk.new ≡ desk.old) }
-    ensures quiet { OnErr result (E.contents err.new.writer.now ≡ E.contents err.old.writer.now) }
-    ensures same { err.new.writer.ghost_name ≡ err.old.writer.ghost_name }
+    ensures quiet { OnErr result (E.contents err.new ≡ E.contents err.old) }
 {
     match serve_next(alloc, listener, seconds, desk) {
         Ok(done) => {
@@ -192,12 +214,11 @@ fn answer_next<D: Lasting, L: Listener, E: Write>(
 }
 
 // Prints the word of the fault that ended a connection, if one did.
-fn tell_end<E: Write>(done: Result<Served, LinkFault>, err: &mut Output<'_, E>)
-    ensures told { TellsEnd (E.contents err.old.writer.now) (E.contents err.new.writer.now) done }
-    ensures same { err.new.writer.ghost_name ≡ err.old.writer.ghost_name }
+fn tell_end<E: Write>(done: Result<Served, LinkFault>, err: &mut E)
+    ensures told { TellsEnd (E.contents err.old) (E.contents err.new) done }
 {
     if let Err(fault) = done {
-        let _ = print_word(link_word(fault), err);
+        let _ = print_word(link_word(fault), &mut Output::new(err));
     }
 }
 

@@ -13,12 +13,9 @@ returns-in-Migrate g c = rw c.in-Migrate.is (search rules, search rules, (Keeps-
 
 pub returns-in-Serve : goal.returns-in-Serve
 returns-in-Serve g c =
-    let told = g.E.Write.contents c.serve-done.new.err.writer.now in
-    rw (c.in-Serve.is, ← c.new-err.ensures.holds) (
-      (c.serve-done.result.0, told, search rules, c.serve-done.ensures.announced, c.serve-done.ensures.served, search rules),
-      search rules,
-      Keeps-refl (g.R.Read.remaining c.args.input.now),
-    )
+    let told = g.E.Write.contents c.serve-done.new.err in
+    let (said, served) = c.serve-done.ensures in
+    rw c.in-Serve.is ((c.serve-done.result.0, told, search rules, said, served, search rules), search rules, Keeps-refl (g.R.Read.remaining c.args.input.now))
 
 pub returns-in-Ask : goal.returns-in-Ask
 returns-in-Ask g c = rw c.in-Ask.is (

@@ -8,13 +8,12 @@ use Rattle.fr_cli.proofs.serving.answer_all.Goals as goal
 
 pub loop-init : goal.loop-init
 loop-init g c = record {
-  same = refl;
   falls = λ clean. clean;
   visits = [];
   each = refl;
   came_in = refl;
   served = serves_none _ _;
-  told = Keeps-refl (g.E.Write.contents c.args.err.now.writer.now);
+  told = Keeps-refl (g.E.Write.contents c.args.err.now);
 }
 
 pub loop-preserved : goal.loop-preserved
@@ -22,7 +21,6 @@ loop-preserved g c =
     let l = c.loop.invariant in
     let (visit, came, serves, tells) = c.in_ok-lasts.ensures.served in
     record {
-      same = c.answer_next.ensures.same ∙ l.same;
       falls = λ clean. l.falls (c.answer_next.ensures.falls clean);
       visits = l.visits ++ visit ∷ [];
       each = length-append l.visits (visit ∷ []) ∙ ap (λ n. n + 1) l.each;
@@ -44,7 +42,7 @@ returns-in_err-lasts-clause-served g c =
     (subst (λ now. g.L.Listener.ends now) (sym stood) ended)
     (subst (λ now. AreVisited g.L.Listener (source g.L.Reader.Read g.L.Reader.Source) (sink g.L.Writer.Write g.L.Writer.Sink) c.args.service.now.seconds c.args.listener.now l.visits now) (sym stood) l.came_in)
     (subst (λ d. ServesAll (g.D.Desk.clean d) (g.D.Desk.stands c.args.desk.now) (g.D.Desk.stands d) l.visits) (sym c.in_err-lasts.ensures.stays) l.served)
-    (subst (λ told. TellsEach (g.E.Write.contents c.args.err.now.writer.now) told l.visits) (sym c.in_err-lasts.ensures.quiet) l.told)
+    (subst (λ told. TellsEach (g.E.Write.contents c.args.err.now) told l.visits) (sym c.in_err-lasts.ensures.quiet) l.told)
     few
 
 pub returns-then-not-lasts-clause-served : goal.returns-then-not-lasts-clause-served

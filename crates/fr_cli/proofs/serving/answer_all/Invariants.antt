@@ -7,11 +7,10 @@ use Rattle.fr_cli.proofs.serving.answer_all.Given as goal
 
 abbrev pub invariant-loop : goal.invariant-loop
 invariant-loop g l = record {
-  same : l.err.writer.ghost_name ≡ l.fn.err.writer.ghost_name;
   falls : g.D.Desk.clean l.desk → g.D.Desk.clean l.fn.desk;
   visits : List Visit;
   each : length visits ≡ l.counter;
   came_in : AreVisited g.L.Listener (source g.L.Reader.Read g.L.Reader.Source) (sink g.L.Writer.Write g.L.Writer.Sink) l.service.seconds l.fn.listener visits l.listener;
   served : ServesAll (g.D.Desk.clean l.desk) (g.D.Desk.stands l.fn.desk) (g.D.Desk.stands l.desk) visits;
-  told : TellsEach (g.E.Write.contents l.fn.err.writer.now) (g.E.Write.contents l.err.writer.now) visits;
+  told : TellsEach (g.E.Write.contents l.fn.err) (g.E.Write.contents l.err) visits;
 }

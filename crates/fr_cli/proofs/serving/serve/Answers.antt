@@ -1,22 +1,15 @@
-use Rattle.std.proofs.Common.{refl, inl}
-use Rattle.std.proofs.KnownBytes.{Keeps-refl}
-use Rattle.fr_cli.proofs.ErrandLaws.{over}
-use Rattle.fr_cli.proofs.RefusedFiles.{not_opened}
-use Rattle.fr_cli.proofs.ServingLaws.{served_file}
+use Rattle.std.proofs.Common.{ap, rules}
+use Rattle.fr_cli.specs.Visits.{comings}
+use Rattle.fr_cli.proofs.ServingLaws.{served_over}
+use Rattle.fr_cli.proofs.VisitLaws.{sink, source}
 use Rattle.fr_cli.proofs.serving.serve.Goals as goal
 
-pub returns-in-Ok-clause-served : goal.returns-in-Ok-clause-served
-returns-in-Ok-clause-served g c =
-    served_file _ _ c.close.result _ _ _ _ _ _ _ _ _ _ _ _ c.serve_office-done.result.0
-    (over c.close.ensures.clean c.serve_office-done.ensures.falls c.in-Ok.ensures.found c.in-Ok.ensures.reads c.close.ensures.book)
-    c.serve_office-done.ensures.served
-
-pub returns-in-Err-clause-served : goal.returns-in-Err-clause-served
-returns-in-Err-clause-served g c = inl (
-  _,
-  refl,
-  not_opened _ _ _ c.in-Err.ensures.refused,
-  refl,
-  Keeps-refl (g.O.Write.contents c.args.out.now),
-  Keeps-refl (g.E.Write.contents c.args.err.now.writer.now),
-)
+pub returns : goal.returns
+returns g c =
+    let came = λ (now : _). comings g.L.Listener (source g.L.Reader.Read g.L.Reader.Source) (sink g.L.Writer.Write g.L.Writer.Sink) c.args.listener.now now in
+    let it = c.over_file.new.errand in
+    let out = g.O.Write.contents in
+    let err = g.E.Write.contents in
+    served_over c.args.service came {l = it.listener.now} {out = out c.args.out.now} {out' = out it.out.now} {a = err c.args.err.now} {b = err it.err.now}
+    (search rules) (search rules) (search rules)
+    (λ same. (ap (λ e. e.listener.now) same, ap (λ e. out e.out.now) same, ap (λ e. err e.err.now) same)) c.over_file.ensures
