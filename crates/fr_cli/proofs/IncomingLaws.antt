@@ -1,6 +1,6 @@
 -- Requests that come in piece by piece: which lines of the input they are.
 use Rattle.std.proofs.Common.{◌≡◌, ℕ, ◌+◌, ◌<◌, ◌≤◌, List, [], ◌∷◌, ◌++◌, length, Option, Some, None, IfSome, Result, Ok, Err, refl, sym, ap, ◌∙◌, subst, append_assoc, append-nil, arith, length-append, inl, inr}
-use Rattle.std.specs.Prelude.{◌⊎◌, OnOk, ⊤}
+use Rattle.std.specs.Prelude.{◌⊎◌, ⊤}
 use Rattle.std.specs.Io.KnownBytes.{Appends, Consumes, IsAtEnd, Keeps}
 use Rattle.std.proofs.KnownBytes.{Appends-nil, Appends-trans, Consumes-nil, Keeps-refl}
 use Rattle.sqlite.specs.Files.{IsCleanLeft}
@@ -14,7 +14,6 @@ use Rattle.fr_world.specs.Held.{Standing}
 use Rattle.fr_cli.specs.Answering.{AnswersLines, BeginWith, GoOnBehind, WasCutShort}
 use Rattle.fr_cli.specs.Guarding.{script_fault_unwatched}
 use Rattle.fr_cli.specs.Incoming.{AreFirstOf, AreFirstOfAll, AreShort, EndsAsking, EndsLines, HasAnswered, WasAsked, HasHeard, HasLongLine, IsAsked, max_line}
-use Rattle.fr_cli.specs.Performing.{of_script}
 use Rattle.fr_cli.specs.Script.{HasNo, max_script, request_lines}
 use Rattle.fr_cli.specs.ScriptFault.{script_fault_of}
 use Rattle.fr_cli.specs.declared.fault.Fault.{Fault}

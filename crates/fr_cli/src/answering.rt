@@ -1,5 +1,5 @@
 //! Answers lines of requests by a desk, one after another.
-ghost use Rattle.std.specs.Prelude.{◌≡◌, IfErr, IfOk};
+ghost use Rattle.std.specs.Prelude.{◌≡◌, IfErr};
 ghost use Rattle.fr_base.specs.Actors.{actor_of};
 ghost use Rattle.fr_http.specs.Connection.{InSound};
 ghost use Rattle.fr_picture.specs.Reports.{AsksDesk};

@@ -1,6 +1,6 @@
 //! Does a job, and says how it ended: what is printed of it, and its status.
-ghost use Rattle.std.specs.Prelude.{◌≡◌, ◌⊎◌, Err, Option, Result, IfErr, ⊤, List, ℕ};
-ghost use Rattle.std.specs.Io.KnownBytes.{Appends, Keeps};
+ghost use Rattle.std.specs.Prelude.{◌≡◌, Err, Result, IfErr, ⊤};
+ghost use Rattle.std.specs.Io.KnownBytes.{Keeps};
 ghost use Rattle.sqlite_wal.specs.Files.{image_at};
 ghost use Rattle.fr_cli.specs.Endings.{IsPrinted, Tells, status_of};
 ghost use Rattle.fr_cli.specs.Faults.{IsNotMigrated};

@@ -1,27 +1,21 @@
 -- Sessions lead from book to book.
-use Rattle.std.proofs.Common.{◌≡◌, ◌⊎◌, inl, inr, List, [], ◌∷◌, ◌++◌, refl, subst, sym}
+use Rattle.std.proofs.Common.{inl, inr, List, [], ◌∷◌, ◌++◌, refl, subst, sym}
 use Rattle.std.proofs.Math.Logic.{∥∥₁_elim, ∥∥₁_map}
-use Rattle.sqlite.specs.Tree.{Trees}
 use Rattle.sqlite_disk.specs.declared.Disk.{Ghosts}
-use Rattle.sqlite_disk.specs.declared.Files.{Files}
 use Rattle.sqlite_wal.specs.Recovery.{Image}
 use Rattle.fr_base.specs.Book.{Book}
 use Rattle.fr_base.specs.Cluster.{Cluster}
 use Rattle.fr_base.specs.Run.{IsRun}
 use Rattle.fr_base.specs.Sound.{IsSound}
-use Rattle.fr_base.specs.Step.{step}
 use Rattle.fr_base.specs.declared.answer.Answer.{Answer}
 use Rattle.fr_base.specs.declared.request.Ask.{Ask}
 use Rattle.fr_desks.specs.FileDesk.{Held}
 use Rattle.fr_desks.specs.Sessions.{AreAllOf, Session, SessionLeads, SessionsAreKept, WasDone}
 use Rattle.fr_desks.proofs.FileDeskLemmas.{left_holds, one_of}
-use Rattle.fr_office.specs.Crashed.{EachBook, IsKept, IsNear, IsOrNext, WasLacking, WereKept}
+use Rattle.fr_office.specs.Crashed.{IsKept, IsOrNext, WasLacking}
 use Rattle.fr_office.specs.Headline.{WereAnswered}
 use Rattle.fr_office.proofs.CrashedLaws.{is_found, near_kept, were_kept}
 use Rattle.fr_office.proofs.RunLaws.{runs_joined, were_answered}
-use Rattle.fr_store.specs.Crashes.{IsForOne}
-use Rattle.fr_store.specs.Store.{IsRegisterFor}
-use Rattle.fr_store.specs.StoreFiles.{database_of}
 use Rattle.fr_world.specs.Held.{Leaving, Standing}
 
 -- where a desk stands for the book of its records, which a crash leaves

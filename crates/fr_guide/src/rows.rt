@@ -1,5 +1,5 @@
 //! The faults of the rows of an import's file.
-ghost use Rattle.std.specs.Prelude.{◌≡◌, ◌∷◌, ◌++◌, ◌≤◌, ◌<◌, ◌+◌, ◌^◌, [], IfOk, OnOk, false, if◌then◌else◌, map};
+ghost use Rattle.std.specs.Prelude.{◌≡◌, ◌∷◌, ◌++◌, ◌<◌, ◌+◌, ◌^◌, [], IfOk, OnOk, false, if◌then◌else◌, map};
 ghost use Rattle.csv.specs.Records.{fields_of};
 ghost use Rattle.fr_base.specs.ImportRows.{records_of};
 ghost use Rattle.fr_base.specs.declared.limits.TheConstants.{MAX_ROWS};

@@ -1,6 +1,6 @@
 //! Records of which some pages are kept in memory, with counts of the imports that suppliers keep.
 //! Pages are lent from there, changed with the records, and let go.
-ghost use Rattle.std.specs.Prelude.{◌≡◌, [], None, IfOk};
+ghost use Rattle.std.specs.Prelude.{◌≡◌, [], None};
 ghost use Rattle.fr_office.specs.KeptPages.{StandsWarm};
 
 use crate::kept::Kept;

@@ -21,7 +21,6 @@ use Rattle.fr_picture.specs.declared.frame_table.DrawnFrame.{DrawnFrame}
 use Rattle.fr_picture.specs.declared.signals.DrawnSignal.{DrawnSignal}
 use Rattle.fr_picture.specs.Frames.{AreDrawn, AreDrawnOf, AreFrames, AreSignals, IsDrawn, IsOfPlan, MayRefusePlan}
 use Rattle.fr_picture.specs.Reports.{MayRefuse, Reads, Reports, Standing, answer_to, asks, with_frames, with_gaps, with_signals}
-use Rattle.fr_picture.proofs.ReportLaws.{refused, reported}
 
 module _ (c : Cluster) (b : Book) (variant : List ℕ) (row : FrameRow) (gap : GapRow) (frame : DrawnFrame) (is : IsDrawn c b variant row gap.gap frame) where
   -- one frame more

@@ -1,5 +1,5 @@
 //! The table of frames: their numbers, placements, greatest gaps and payloads.
-ghost use Rattle.std.specs.Prelude.{◌≡◌, OnErr, OnOk, IfOk, IsPermutation};
+ghost use Rattle.std.specs.Prelude.{◌≡◌, OnErr, OnOk, IsPermutation};
 ghost use Rattle.fr_picture.specs.FrameTables.{AreWorstFirst, KeepTies, frame_text, frames_text, gap_word, names_text, number_text, placement_text, row_start, placement_text_of, placements_text, urgency};
 ghost use Rattle.fr_picture.specs.Texts.{Appends};
 

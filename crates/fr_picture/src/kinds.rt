@@ -1,6 +1,5 @@
 //! The rectangles of one frame in a lane, drawn as one shape with one title.
-ghost use Rattle.std.specs.Prelude.{◌≡◌, ◌+◌, ◌*◌, ◌/◌, ◌<◌, ◌&&◌, nat_lt, filter, max, length, OnOk, IfOk};
-ghost use Rattle.std.specs.List.{list_any};
+ghost use Rattle.std.specs.Prelude.{◌≡◌, ◌+◌, ◌*◌, ◌/◌, ◌<◌, ◌&&◌, filter, max, length, OnOk, IfOk};
 ghost use Rattle.fr_picture.specs.Kinds.{box_text, boxes_text, follows, was_drawn, is_of_same_frame, is_set, is_whole, shape_text, same_frame_text, label_text, names_text, path_text, rectangle_text, rectangles_text, set_of, set_start, set_text, span_text, spans_text, within_text};
 ghost use Rattle.fr_picture.specs.Texts.{Appends};
 

@@ -1,5 +1,5 @@
 //! The suppliers of a page: their colours, and how full their grants are.
-ghost use Rattle.std.specs.Prelude.{◌≡◌, ◌<◌, ◌≤◌, ◌^◌, OnOk, IfOk, length, count_by, map};
+ghost use Rattle.std.specs.Prelude.{◌≡◌, ◌<◌, OnOk, IfOk, map};
 ghost use Rattle.std.specs.List.{position};
 ghost use Rattle.fr_base.specs.Names.{same_text};
 ghost use Rattle.fr_picture.specs.Shares.{holds_text, key_text, legend_text, mark_text, number_of, percent, round_text, share_of, share_text};

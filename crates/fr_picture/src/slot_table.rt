@@ -1,7 +1,6 @@
 //! The table of slots: who holds each lane, what is sent there and in which cycles, and how full
 //! the lane is.
-ghost use Rattle.std.specs.Prelude.{◌≡◌, nat_lt, OnOk};
-ghost use Rattle.std.specs.List.{list_any};
+ghost use Rattle.std.specs.Prelude.{◌≡◌, OnOk};
 ghost use Rattle.fr_picture.specs.SlotTables.{all_sent_text, comma_text, frame_text, head_text, stands_behind_another, lane_name_text, lane_rows_text, load_of, load_text, owner_text, row_text, rows_text, sent_text, slot_table_text, turn_text, when_text};
 ghost use Rattle.fr_picture.specs.Texts.{Appends};
 

@@ -1,5 +1,5 @@
 -- What is left of files in which no database was opened, from what the kit says of it.
-use Rattle.std.proofs.Common.{◌≡◌, ◌≢◌, ◌∙◌, ◌⊎◌, Bool, IfSome, IsTrue, List, None, Option, Some, ℕ, [], ◌∷◌, ap, if◌then◌else◌, inl, inr, refl, sym, subst}
+use Rattle.std.proofs.Common.{◌≡◌, ◌≢◌, ◌∙◌, Bool, IfSome, IsTrue, List, None, Option, Some, ℕ, [], ◌∷◌, ap, if◌then◌else◌, inl, inr, refl, sym, subst}
 use Rattle.sqlite.specs.Files.{AreFoundIn, FailsToOpenFiles, HoldsDatabase, IsCleanLeft, LeavesFiles, image_of}
 use Rattle.sqlite.specs.Tree.{Trees}
 use Rattle.sqlite.specs.declared.error.Error.{Error}

@@ -16,7 +16,7 @@ use Rattle.fr_base.specs.Cluster.{ClusterFile}
 use Rattle.fr_tables.specs.Asking.{AreAsBefore, old_schema_number, our_schema_number}
 use Rattle.fr_store.specs.Opened.{HoldCommitted}
 use Rattle.fr_store.specs.Opening.{Refuses}
-use Rattle.fr_store.specs.Refused.{FindsStill, HoldsStill, IsOther, IsRefusedBy, IsSpared, IsToldBy, IsUnavailable, IsUnopened, Refusing, files_alone, given_back, in_files, makes, makes_closed, migrates, opens, wanting}
+use Rattle.fr_store.specs.Refused.{FindsStill, HoldsStill, IsOther, IsRefusedBy, IsSpared, IsToldBy, IsUnavailable, IsUnopened, Refusing, files_alone, given_back, in_files, makes, makes_closed, migrates, opens}
 use Rattle.fr_store.specs.Store.{Forbids, IsRegisterFor}
 use Rattle.fr_store.specs.StoreFiles.{IsFound, IsHeld, database_of}
 use Rattle.fr_store.specs.declared.fault.StoreFault.{StoreFault}

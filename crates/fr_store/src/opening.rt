@@ -1,19 +1,19 @@
 //! Opens a register that was made before, over any connection.
 
-ghost use Rattle.std.specs.Prelude.{◌≡◌, ◌≢◌, ◌≤◌, ℤ, IsTrue, IfOk, IfErr, IfSome, OnOk, IsPermutation, map, [], ◌∷◌, false, Some};
+ghost use Rattle.std.specs.Prelude.{◌≡◌, ◌≢◌, IsTrue, IfOk, IfErr, IfSome, OnOk, IsPermutation, map, [], ◌∷◌, false, Some};
 ghost use Rattle.sqlite.specs.State.{HasCleanDisk, Survives};
 ghost use Rattle.sqlite.specs.Held.{state};
 ghost use Rattle.fr_base.specs.Cluster.{IsWellFormed};
 ghost use Rattle.fr_tables.specs.Schema.{IsOurs};
-ghost use Rattle.fr_tables.specs.Statements.{shows_register, cluster2_row, shows_cluster2, shows_supplier, shows_variant, every, any_order, suppliers_cmp, variants_cmp};
+ghost use Rattle.fr_tables.specs.Statements.{cluster2_row, shows_cluster2};
 ghost use Rattle.fr_tables.specs.ClusterRows.{shown_supplier};
 ghost use Rattle.fr_tables.specs.Filling.{supplier_row};
 ghost use Rattle.fr_tables.specs.Tables.{HasTables, AreOrdered};
-ghost use Rattle.fr_tables.specs.Changes.{AreListed, tables_of};
+ghost use Rattle.fr_tables.specs.Changes.{tables_of};
 ghost use Rattle.fr_store.specs.Crashes.{Serves};
 ghost use Rattle.fr_store.specs.Reading.{AreOpened, TellsOpened, variant_shown};
 ghost use Rattle.fr_store.specs.Store.{IsRegisterOf, FindsAgain};
-ghost use Rattle.fr_tables.specs.Asking.{AreAsBefore, HasNumber, numbered, number_text, cluster_text, suppliers_text, variants_text};
+ghost use Rattle.fr_tables.specs.Asking.{AreAsBefore};
 ghost use Rattle.fr_store.specs.Opening.{Explains};
 ghost use Rattle.fr_store.specs.declared.fault.StoreFault.TheVariants as fault;
 

@@ -1,5 +1,5 @@
 //! Writes answers as compact JSON.
-ghost use Rattle.std.specs.Prelude.{◌≡◌, ◌++◌, codes, IfOk, OnOk, OnErr};
+ghost use Rattle.std.specs.Prelude.{◌≡◌, ◌++◌, IfOk, OnOk, OnErr};
 ghost use Rattle.fr_text.specs.AnswerText.{text_of, text_of_report, text_of_imported, text_of_plain, text_of_refusal, text_of_replaced, text_of_row};
 ghost use Rattle.fr_base.specs.declared.refusal.Refusal.TheVariants as refused;
 ghost use Rattle.fr_base.specs.Queries.{name_of_rows};

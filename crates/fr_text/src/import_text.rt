@@ -1,6 +1,6 @@
 //! Reads an import's file: comma-separated records. The first is a header, which says what the
 //! others are.
-ghost use Rattle.std.specs.Prelude.{◌≡◌, ◌∷◌, ◌&&◌, ◌+◌, [], map, take, MatchResult, Ok, Err, Some, None, if◌then◌else◌, ◌++◌, true, false, IfOk, OnOk};
+ghost use Rattle.std.specs.Prelude.{◌≡◌, ◌∷◌, ◌+◌, [], map, take, MatchResult, Ok, Err, Some, None, if◌then◌else◌, ◌++◌, true, false, IfOk, OnOk};
 ghost use Rattle.std.specs.Option.{MatchOption};
 ghost use Rattle.std.specs.Result.{is_ok};
 ghost use Rattle.std.specs.Cmp.Lexicographic.{pointwise};

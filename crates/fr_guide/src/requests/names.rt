@@ -1,5 +1,5 @@
 //! The names and keys of a request that have not their form.
-ghost use Rattle.std.specs.Prelude.{◌≡◌, ◌&&◌, IfOk, OnOk, map};
+ghost use Rattle.std.specs.Prelude.{◌≡◌, IfOk, map};
 ghost use Rattle.fr_guide.specs.Faults.{are_none};
 ghost use Rattle.fr_guide.specs.Requests.{formed_in, has_form, have_forms, names_in};
 

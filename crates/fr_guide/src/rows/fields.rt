@@ -4,7 +4,7 @@ ghost use Rattle.std.specs.Result.{is_ok};
 ghost use Rattle.csv.specs.Records.{fields_of};
 ghost use Rattle.fr_base.specs.ImportRows.{number_at, text_at};
 ghost use Rattle.fr_guide.specs.Faults.{are_none};
-ghost use Rattle.fr_guide.specs.Rows.{has_fine_fields, is_fine_frame, is_fine_placement, is_fine_row, is_fine_signal, name_at};
+ghost use Rattle.fr_guide.specs.Rows.{is_fine_frame, is_fine_placement, is_fine_row, is_fine_signal, name_at};
 
 use crate::line_faults::one_fault;
 use crate::shown::shown_bytes;

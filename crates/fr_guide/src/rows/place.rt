@@ -1,6 +1,6 @@
 //! The line of a file in which a byte stands.
 ghost use Rattle.std.specs.Prelude.{◌≡◌, ◌≤◌, ◌<◌, ◌+◌, ◌^◌};
-ghost use Rattle.fr_guide.specs.Rows.{begins_with_feed, ends_line, line_count, line_ends};
+ghost use Rattle.fr_guide.specs.Rows.{ends_line, line_count, line_ends};
 
 /// A place in a file, which moves towards the file's end.
 #[derive(Drop)]

@@ -1,4 +1,4 @@
-use Rattle.std.proofs.Common.{◌≡◌, ◌≢◌, ◌+◌, ◌-◌, suc, true, false, cond, Ok, Err, refl, subst, arith, rules}
+use Rattle.std.proofs.Common.{◌≡◌, ◌≢◌, ◌+◌, ◌-◌, suc, true, false, cond, Err, refl, subst, arith, rules}
 use Rattle.std.proofs.KnownBytes.{Keeps-trans}
 use Rattle.std.specs.IoError.{error_kind}
 use Rattle.fr_http.specs.declared.fault.LinkFault.TheVariants.{ReadFailed}
