@@ -19,7 +19,7 @@ use Rattle.sqlite_wal.specs.Recovery.{Image}
 use Rattle.fr_cli.specs.Asked.{asked_by}
 use Rattle.fr_cli.specs.Asking.{IsAnswer, IsForReader, IsRefusedBy, IsToldBy, Leads, Prints, asked_with, query_of}
 use Rattle.fr_cli.specs.Outcomes.{outcome_of}
-use Rattle.fr_cli.specs.Faults.{IsNotReported, IsNotSent}
+use Rattle.fr_cli.specs.Faults.{IsNotGiven, IsNotReported}
 use Rattle.fr_cli.specs.Keys.{IsKeyGiven}
 use Rattle.fr_cli.specs.Performing.{Says}
 use Rattle.fr_cli.specs.Queries.{reader_of}
@@ -104,13 +104,13 @@ module _ {D : Type 0} {g : Ghosts D} {held : Image} {rest : Option (Leftover D g
     -- so what is printed of the answer to a delivery, by who has the key that is given
     pub given_over : (delivery : Delivery) (input left : Option (List ℕ)) (key body : Bor (List ℕ)) → IsKeyGiven delivery.key.now input left key.now
         → IsDoneOver held rest is_clean stands (λ fault of. of ≡ failure.Fault fault) same (tells (telling.Answer key delivery body)) done
-        → Says (IsNotSent held rest delivery body.now input left) (IsAnswerToGiven held rest delivery.key.now (request_with delivery body.now) input left) done
+        → Says (IsNotGiven held rest delivery.key.now (request_with delivery body.now) input left) (IsAnswerToGiven held rest delivery.key.now (request_with delivery body.now) input left) done
     given_over delivery input left key body given is =
         let asks = asked_with key.now (request_with delivery body.now) in
-        done_over failure.Fault (Says (IsNotSent held rest delivery body.now input left) (IsAnswerToGiven held rest delivery.key.now (request_with delivery body.now) input left))
-        (tells (telling.Answer key delivery body)) is (λ fault not kept. inr (inl (key.now, given, inl not)))
+        done_over failure.Fault (Says (IsNotGiven held rest delivery.key.now (request_with delivery body.now) input left) (IsAnswerToGiven held rest delivery.key.now (request_with delivery body.now) input left))
+        (tells (telling.Answer key delivery body)) is (λ fault not kept. inl (key.now, given, inl not))
         (λ last clean old new over did. prints_says _ _ _ _ (λ answer told. (key.now, given, asks_file over asks answer told))
-        (inr (inl (key.now, given, inr (refl, leads_file over asks did.1)))) did.0)
+        (inl (key.now, given, inr (refl, leads_file over asks did.1))) did.0)
 
 -- the same was asked by the same
 pub asks_same : (clean : Type 0) (old new : Standing) (by who : Option Actor) (request asks : Request) (answer : Answer) → by ≡ who → request ≡ asks

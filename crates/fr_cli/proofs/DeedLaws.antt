@@ -207,12 +207,11 @@ module _ {D : Type 0} {g : Ghosts D} (held : Image) (rest : Option (Leftover D g
     not_delivered : (db : Bor (List ℕ)) (delivery : Delivery) (fault : Fault) → comings.none → Shows (Err (failure.Fault fault)) s status
         → IsNotDelivered held rest read delivery s.input.old s.input.new fault → Leading (job.Deliver db delivery)
     not_delivered db delivery fault none shown (inl (unread, nothing)) = inl (fault, inl nothing, shown, none)
-    not_delivered db delivery fault none shown (inr (body, front, inl (lacks, nothing))) = inl (fault, inl nothing, shown, none)
-    not_delivered db delivery fault none shown (inr (body, front, inr (inl (key, given, inl not)))) = inl (fault, inr not, shown, none)
-    not_delivered db delivery fault none shown (inr (body, front, inr (inl (key, given, inr (lacks, leads))))) =
+    not_delivered db delivery fault none shown (inr (body, front, inl (key, given, inl not))) = inl (fault, inr not, shown, none)
+    not_delivered db delivery fault none shown (inr (body, front, inl (key, given, inr (lacks, leads)))) =
         let asks = asked_with key (request_with delivery body) in
         led (job.Deliver db delivery) (Asked asks None) ((body, key, front, given, refl), lacking fault lacks shown) (unanswered_leads asks leads)
-    not_delivered db delivery fault none shown (inr (body, front, inr (inr (dash, of, nothing)))) = inl (fault, inl nothing, shown, none)
+    not_delivered db delivery fault none shown (inr (body, front, inr (dash, of, nothing))) = inl (fault, inl nothing, shown, none)
 
     delivered : (db : Bor (List ℕ)) (delivery : Delivery) (done : Result (Vec ℕ) Failure) (a : Answer) → Shows done s status → Says (λ fault. ⊥) (λ told. told ≡ a) done
         → IsDeliveryToFile held rest read delivery s.input.old s.input.new a → Leading (job.Deliver db delivery)

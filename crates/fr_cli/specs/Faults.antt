@@ -14,7 +14,7 @@ use Rattle.fr_base.specs.declared.request.Request.{Request}
 use Rattle.fr_desks.specs.FileDesk.{BarsMigration}
 use Rattle.fr_cli.specs.Asking.{asked_with}
 use Rattle.fr_cli.specs.Deliveries.{request_with}
-use Rattle.fr_cli.specs.Keys.{IsKeyGiven}
+use Rattle.fr_cli.specs.Keys.{IsKeyGiven, IsKeyUnread}
 use Rattle.fr_cli.specs.RegisterFiles.{LeadsInFile, StaysInFile}
 use Rattle.fr_cli.specs.ScriptFault.{script_fault_of, script_fault_word}
 use Rattle.fr_cli.specs.Texts.{IsClusterAt, IsUnread, Readings, max_config, max_rows}
@@ -112,20 +112,15 @@ module _ {D : Type 0} {g : Ghosts D} (held : Image) (rest : Option (Leftover D g
   IsNotAnswered asks fault = IsNotOpened fault ⊎ ((fault ≡ NoMemory) × LeadsInFile held rest asks)
 
   -- For this no answer is given to what is asked as who has the key that is given: it is not answered; or the key that stands on
-  -- standard input cannot be read, and then the register's file is not opened.
+  -- standard input is not read, and then the register's file is not opened.
   abbrev pub IsNotGiven : List ℕ → Request → Option (List ℕ) → Option (List ℕ) → Fault → Type 0
   IsNotGiven word request input left fault =
       ((key : List ℕ) × IsKeyGiven word input left key × IsNotAnswered (asked_with key request) fault)
-      ⊎ ((word ≡ codes "-") × ((of : InputFault) × (fault ≡ Script (script_fault_of of))) × (rest ≡ None))
-
-  -- For this a file of rows with these bytes is not delivered: memory is wanting for its request, and then the register's file is not
-  -- opened; or no answer is given to its request.
-  abbrev pub IsNotSent : Delivery → List ℕ → Option (List ℕ) → Option (List ℕ) → Fault → Type 0
-  IsNotSent delivery body input left fault = ((fault ≡ NoMemory) × (rest ≡ None))
-      ⊎ IsNotGiven delivery.key.now (request_with delivery body) input left fault
+      ⊎ ((word ≡ codes "-") × ((of : InputFault) × (fault ≡ Script (script_fault_of of)) × IsKeyUnread input of) × (rest ≡ None))
 
   -- For this the file of rows at the path is not delivered: it cannot be read, and then the register's file is not opened; or it
-  -- was read, and what was read is not delivered.
+  -- was read, and no answer is given to its request.
   abbrev pub IsNotDelivered : Readings → Delivery → Option (List ℕ) → Option (List ℕ) → Fault → Type 0
   IsNotDelivered read delivery input left fault = (IsUnread read delivery.file.now fault × (rest ≡ None))
-      ⊎ ((body : List ℕ) × read.front max_rows delivery.file.now body × IsNotSent delivery body input left fault)
+      ⊎ ((body : List ℕ) × read.front max_rows delivery.file.now body
+        × IsNotGiven delivery.key.now (request_with delivery body) input left fault)

@@ -4,7 +4,7 @@ ghost use Rattle.std.specs.Io.KnownBytes.{Keeps};
 ghost use Rattle.std.specs.Str.Lines.{lines};
 ghost use Rattle.sqlite_wal.specs.Files.{image_at};
 ghost use Rattle.fr_cli.specs.Deliveries.{request_with};
-ghost use Rattle.fr_cli.specs.Faults.{IsNotDelivered, IsNotSent};
+ghost use Rattle.fr_cli.specs.Faults.{IsNotDelivered, IsNotGiven};
 ghost use Rattle.fr_cli.specs.Keys.{first_of};
 ghost use Rattle.fr_cli.specs.Performing.{Says};
 ghost use Rattle.fr_cli.specs.RegisterFiles.{IsAnswerToGiven, IsDeliveryToFile};
@@ -70,8 +70,8 @@ fn deliver<S: Start, R: Read>(
     body: &[u8],
     input: &mut R,
 ) -> (Result<Vec<u8>, Failure>, Left<S>)
-    ensures says { Says (IsNotSent (image_at S.Start) result.1 delivery.entry body.now
-        (R.remaining input.old) (R.remaining input.new))
+    ensures says { Says (IsNotGiven (image_at S.Start) result.1 delivery.entry.key.now
+        (request_with delivery.entry body.now) (R.remaining input.old) (R.remaining input.new))
         (IsAnswerToGiven (image_at S.Start) result.1 delivery.entry.key.now
         (request_with delivery.entry body.now) (R.remaining input.old) (R.remaining input.new))
         result.0 }

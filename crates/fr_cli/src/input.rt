@@ -121,6 +121,7 @@ pub fn read_line<R: Read>(
 ) -> Result<Vec<u8>, InputFault>
     ensures line { IfOk result (λ front. ReadsLine R.Read reader.old reader.new front.items) }
     ensures bound { IfOk result (λ front. vec_len front ≤ bounds.bytes) }
+    ensures too_long { IsErrOf result TooLong → Exceeds R.Read reader.old bounds.bytes }
     ensures taken { TakesFront R.Read reader.old reader.new }
 {
     let mut front = Vec::new(alloc);

@@ -1,7 +1,7 @@
 use Rattle.std.proofs.Common.{List, ℕ, inl, inr, refl, subst}
 use Rattle.sqlite_wal.specs.Files.{image_at}
 use Rattle.fr_cli.specs.Deliveries.{request_with}
-use Rattle.fr_cli.specs.Faults.{IsNotSent}
+use Rattle.fr_cli.specs.Faults.{IsNotGiven}
 use Rattle.fr_cli.specs.Performing.{Says}
 use Rattle.fr_cli.specs.RegisterFiles.{IsAnswerToGiven}
 use Rattle.fr_cli.proofs.AskingLaws.{says_more}
@@ -9,7 +9,7 @@ use Rattle.fr_cli.proofs.delivered_file.deliver_file.Goals as goal
 
 pub returns-in-Ok-clause-says : goal.returns-in-Ok-clause-says
 returns-in-Ok-clause-says g c =
-    let said = subst (λ (b : List ℕ). Says (IsNotSent (image_at g.S.Start) c.deliver.result.1 c.args.delivery b
+    let said = subst (λ (b : List ℕ). Says (IsNotGiven (image_at g.S.Start) c.deliver.result.1 c.args.delivery.key.now (request_with c.args.delivery b)
     (g.R.Read.remaining c.args.input.now) (g.R.Read.remaining c.deliver.new.input))
     (IsAnswerToGiven (image_at g.S.Start) c.deliver.result.1 c.args.delivery.key.now (request_with c.args.delivery b)
     (g.R.Read.remaining c.args.input.now) (g.R.Read.remaining c.deliver.new.input)) c.deliver.result.0) c.deref.ensures.value c.deliver.ensures.says in
