@@ -41,7 +41,7 @@ pub trait Listener {
         ensures ok { IfOk result (λ made. accepts self.old seconds made.0 made.1 self.new) }
         ensures err { OnErr result (ends self.old × (self.new ≡ self.old)) };
 
-    /// Closes the connection, by how it was served. What its client sent behind its request may be read before.
+    /// Closes the connection. How it was served decides whether what its client sent behind its request is read first.
     fn close(
         &mut self,
         reader: Self::Reader,

@@ -14,13 +14,13 @@ use sqlite::Start;
 pub(crate) trait Errand {
     ghost use Rattle.fr_cli.specs.Errands.{Doing};
 
-    /// What is had of it, where it is done.
+    /// What it gives, where it is done.
     type Done;
 
     /// Why it is not done.
     type Fault: From<Fault>;
 
-    /// What it does, by what the errand was and is.
+    /// What is done with the register, by the errand as it was before and as it is behind that.
     ghost does: { Self → Self → Doing Self.Done Self.Fault };
 
     /// Does it with the register, whose file is at `db`, and gives the register back.

@@ -119,8 +119,8 @@ impl<'a> Watch<'a> {
         Ok(Watch { rt, db, seen })
     }
 
-    /// Takes the files' lengths and times as they are now: what was written to them is the register's own. Which files
-    /// they are stays as it was seen first, so that one that was put in another's place stays another.
+    /// Takes the files' lengths and times as they are now, since the register itself wrote to them. It keeps which files
+    /// were seen first. So a file that was put in the place of one of these is still told from it.
     pub fn note_own_writes(&mut self)
         ensures db { let seen = self.old.seen.db in let now = self.new.seen.db in
             (now.device ≡ seen.device) × (now.inode ≡ seen.inode) }

@@ -1,8 +1,8 @@
 //! What gives the bytes of a connection.
 use std::io::{self, Read};
 
-/// Gives bytes, a read at a time. What a connection is proved to do, it is proved to do at each source, whatever its reads come
-/// to; so it makes those that its clauses tell, and no others.
+/// Gives bytes, a read at a time. The contract of a connection is proved for each source, whatever its reads give. So the
+/// clauses count these reads, and know of no others.
 pub trait Source: Read {
     ghost use Rattle.std.specs.Prelude.{ℕ, List, Result};
     ghost use Rattle.std.specs.Io.{ReadsAtMost};
