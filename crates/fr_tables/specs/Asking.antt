@@ -1,15 +1,18 @@
 -- Asking: the schema numbers of this version and of the one before, and when tables of either say a
 -- number. What is asked of tables before they are known. For a database of any schema: when a text
 -- is a query of it, which answer the query has, and whether the database says a number when it is
--- asked for that of its schema.
-use Rattle.std.specs.Prelude.{◌≡◌, ◌≢◌, ◌⊎◌, ℕ, ℤ, pos, List, [], ◌∷◌, codes, None, Ok, IsTrue}
+-- asked for that of its schema. What a call says of itself that looks at tables and leaves them as
+-- they are.
+use Rattle.std.specs.Prelude.{◌≡◌, ◌≢◌, ◌⊎◌, ℕ, ℤ, pos, List, [], ◌∷◌, codes, false, None, Ok, IsTrue}
 use Rattle.sqlite.specs.Clock.{timed}
 use Rattle.sqlite.specs.Effect.{Database, Reads}
+use Rattle.sqlite.specs.Held.{Held, state}
 use Rattle.sqlite.specs.Listing.{reads_listing, understood, IsSourceOf}
 use Rattle.sqlite.specs.Order.{Row}
 use Rattle.sqlite.specs.Schema.{Schema}
-use Rattle.sqlite.specs.State.{State}
+use Rattle.sqlite.specs.State.{State, HasCleanDisk, Survives}
 use Rattle.sqlite_resolve.specs.declared.compiled.Compiled.{Compiled}
+use Rattle.sqlite_trees.specs.declared.store.Store.{Ghosts}
 use Rattle.fr_tables.specs.Rows.{RegisterRow}
 use Rattle.fr_tables.specs.Statements.{shows_register}
 use Rattle.fr_tables.specs.Tables.{HasSomeTables, tables_in}
@@ -69,3 +72,13 @@ SaysNumber db n = Answers number_text db (shows_register (numbered n) ∷ [])
 -- The database cannot be asked for the number of its schema, or does not answer with one number.
 abbrev pub SaysNoNumber : Database → Type 0
 SaysNoNumber db = (¬ IsQuery db.schema number_text) ⊎ ((rows : List Row) × Answers number_text db rows × ((n : ℤ) → rows ≢ shows_register (numbered n) ∷ []))
+
+-- ---- calls
+
+-- A call outside a transaction tells this of what the connection shows, and leaves its tables as
+-- they were. All is committed after it, and a crash leaves nothing of it.
+pub record Looks {S R : Type 0} (g : Ghosts S) (Does : State → State → R → Type 0) (old new : Held S) (r : R) : Type 0 where
+  pub does : Does (state g old) (state g new) r
+  pub same : HasCleanDisk (state g new) → AreAsBefore (state g old) (state g new)
+  pub autocommit : new.in_transaction ≡ false
+  pub survives : Survives (state g old) (state g new) (λ _. ⊥)
