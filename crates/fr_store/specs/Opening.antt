@@ -1,15 +1,22 @@
 -- Opening: why a database is not opened or not migrated, whatever its schema. Why files are not,
 -- and why no register is made in them, whatever they hold. What is found in files that are
--- migrated, or in which a register is made.
-use Rattle.std.specs.Prelude.{◌≡◌, ◌≢◌, ◌⊎◌, ℤ, IsTrue, ⊤}
+-- migrated, or in which a register is made. What calls find over a connection whose tables are not
+-- known yet.
+use Rattle.std.specs.Prelude.{◌≡◌, ◌≢◌, ◌⊎◌, ℤ, [], ◌∷◌, map, Bool, Option, Result, IfErr, IfOk, IfSome, IsPermutation, IsTrue, OnOk, ⊤}
 use Rattle.sqlite.specs.Effect.{Database}
 use Rattle.sqlite.specs.Files.{HoldsDatabase}
+use Rattle.sqlite.specs.State.{State, HasCleanDisk}
 use Rattle.sqlite.specs.Tree.{Trees}
 use Rattle.sqlite_wal.specs.Recovery.{Image}
-use Rattle.fr_tables.specs.Schema.{schema_of}
-use Rattle.fr_tables.specs.Tables.{HasOldTables, HasSomeTables}
+use Rattle.fr_base.specs.Cluster.{ClusterFile, IsWellFormed}
 use Rattle.fr_tables.specs.Asking.{our_schema_number, old_schema_number, HasNumber, SaysNumber, SaysNoNumber}
-use Rattle.fr_store.specs.Store.{has_table}
+use Rattle.fr_tables.specs.Changes.{tables_of}
+use Rattle.fr_tables.specs.Filling.{supplier_row}
+use Rattle.fr_tables.specs.Schema.{schema_of, IsOurs}
+use Rattle.fr_tables.specs.Statements.{cluster2_row}
+use Rattle.fr_tables.specs.Tables.{AreOrdered, HasOldTables, HasSomeTables, HasTables}
+use Rattle.fr_store.specs.Reading.{TellsOpened}
+use Rattle.fr_store.specs.Store.{IsRegisterOf, has_table}
 use Rattle.fr_store.specs.StoreFiles.{IsFound}
 use Rattle.fr_store.specs.declared.fault.StoreFault.{StoreFault}
 use Rattle.fr_store.specs.declared.fault.StoreFault.TheVariants.{NotEmpty, NotARegister, WrongSchema, Unavailable}
@@ -53,3 +60,33 @@ ForbidsFiles image Unavailable = ⊤
 -- view.
 abbrev pub AllowsCreation : Image → Type 0
 AllowsCreation image = (db : Database) × IsFound image db × (db.schema ≡ schema_of 0 0)
+
+-- ---- calls over a connection whose tables are not known yet
+
+-- The tables say this number of their schema, or the refusal tells why they do not.
+pub record ExpectsNumber (wanted : ℤ) (old new : State) (r : Result ⊤ StoreFault) : Type 0 where
+  pub found : HasCleanDisk new → OnOk r (HasSomeTables old.now → HasNumber old.now wanted)
+  pub told : HasCleanDisk new → IfErr r (Refuses wanted old.now)
+  pub not_made : IfErr r (λ fault. fault ≢ NotEmpty)
+
+-- Where the answer is yes, a register can have the variants that the tables tell.
+abbrev pub FindsVariants : State → State → Bool → Type 0
+FindsVariants old new r = HasCleanDisk new → IsTrue new.is_open → HasTables new.now → IsTrue r → TellsOpened (tables_of new)
+
+-- The config that was found is the one that the tables tell, and a register can have their variants.
+pub record FindsConfig (old new : State) (found : Option ClusterFile) : Type 0 where
+  pub cluster : HasCleanDisk new → IsTrue new.is_open → HasTables old.now → IfSome found (λ c. (tables_of old).cluster2 ≡ cluster2_row c.cluster.params c.cluster.integrator ∷ [])
+  pub suppliers : HasCleanDisk new → IsTrue new.is_open → HasTables old.now → IfSome found (λ c. IsPermutation (map supplier_row c.suppliers) (tables_of old).suppliers)
+  pub variants : HasCleanDisk new → IsTrue new.is_open → HasTables new.now → IfSome found (λ _. TellsOpened (tables_of new))
+  pub formed : IfSome found IsWellFormed
+
+-- The config is that of the register that has these tables, or the refusal tells why none is opened
+-- on them.
+pub record ReadsConfig (old new : State) (r : Result ClusterFile StoreFault) : Type 0 where
+  pub formed : IfOk r IsWellFormed
+  pub ours : OnOk r (IsOurs new.now.schema)
+  pub stands : HasCleanDisk new → AreOrdered old.now.trees → IfOk r (λ c. IsRegisterOf c new.now)
+  pub variants : HasCleanDisk new → HasTables new.now → OnOk r (TellsOpened (tables_of new))
+  pub is_open : HasCleanDisk new → OnOk r (IsTrue new.is_open)
+  pub told : HasCleanDisk new → IfErr r (Explains old.now)
+  pub not_made : IfErr r (λ fault. fault ≢ NotEmpty)

@@ -1,20 +1,19 @@
 //! Opens a register that was made before, over any connection.
 
-ghost use Rattle.std.specs.Prelude.{◌≡◌, ◌≢◌, IsTrue, IfOk, IfErr, IfSome, OnOk, IsPermutation, map, [], ◌∷◌, false, Some};
+ghost use Rattle.std.specs.Prelude.{◌≡◌, ◌≢◌, IsTrue, IfOk, IfErr, IfSome, map, [], ◌∷◌, false};
 ghost use Rattle.sqlite.specs.State.{HasCleanDisk, Survives};
 ghost use Rattle.sqlite.specs.Held.{state};
 ghost use Rattle.fr_base.specs.Cluster.{IsWellFormed};
+ghost use Rattle.fr_tables.specs.Asking.{AreAsBefore, Looks};
+ghost use Rattle.fr_tables.specs.Changes.{tables_of};
+ghost use Rattle.fr_tables.specs.ClusterRows.{shown_supplier};
 ghost use Rattle.fr_tables.specs.Schema.{IsOurs};
 ghost use Rattle.fr_tables.specs.Statements.{cluster2_row, shows_cluster2};
-ghost use Rattle.fr_tables.specs.ClusterRows.{shown_supplier};
-ghost use Rattle.fr_tables.specs.Filling.{supplier_row};
 ghost use Rattle.fr_tables.specs.Tables.{HasTables, AreOrdered};
-ghost use Rattle.fr_tables.specs.Changes.{tables_of};
 ghost use Rattle.fr_store.specs.Crashes.{Serves};
+ghost use Rattle.fr_store.specs.Opening.{Explains, FindsConfig, FindsVariants, ReadsConfig};
 ghost use Rattle.fr_store.specs.Reading.{AreOpened, TellsOpened, variant_shown};
 ghost use Rattle.fr_store.specs.Store.{IsRegisterOf, FindsAgain};
-ghost use Rattle.fr_tables.specs.Asking.{AreAsBefore};
-ghost use Rattle.fr_store.specs.Opening.{Explains};
 ghost use Rattle.fr_store.specs.declared.fault.StoreFault.TheVariants as fault;
 
 use crate::fault::StoreFault;
@@ -32,13 +31,7 @@ use std::alloc::Global;
 /// another of them. Want of memory counts as no.
 fn has_opened_variants<S: Alter>(alloc: Global, conn: &mut Connection<S>) -> bool
     requires { conn.old.in_transaction ≡ false }
-    ensures opened { HasCleanDisk (state S.Store conn.new) → IsTrue (state S.Store conn.new).is_open
-        → HasTables (state S.Store conn.new).now → IsTrue result
-        → TellsOpened (tables_of (state S.Store conn.new)) }
-    ensures same { HasCleanDisk (state S.Store conn.new)
-        → AreAsBefore (state S.Store conn.old) (state S.Store conn.new) }
-    ensures autocommit { conn.new.in_transaction ≡ false }
-    ensures survives { Survives (state S.Store conn.old) (state S.Store conn.new) (λ _. ⊥) }
+    ensures { Looks S.Store FindsVariants conn.old conn.new result }
 {
     match ask_and_undo(
         conn,
@@ -53,22 +46,7 @@ fn has_opened_variants<S: Alter>(alloc: Global, conn: &mut Connection<S>) -> boo
 /// variants, or for want of memory.
 fn config<S: Alter>(alloc: Global, conn: &mut Connection<S>) -> Option<Config>
     requires { conn.old.in_transaction ≡ false }
-    ensures cluster { HasCleanDisk (state S.Store conn.new)
-        → IsTrue (state S.Store conn.new).is_open → HasTables (state S.Store conn.old).now
-        → IfSome result (λ c. (tables_of (state S.Store conn.old)).cluster2
-        ≡ cluster2_row c.cluster.params c.cluster.integrator ∷ []) }
-    ensures suppliers { HasCleanDisk (state S.Store conn.new)
-        → IsTrue (state S.Store conn.new).is_open → HasTables (state S.Store conn.old).now
-        → IfSome result (λ c. IsPermutation (map supplier_row c.suppliers)
-        (tables_of (state S.Store conn.old)).suppliers) }
-    ensures variants { HasCleanDisk (state S.Store conn.new)
-        → IsTrue (state S.Store conn.new).is_open → HasTables (state S.Store conn.new).now
-        → IfSome result (λ _. TellsOpened (tables_of (state S.Store conn.new))) }
-    ensures formed { IfSome result IsWellFormed }
-    ensures same { HasCleanDisk (state S.Store conn.new)
-        → AreAsBefore (state S.Store conn.old) (state S.Store conn.new) }
-    ensures autocommit { conn.new.in_transaction ≡ false }
-    ensures survives { Survives (state S.Store conn.old) (state S.Store conn.new) (λ _. ⊥) }
+    ensures { Looks S.Store FindsConfig conn.old conn.new result }
 {
     let Ok(cluster) = ask_and_undo(
         conn,
@@ -109,23 +87,7 @@ const NUMBER: i64 = 2;
 /// The config of the register that has these tables, or why no register is opened on them.
 fn read_config<S: Alter>(alloc: Global, conn: &mut Connection<S>) -> Result<Config, StoreFault>
     requires { conn.old.in_transaction ≡ false }
-    ensures formed { IfOk result IsWellFormed }
-    ensures ours { OnOk result (IsOurs (state S.Store conn.new).now.schema) }
-    ensures stands { HasCleanDisk (state S.Store conn.new)
-        → AreOrdered (state S.Store conn.old).now.trees
-        → IfOk result (λ c. IsRegisterOf c (state S.Store conn.new).now) }
-    ensures variants { HasCleanDisk (state S.Store conn.new)
-        → HasTables (state S.Store conn.new).now
-        → OnOk result (TellsOpened (tables_of (state S.Store conn.new))) }
-    ensures open { HasCleanDisk (state S.Store conn.new)
-        → OnOk result (IsTrue (state S.Store conn.new).is_open) }
-    ensures told { HasCleanDisk (state S.Store conn.new)
-        → IfErr result (Explains (state S.Store conn.old).now) }
-    ensures not_made { IfErr result (λ e. e ≢ fault.NotEmpty) }
-    ensures same { HasCleanDisk (state S.Store conn.new)
-        → AreAsBefore (state S.Store conn.old) (state S.Store conn.new) }
-    ensures autocommit { conn.new.in_transaction ≡ false }
-    ensures survives { Survives (state S.Store conn.old) (state S.Store conn.new) (λ _. ⊥) }
+    ensures { Looks S.Store ReadsConfig conn.old conn.new result }
 {
     expect_number(conn, NUMBER)?;
     let Some(config) = config(alloc, conn) else {

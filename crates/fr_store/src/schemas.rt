@@ -1,15 +1,13 @@
 //! Whether tables are of this schema, or of the one before.
 
-ghost use Rattle.std.specs.Prelude.{◌≡◌, ◌≢◌, IsTrue, IfOk, IfErr, IfSome, OnOk, ◌<◌, None, false, ◌≤◌};
-ghost use Rattle.sqlite.specs.State.{HasCleanDisk, Survives};
+ghost use Rattle.std.specs.Prelude.{◌≡◌, IsTrue, IfOk, IfSome, OnOk, ◌<◌, None, false, ◌≤◌};
+ghost use Rattle.sqlite.specs.State.{HasCleanDisk};
 ghost use Rattle.sqlite.specs.Held.{state};
 ghost use Rattle.sqlite_trees.specs.View.{doubt};
-ghost use Rattle.fr_tables.specs.Asking.{AreAsBefore, HasNumber};
+ghost use Rattle.fr_tables.specs.Asking.{Looks};
 ghost use Rattle.fr_tables.specs.Making.{IsFresh};
 ghost use Rattle.fr_tables.specs.Schema.{IsOurs, IsOld, register_schema, old_schema, layout_made};
-ghost use Rattle.fr_tables.specs.Tables.{HasSomeTables};
-ghost use Rattle.fr_store.specs.Opening.{Refuses};
-ghost use Rattle.fr_store.specs.declared.fault.StoreFault.TheVariants as fault;
+ghost use Rattle.fr_store.specs.Opening.{ExpectsNumber};
 
 use crate::fault::StoreFault;
 use fr_tables::asking::number;
@@ -197,16 +195,7 @@ pub(crate) fn expect_number<S: Alter>(
     wanted: i64,
 ) -> Result<(), StoreFault>
     requires { conn.old.in_transaction ≡ false }
-    ensures found { HasCleanDisk (state S.Store conn.new)
-        → OnOk result (HasSomeTables (state S.Store conn.old).now
-        → HasNumber (state S.Store conn.old).now wanted) }
-    ensures told { HasCleanDisk (state S.Store conn.new)
-        → IfErr result (Refuses wanted (state S.Store conn.old).now) }
-    ensures not_made { IfErr result (λ e. e ≢ fault.NotEmpty) }
-    ensures same { HasCleanDisk (state S.Store conn.new)
-        → AreAsBefore (state S.Store conn.old) (state S.Store conn.new) }
-    ensures autocommit { conn.new.in_transaction ≡ false }
-    ensures survives { Survives (state S.Store conn.old) (state S.Store conn.new) (λ _. ⊥) }
+    ensures { Looks S.Store (ExpectsNumber wanted) conn.old conn.new result }
 {
     match number(conn) {
         Ok(Some(n)) if n == wanted => Ok(()),

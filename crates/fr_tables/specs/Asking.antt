@@ -3,7 +3,10 @@
 -- is a query of it, which answer the query has, and whether the database says a number when it is
 -- asked for that of its schema. What a call says of itself that looks at tables and leaves them as
 -- they are.
-use Rattle.std.specs.Prelude.{◌≡◌, ◌≢◌, ◌⊎◌, ℕ, ℤ, pos, List, [], ◌∷◌, codes, false, None, Ok, IsTrue}
+use Rattle.std.specs.Prelude.{◌≡◌, ◌≢◌, ◌⊎◌, ℕ, ℤ, pos, List, [], ◌∷◌, codes, false, map, Option, None, Some, Result, Ok, IfOk, IfErr, IfSome, IsPermutation, IsTrue, Vec}
+use Rattle.std.specs.declared.alloc.Global.{Global}
+use Rattle.sqlite.specs.declared.error.Error.{Error}
+use Rattle.sqlite.specs.declared.error.Error.TheVariants.{SqlInputError}
 use Rattle.sqlite.specs.Clock.{timed}
 use Rattle.sqlite.specs.Effect.{Database, Reads}
 use Rattle.sqlite.specs.Held.{Held, state}
@@ -13,9 +16,10 @@ use Rattle.sqlite.specs.Schema.{Schema}
 use Rattle.sqlite.specs.State.{State, HasCleanDisk, Survives}
 use Rattle.sqlite_resolve.specs.declared.compiled.Compiled.{Compiled}
 use Rattle.sqlite_trees.specs.declared.store.Store.{Ghosts}
+use Rattle.fr_tables.specs.Changes.{AreListed, tables_of}
 use Rattle.fr_tables.specs.Rows.{RegisterRow}
-use Rattle.fr_tables.specs.Statements.{shows_register}
-use Rattle.fr_tables.specs.Tables.{HasSomeTables, tables_in}
+use Rattle.fr_tables.specs.Statements.{shows_register, shows_cluster2, shows_supplier, shows_variant, every, any_order, suppliers_cmp, variants_cmp}
+use Rattle.fr_tables.specs.Tables.{HasTables, HasSomeTables, tables_in}
 
 -- the schema number that this version reads and writes
 abbrev pub our_schema_number : ℤ
@@ -82,3 +86,22 @@ pub record Looks {S R : Type 0} (g : Ghosts S) (Does : State → State → R →
   pub same : HasCleanDisk (state g new) → AreAsBefore (state g old) (state g new)
   pub autocommit : new.in_transaction ≡ false
   pub survives : Survives (state g old) (state g new) (λ _. ⊥)
+
+-- What the answer to a text says of the tables. A text that this version asks is answered with the
+-- rows of its table, where that is there.
+pub record AnswersText (text : List ℕ) (old new : State) (r : Result (Vec Row Global) Error) : Type 0 where
+  pub number : HasCleanDisk new → text ≡ number_text → HasSomeTables old.now → IfOk r (λ rows. IsPermutation (map shows_register (tables_of old).register) rows.items)
+  pub told : HasCleanDisk new → text ≡ number_text → HasSomeTables old.now → IfErr r (λ e. (x : _) → e ≢ SqlInputError x)
+  pub answer : HasCleanDisk new → IfOk r (λ rows. Answers text old.now rows.items)
+  pub unread : HasCleanDisk new → IfErr r (λ e. (x : _) → e ≡ SqlInputError x → ¬ IsQuery old.now.schema text)
+  pub cluster : HasCleanDisk new → text ≡ cluster_text → HasTables old.now → IfOk r (λ rows. AreListed shows_cluster2 every any_order (tables_of old).cluster2 rows.items)
+  pub suppliers : HasCleanDisk new → text ≡ suppliers_text → HasTables old.now → IfOk r (λ rows. AreListed shows_supplier every suppliers_cmp (tables_of old).suppliers rows.items)
+  pub variants : HasCleanDisk new → text ≡ variants_text → HasTables old.now → IfOk r (λ rows. AreListed shows_variant every variants_cmp (tables_of old).variants rows.items)
+
+-- The number that was found is the one that the database says. None was found only where it says
+-- none.
+pub record FindsNumber (old new : State) (r : Result (Option ℤ) Error) : Type 0 where
+  pub some : HasCleanDisk new → IfOk r (λ found. IfSome found (λ n. HasSomeTables old.now → HasNumber old.now n))
+  pub found : HasCleanDisk new → IfOk r (λ found. (n : ℤ) → HasNumber old.now n → found ≡ Some n)
+  pub says : HasCleanDisk new → IfOk r (λ found. IfSome found (SaysNumber old.now))
+  pub silent : HasCleanDisk new → IfOk r (λ found. found ≡ None → SaysNoNumber old.now)

@@ -51,7 +51,7 @@ pub returns-in_err-expect_number-clause-known : goal.returns-in_err-expect_numbe
 returns-in_err-expect_number-clause-known g c clean cluster b stands =
     let is : c.from_residual.result ≡ Err c.in_err-expect_number.field-0.0 = search rules in
     same_fault c.from_residual.result c.in_err-expect_number.field-0.0 is
-    (only_unavailable_before (state g.S.Store c.args.conn.now) cluster b c.in_err-expect_number.field-0.0 stands (c.in_err-expect_number.ensures.told clean))
+    (only_unavailable_before (state g.S.Store c.args.conn.now) cluster b c.in_err-expect_number.field-0.0 stands (c.in_err-expect_number.ensures.does.told clean))
 
 pub returns-clause-numbered : goal.returns-clause-numbered
 returns-clause-numbered g c clean =
@@ -59,7 +59,7 @@ returns-clause-numbered g c clean =
     let late = state g.S.Store c.require_open.new.conn in
     let clean_late : HasCleanDisk late = omega (arith, c.in_one_transaction.ensures.survives.clean, clean) in
     let clean_mid : HasCleanDisk mid = omega (arith, c.require_open.ensures.survives.clean, clean_late) in
-    on_ok c.in_one_transaction.result (c.in_ok-expect_number.ensures.found clean_mid)
+    on_ok c.in_one_transaction.result (c.in_ok-expect_number.ensures.does.found clean_mid)
 
 pub returns-clause-opens : goal.returns-clause-opens
 returns-clause-opens g c clean has =
@@ -69,5 +69,5 @@ returns-clause-opens g c clean has =
     let clean_late : HasCleanDisk late = omega (arith, c.in_one_transaction.ensures.survives.clean, clean) in
     let clean_mid : HasCleanDisk mid = omega (arith, c.require_open.ensures.survives.clean, clean_late) in
     let same = same_after old mid late (c.expect_number.ensures.same clean_mid) (c.in_ok-require_open.ensures.open clean_late) in
-    let number = c.in_ok-expect_number.ensures.found clean_mid (inr has) in
+    let number = c.in_ok-expect_number.ensures.does.found clean_mid (inr has) in
     c.in_one_transaction.ensures.opens clean (subst HasOldTables (sym same) has) (subst (λ d. HasNumber d old_schema_number) (sym same) number)

@@ -11,25 +11,35 @@ use Rattle.fr_store.specs.Store.{IsRegisterOf}
 use Rattle.fr_store.proofs.OpenLemmas.{register_found}
 use Rattle.fr_store.proofs.opening.read_config.Goals as goal
 
-pub returns-then-is_ours-clause-stands : goal.returns-then-is_ours-clause-stands
-returns-then-is_ours-clause-stands g c clean ordered =
-    let old = (state g.S.Store c.args.conn.now).now in
-    let mid = (state g.S.Store c.expect_number.new.conn).now in
-    let told = (state g.S.Store c.config.new.conn).now in
-    let new = (state g.S.Store c.require_open.new.conn).now in
-    let late : HasCleanDisk (state g.S.Store c.config.new.conn) = omega (arith, c.require_open.ensures.survives.clean, clean) in
-    let before : HasCleanDisk (state g.S.Store c.expect_number.new.conn) = omega (arith, c.config.ensures.survives.clean, late) in
-    let third = (c.in_ok-require_open.ensures.open clean).0 in
-    let second = c.config.ensures.same late third.was_open in
-    let first = c.expect_number.ensures.same before second.0 in
-    let ours : IsOurs new.schema = search rules in
-    let has : HasTables new = has_tables new (c.schema.ensures.live third.is_open).0 ours (subst (λ (d : Database). AreOrdered d.trees) (sym (third.now_is ∙ second.1 ∙ first.1)) ordered) in
-    subst (IsRegisterOf c.in-Some.config) (sym third.now_is)
-    (register_found c.in-Some.config old mid told our_schema_number first.1 second.1 refl (subst HasTables third.now_is has) (c.in_ok-expect_number.ensures.found before)
-    (c.in-Some.ensures.cluster late third.was_open) (c.in-Some.ensures.suppliers late third.was_open))
-
-pub returns-then-is_ours-clause-variants : goal.returns-then-is_ours-clause-variants
-returns-then-is_ours-clause-variants g c clean has =
-    let late : HasCleanDisk (state g.S.Store c.config.new.conn) = omega (arith, c.require_open.ensures.survives.clean, clean) in
-    let third = (c.in_ok-require_open.ensures.open clean).0 in
-    subst (λ (d : Database). TellsOpened (tables_in d.trees)) (sym third.now_is) (c.in-Some.ensures.variants late third.was_open (subst HasTables third.now_is has))
+pub returns-then-is_ours : goal.returns-then-is_ours
+returns-then-is_ours g c =
+    let first = state g.S.Store c.expect_number.new.conn in
+    let second = state g.S.Store c.config.new.conn in
+    let last = state g.S.Store c.require_open.new.conn in
+    let late : HasCleanDisk last → HasCleanDisk second = λ clean. omega (arith, c.require_open.ensures.survives.clean, clean) in
+    let before : HasCleanDisk last → HasCleanDisk first = λ clean. omega (arith, c.config.ensures.survives.clean, late clean) in
+    record {
+      does = record {
+        formed = search rules;
+        ours = search rules;
+        stands = λ clean ordered.
+            let old = (state g.S.Store c.args.conn.now).now in
+            let third = (c.in_ok-require_open.ensures.open clean).0 in
+            let told = c.config.ensures.same (late clean) third.was_open in
+            let said = c.expect_number.ensures.same (before clean) told.0 in
+            let ours : IsOurs last.now.schema = search rules in
+            let has : HasTables last.now = has_tables last.now (c.schema.ensures.live third.is_open).0 ours (subst (λ (d : Database). AreOrdered d.trees) (sym (third.now_is ∙ told.1 ∙ said.1)) ordered) in
+            subst (IsRegisterOf c.in-Some.config) (sym third.now_is)
+            (register_found c.in-Some.config old first.now second.now our_schema_number said.1 told.1 refl (subst HasTables third.now_is has) (c.in_ok-expect_number.ensures.does.found (before clean))
+            (c.in-Some.ensures.does.cluster (late clean) third.was_open) (c.in-Some.ensures.does.suppliers (late clean) third.was_open));
+        variants = λ clean has.
+            let third = (c.in_ok-require_open.ensures.open clean).0 in
+            subst (λ (d : Database). TellsOpened (tables_in d.trees)) (sym third.now_is) (c.in-Some.ensures.does.variants (late clean) third.was_open (subst HasTables third.now_is has));
+        is_open = search rules;
+        told = search rules;
+        not_made = search rules;
+      };
+      same = search rules;
+      autocommit = search rules;
+      survives = search rules;
+    }
