@@ -1,22 +1,23 @@
 -- Opening: why a database is not opened or not migrated, whatever its schema. Why files are not,
 -- and why no register is made in them, whatever they hold. What is found in files that are
--- migrated, or in which a register is made. What calls find over a connection whose tables are not
--- known yet.
-use Rattle.std.specs.Prelude.{◌≡◌, ◌≢◌, ◌⊎◌, ℤ, [], ◌∷◌, map, Bool, Option, Result, IfErr, IfOk, IfSome, IsPermutation, IsTrue, OnOk, ⊤}
+-- migrated, or in which a register is made. What calls find and open over a connection whose tables
+-- are not known yet.
+use Rattle.std.specs.Prelude.{◌≡◌, ◌≢◌, ◌⊎◌, ℤ, [], ◌∷◌, false, map, Bool, Option, Result, IfErr, IfOk, IfSome, IsPermutation, IsTrue, OnOk, ⊤}
 use Rattle.sqlite.specs.Effect.{Database}
 use Rattle.sqlite.specs.Files.{HoldsDatabase}
-use Rattle.sqlite.specs.State.{State, HasCleanDisk}
+use Rattle.sqlite.specs.State.{State, HasCleanDisk, Survives}
 use Rattle.sqlite.specs.Tree.{Trees}
 use Rattle.sqlite_wal.specs.Recovery.{Image}
 use Rattle.fr_base.specs.Cluster.{ClusterFile, IsWellFormed}
-use Rattle.fr_tables.specs.Asking.{our_schema_number, old_schema_number, HasNumber, SaysNumber, SaysNoNumber}
+use Rattle.fr_tables.specs.Asking.{our_schema_number, old_schema_number, AreAsBefore, HasNumber, SaysNumber, SaysNoNumber}
 use Rattle.fr_tables.specs.Changes.{tables_of}
 use Rattle.fr_tables.specs.Filling.{supplier_row}
 use Rattle.fr_tables.specs.Schema.{schema_of, IsOurs}
 use Rattle.fr_tables.specs.Statements.{cluster2_row}
 use Rattle.fr_tables.specs.Tables.{AreOrdered, HasOldTables, HasSomeTables, HasTables}
+use Rattle.fr_store.specs.Crashes.{Serves}
 use Rattle.fr_store.specs.Reading.{TellsOpened}
-use Rattle.fr_store.specs.Store.{IsRegisterOf, has_table}
+use Rattle.fr_store.specs.Store.{FindsAgain, IsRegisterOf, has_table}
 use Rattle.fr_store.specs.StoreFiles.{IsFound}
 use Rattle.fr_store.specs.declared.fault.StoreFault.{StoreFault}
 use Rattle.fr_store.specs.declared.fault.StoreFault.TheVariants.{NotEmpty, NotARegister, WrongSchema, Unavailable}
@@ -90,3 +91,26 @@ pub record ReadsConfig (old new : State) (r : Result ClusterFile StoreFault) : T
   pub is_open : HasCleanDisk new → OnOk r (IsTrue new.is_open)
   pub told : HasCleanDisk new → IfErr r (Explains old.now)
   pub not_made : IfErr r (λ fault. fault ≢ NotEmpty)
+
+-- A register of this cluster was opened on a connection. Its tables are as they were, and a crash
+-- leaves nothing of the call.
+pub record IsOpenedOn (old new : State) (found : ClusterFile) : Type 0 where
+  pub up : HasCleanDisk new → IsTrue old.is_open × IsTrue new.is_open
+  pub opened : HasCleanDisk new → (new.now ≡ old.now) × (new.committed ≡ old.committed)
+  pub serves : HasCleanDisk new → Serves new
+  pub ours : IsOurs new.now.schema
+  pub stands : HasCleanDisk new → AreOrdered old.now.trees → IsRegisterOf found new.now
+  pub variants : HasCleanDisk new → HasTables new.now → TellsOpened (tables_of new)
+  pub again : HasCleanDisk new → FindsAgain old new found
+  pub outside : new.in_transaction ≡ false
+  pub survives : Survives old new (λ _. ⊥)
+
+-- No register was opened on a connection, for this fault. Its tables are as they were, and a crash
+-- leaves nothing of the call.
+pub record IsNotOpenedOn (old new : State) (fault : StoreFault) : Type 0 where
+  pub told : HasCleanDisk new → Explains old.now fault
+  pub not_made : fault ≢ NotEmpty
+  pub known : HasCleanDisk new → (c : ClusterFile) → IsRegisterOf c old.now → fault ≡ Unavailable
+  pub unharmed : HasCleanDisk new → AreAsBefore old new
+  pub outside : old.in_transaction ≡ false → new.in_transaction ≡ false
+  pub survives : Survives old new (λ _. ⊥)

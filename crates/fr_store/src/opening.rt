@@ -1,20 +1,13 @@
 //! Opens a register that was made before, over any connection.
 
-ghost use Rattle.std.specs.Prelude.{◌≡◌, ◌≢◌, IsTrue, IfOk, IfErr, IfSome, map, [], ◌∷◌, false};
-ghost use Rattle.sqlite.specs.State.{HasCleanDisk, Survives};
+ghost use Rattle.std.specs.Prelude.{◌≡◌, IfOk, IfErr, IfSome, map, [], ◌∷◌, false};
 ghost use Rattle.sqlite.specs.Held.{state};
 ghost use Rattle.fr_base.specs.Cluster.{IsWellFormed};
-ghost use Rattle.fr_tables.specs.Asking.{AreAsBefore, Looks};
-ghost use Rattle.fr_tables.specs.Changes.{tables_of};
+ghost use Rattle.fr_tables.specs.Asking.{Looks};
 ghost use Rattle.fr_tables.specs.ClusterRows.{shown_supplier};
-ghost use Rattle.fr_tables.specs.Schema.{IsOurs};
 ghost use Rattle.fr_tables.specs.Statements.{cluster2_row, shows_cluster2};
-ghost use Rattle.fr_tables.specs.Tables.{HasTables, AreOrdered};
-ghost use Rattle.fr_store.specs.Crashes.{Serves};
-ghost use Rattle.fr_store.specs.Opening.{Explains, FindsConfig, FindsVariants, ReadsConfig};
-ghost use Rattle.fr_store.specs.Reading.{AreOpened, TellsOpened, variant_shown};
-ghost use Rattle.fr_store.specs.Store.{IsRegisterOf, FindsAgain};
-ghost use Rattle.fr_store.specs.declared.fault.StoreFault.TheVariants as fault;
+ghost use Rattle.fr_store.specs.Opening.{FindsConfig, FindsVariants, IsNotOpenedOn, IsOpenedOn, ReadsConfig};
+ghost use Rattle.fr_store.specs.Reading.{AreOpened, variant_shown};
 
 use crate::fault::StoreFault;
 use crate::migrating::require_open;
@@ -108,40 +101,10 @@ impl<S: Alter + Drop> Store<S> {
         alloc: Global,
         mut conn: Connection<S>,
     ) -> Result<Store<S>, (StoreFault, Connection<S>)>
-        ensures open { IfOk result (λ s. HasCleanDisk (state S.Store s.conn)
-            → IsTrue (state S.Store conn).is_open × IsTrue (state S.Store s.conn).is_open) }
-        ensures opened { IfOk result
-            (λ s. HasCleanDisk (state S.Store s.conn)
-            → ((state S.Store s.conn).now ≡ (state S.Store conn).now)
-            × ((state S.Store s.conn).committed ≡ (state S.Store conn).committed)) }
-        ensures serves { IfOk result
-            (λ s. HasCleanDisk (state S.Store s.conn) → Serves (state S.Store s.conn)) }
-        ensures ours { IfOk result (λ s. IsOurs (state S.Store s.conn).now.schema) }
-        ensures stands { IfOk result
-            (λ s. HasCleanDisk (state S.Store s.conn) → AreOrdered (state S.Store conn).now.trees
-            → IsRegisterOf s.config (state S.Store s.conn).now) }
-        ensures variants { IfOk result
-            (λ s. HasCleanDisk (state S.Store s.conn) → HasTables (state S.Store s.conn).now
-            → TellsOpened (tables_of (state S.Store s.conn))) }
-        ensures again { IfOk result
-            (λ s. HasCleanDisk (state S.Store s.conn)
-            → FindsAgain (state S.Store conn) (state S.Store s.conn) s.config) }
-        ensures outside { IfOk result (λ s. s.conn.in_transaction ≡ false) }
-        ensures survives { IfOk result
-            (λ s. Survives (state S.Store conn) (state S.Store s.conn) (λ _. ⊥)) }
-        ensures told { IfErr result
-            (λ e. HasCleanDisk (state S.Store e.1) → Explains (state S.Store conn).now e.0) }
-        ensures not_made { IfErr result (λ e. e.0 ≢ fault.NotEmpty) }
-        ensures known { IfErr result
-            (λ e. HasCleanDisk (state S.Store e.1) → (c : _)
-            → IsRegisterOf c (state S.Store conn).now → e.0 ≡ fault.Unavailable) }
-        ensures unharmed { IfErr result
-            (λ e. HasCleanDisk (state S.Store e.1)
-            → AreAsBefore (state S.Store conn) (state S.Store e.1)) }
-        ensures outside_still { IfErr result
-            (λ e. conn.in_transaction ≡ false → e.1.in_transaction ≡ false) }
-        ensures survives_still { IfErr result
-            (λ e. Survives (state S.Store conn) (state S.Store e.1) (λ _. ⊥)) }
+        ensures opened { IfOk result (λ s.
+            IsOpenedOn (state S.Store conn) (state S.Store s.conn) s.config) }
+        ensures refused { IfErr result (λ e.
+            IsNotOpenedOn (state S.Store conn) (state S.Store e.1) e.0) }
     {
         if !conn.is_autocommit() {
             return Err((StoreFault::Unavailable, conn));
