@@ -5,6 +5,7 @@ pub mod Before
 pub mod Store
 pub mod StoreFiles
 pub mod Crashes
+pub mod Creating
 pub mod StandsFor
 pub mod Owning
 pub mod Applying

@@ -1,19 +1,13 @@
 //! Makes a register, over any connection.
 
-ghost use Rattle.std.specs.Prelude.{◌≡◌, [], ◌∷◌, IsTrue, IfOk, IfErr, OnOk, OnErr, false};
+ghost use Rattle.std.specs.Prelude.{◌≡◌, IsTrue, IfOk, IfErr, false};
 ghost use Rattle.std.specs.List.{list_any};
 ghost use Rattle.sqlite_schema.specs.Names.{same_name};
-ghost use Rattle.sqlite.specs.State.{HasCleanDisk, Survives};
 ghost use Rattle.sqlite.specs.Held.{state};
-ghost use Rattle.fr_base.specs.Book.{opening};
-ghost use Rattle.fr_tables.specs.Making.{IsFresh};
-ghost use Rattle.fr_tables.specs.Asking.{AreAsBefore};
-ghost use Rattle.fr_store.specs.Crashes.{LeavesOnly};
-ghost use Rattle.fr_store.specs.Reading.{Stands};
-ghost use Rattle.fr_tables.specs.Schema.{schema_of};
-ghost use Rattle.fr_store.specs.Store.{IsNewOf, IsRegisterFor, MakesNew, Forbids, is_ours, has_table};
-ghost use Rattle.fr_store.specs.StoreFiles.{database_of};
 ghost use Rattle.fr_tables.specs.Changes.{Runs};
+ghost use Rattle.fr_tables.specs.Schema.{schema_of};
+ghost use Rattle.fr_store.specs.Creating.{Creates, IsMadeOn, IsNotMadeOn};
+ghost use Rattle.fr_store.specs.Store.{MakesNew, is_ours, has_table};
 ghost use Rattle.fr_store.specs.declared.fault.StoreFault.TheVariants as fault;
 
 use crate::fault::StoreFault;
@@ -36,19 +30,7 @@ fn make_and_fill<S: Alter>(tx: &mut Transaction<'_, S>, config: &Config) -> Resu
 /// Makes a register of this cluster, in a database with no table: all of it, or nothing.
 fn create<S: Alter>(conn: &mut Connection<S>, config: &Config) -> Result<(), Error>
     requires { conn.old.in_transaction ≡ false }
-    ensures made { HasCleanDisk (state S.Store conn.new) → IsFresh 0 0 (state S.Store conn.old).now
-        → OnOk result (IsNewOf config.now (state S.Store conn.new).now) }
-    ensures committed { HasCleanDisk (state S.Store conn.new)
-        → OnOk result ((state S.Store conn.new).committed ≡ (state S.Store conn.new).now) }
-    ensures open { HasCleanDisk (state S.Store conn.new)
-        → OnOk result (IsTrue (state S.Store conn.new).is_open) }
-    ensures undone { HasCleanDisk (state S.Store conn.new)
-        → IsFresh 0 0 (state S.Store conn.old).now
-        → OnErr result (AreAsBefore (state S.Store conn.old) (state S.Store conn.new)) }
-    ensures autocommit { conn.new.in_transaction ≡ false }
-    ensures survives { IsFresh 0 0 (state S.Store conn.old).now
-        → Survives (state S.Store conn.old) (state S.Store conn.new)
-        (λ db. IsNewOf config.now (database_of db)) }
+    ensures { Creates config.now (state S.Store conn.old) (state S.Store conn.new) result }
 {
     // Gives the proof that all changes so far are committed.
     let _committed = conn.is_autocommit();
@@ -110,35 +92,12 @@ impl<S: Alter + Drop> Store<S> {
         mut conn: Connection<S>,
         config: &Config,
     ) -> Result<Store<S>, (StoreFault, Connection<S>)>
-        ensures made { IfOk result (λ s. HasCleanDisk (state S.Store s.conn)
-            → IsNewOf config.now (state S.Store s.conn).now) }
-        ensures stands { IfOk result
-            (λ s. HasCleanDisk (state S.Store s.conn)
-            → Stands (state S.Store s.conn) config.now.cluster (opening config.now)) }
-        ensures committed { IfOk result
-            (λ s. HasCleanDisk (state S.Store s.conn)
-            → (state S.Store s.conn).committed ≡ (state S.Store s.conn).now) }
-        ensures open { IfOk result (λ s. HasCleanDisk (state S.Store s.conn)
-            → IsTrue (state S.Store s.conn).is_open) }
-        ensures durable { IfOk result
-            (λ s. HasCleanDisk (state S.Store s.conn)
-            → LeavesOnly (state S.Store s.conn) config.now.cluster (opening config.now ∷ [])) }
+        ensures made { IfOk result
+            (λ s. IsMadeOn config.now (state S.Store conn) (state S.Store s.conn)) }
         ensures config { IfOk result (λ s. s.config ≡ config.now) }
-        ensures bare { IfOk result (λ _. (state S.Store conn).now.schema ≡ schema_of 0 0) }
-        ensures outside { IfOk result (λ s. s.conn.in_transaction ≡ false) }
-        ensures survives { IfOk result
-            (λ s. Survives (state S.Store conn) (state S.Store s.conn)
-            (λ db. IsRegisterFor config.now.cluster (opening config.now) (database_of db))) }
-        ensures told { IfErr result (λ e. Forbids (state S.Store conn).now.schema e.0) }
+        ensures refused { IfErr result
+            (λ e. IsNotMadeOn config.now (state S.Store conn) (state S.Store e.1) e.0) }
         ensures untouched { IfErr result (λ e. e.0 ≡ fault.NotEmpty → e.1 ≡ conn) }
-        ensures unharmed { IfErr result
-            (λ e. HasCleanDisk (state S.Store e.1)
-            → AreAsBefore (state S.Store conn) (state S.Store e.1)) }
-        ensures outside_still { IfErr result
-            (λ e. conn.in_transaction ≡ false → e.1.in_transaction ≡ false) }
-        ensures survives_still { IfErr result
-            (λ e. Survives (state S.Store conn) (state S.Store e.1)
-            (λ db. IsRegisterFor config.now.cluster (opening config.now) (database_of db))) }
     {
         if has_table(conn.schema()) {
             return Err((StoreFault::NotEmpty, conn));

@@ -12,7 +12,7 @@ use Rattle.fr_store.proofs.paths.Store+FileStore+FileFrom+S.create_at.Goals as g
 
 pub returns-in-Ok-create_on-clause-made : goal.returns-in-Ok-create_on-clause-made
 returns-in-Ok-create_on-clause-made g c clean =
-    let made = c.in-Ok-create_on.ensures in
+    let made = c.in-Ok-create_on.ensures.made in
     let old = file_state c.in-Ok.conn in
     let before : HasCleanDisk old = omega (arith, made.survives.clean, clean) in
     let opens = c.in-Ok.ensures.opened before in
@@ -22,7 +22,7 @@ returns-in-Ok-create_on-clause-made g c clean =
       made = made.made clean;
       stands = made.stands clean;
       committed = made.committed clean;
-      is_open = made.open clean;
+      is_open = made.is_open clean;
       durable = made.durable clean;
       bare = (old.now, found, made.bare);
     }
@@ -31,7 +31,7 @@ pub returns-in-Ok-create_on-clause-survives : goal.returns-in-Ok-create_on-claus
 returns-in-Ok-create_on-clause-survives g c =
     let found = λ (clean : HasCleanDisk (file_state c.in-Ok.conn)) (t : Trees) (h : HoldsDatabase (image_at g.S.Start) t).
     ap (λ (d : Database). d.trees) (c.in-Ok.ensures.opened clean).0.clean ∙ (c.in-Ok.ensures.found clean).holds t h in
-    (c.in-Ok.conn, record { opens = c.in-Ok.ensures.opened; found = found }, c.in-Ok-create_on.ensures.survives)
+    (c.in-Ok.conn, record { opens = c.in-Ok.ensures.opened; found = found }, c.in-Ok-create_on.ensures.made.survives)
 
 pub returns-in-Err-clause-refused : goal.returns-in-Err-clause-refused
 returns-in-Err-clause-refused g c =
@@ -47,12 +47,12 @@ pub returns-in-Some-clause-refused : goal.returns-in-Some-clause-refused
 returns-in-Some-clause-refused g c =
     let held = image_at g.S.Start in
     let files = c.in-Some.files in
-    let refused = c.in-Err-create_on.ensures in
+    let refused = c.in-Err-create_on.ensures.refused in
     let fault = c.in-Err-create_on.fault in
     let old = file_state c.in-Ok.conn in
     all_left makes held fault (files_alone _ files) (make_faults old.now fault refused.told) (λ clean.
     let closed = c.in-Some.ensures.closed clean in
-    let before : HasCleanDisk old = omega (arith, refused.survives_still.clean, closed.clean) in
+    let before : HasCleanDisk old = omega (arith, refused.survives.clean, closed.clean) in
     let opens = c.in-Ok.ensures.opened before in
     let finds = c.in-Ok.ensures.found before in
     let found = found_opened held old opens.0.is_open opens.1 old.committed.trees (ap (λ (e : Database). e.trees) opens.0.clean) finds.reads finds.holds in
