@@ -2,6 +2,7 @@ pub mod Opening
 pub mod Refused
 pub mod Opened
 pub mod Before
+pub mod Migrating
 pub mod Store
 pub mod StoreFiles
 pub mod Crashes

@@ -1,16 +1,12 @@
 //! Makes a register of the schema before one of this schema, in one transaction.
 
-ghost use Rattle.std.specs.Prelude.{◌≡◌, ◌≢◌, IfErr, OnErr, OnOk, false};
+ghost use Rattle.std.specs.Prelude.{◌≡◌, IfErr, OnOk, false};
 ghost use Rattle.sqlite.specs.State.{HasCleanDisk, IsUnchanged, Survives};
 ghost use Rattle.sqlite.specs.Held.{state};
-ghost use Rattle.fr_tables.specs.Asking.{AreAsBefore, HasNumber, numbered, old_schema_number};
-ghost use Rattle.fr_tables.specs.Schema.{IsOld};
-ghost use Rattle.fr_tables.specs.Tables.{HasOldTables, HasSomeTables};
+ghost use Rattle.fr_tables.specs.Asking.{AreAsBefore};
 ghost use Rattle.fr_store.specs.Applying.{Tries, Edits, Within};
-ghost use Rattle.fr_store.specs.Before.{StandsBefore, MovesCluster, Migrates, MakesOpenable, KeepsBefore, LeavesMigrated, HasOldIfBefore, KeepsNumber, ExpectsOpenable, LeavesTables};
-ghost use Rattle.fr_store.specs.Opening.{Refuses};
-ghost use Rattle.fr_store.specs.Reading.{Stands};
-ghost use Rattle.fr_store.specs.Store.{IsOpenable};
+ghost use Rattle.fr_store.specs.Before.{MovesCluster, Migrates, MakesOpenable, KeepsBefore, KeepsNumber, ExpectsOpenable, LeavesTables};
+ghost use Rattle.fr_store.specs.Migrating.{CommitsMigration, MigratesOn};
 ghost use Rattle.fr_store.specs.declared.fault.StoreFault.TheVariants as fault;
 
 mod files;
@@ -77,21 +73,7 @@ fn change_schema<S: Alter>(alloc: Global, tx: &mut Transaction<'_, S>) -> Result
 /// Changes the schema in one transaction: all of it, or nothing.
 fn in_one_transaction<S: Alter>(alloc: Global, conn: &mut Connection<S>) -> Result<(), StoreFault>
     requires { conn.old.in_transaction ≡ false }
-    ensures migrated { HasCleanDisk (state S.Store conn.new) → (c : _) (b : _)
-        → StandsBefore (state S.Store conn.old) c b
-        → OnOk result (Stands (state S.Store conn.new) c b) }
-    ensures opens { let old = state S.Store conn.old in let new = state S.Store conn.new in
-        HasCleanDisk new → HasOldTables old.now → HasNumber old.now old_schema_number
-        → OnOk result (IsOpenable new.now) }
-    ensures committed { HasCleanDisk (state S.Store conn.new)
-        → OnOk result ((state S.Store conn.new).committed ≡ (state S.Store conn.new).now) }
-    ensures undone { HasCleanDisk (state S.Store conn.new)
-        → HasOldTables (state S.Store conn.old).now
-        → OnErr result (AreAsBefore (state S.Store conn.old) (state S.Store conn.new)) }
-    ensures refused { IfErr result (λ e. e ≡ fault.Unavailable) }
-    ensures autocommit { conn.new.in_transaction ≡ false }
-    ensures survives { Survives (state S.Store conn.old) (state S.Store conn.new)
-        (LeavesMigrated (state S.Store conn.old)) }
+    ensures { CommitsMigration (state S.Store conn.old) (state S.Store conn.new) result }
 {
     // Gives the proof that all changes so far are committed.
     let _committed = conn.is_autocommit();
@@ -127,29 +109,7 @@ const NUMBER_BEFORE: i64 = 1;
 /// the tables say no number, WrongSchema only where they say another one, this schema's too, and else Unavailable, also
 /// where no register has such rows; then the tables are as they were, while the connection is open.
 pub fn migrate_on<S: Alter>(alloc: Global, conn: &mut Connection<S>) -> Result<(), StoreFault>
-    ensures migrated { HasCleanDisk (state S.Store conn.new) → (c : _) (b : _)
-        → StandsBefore (state S.Store conn.old) c b
-        → OnOk result (Stands (state S.Store conn.new) c b) }
-    ensures committed { HasCleanDisk (state S.Store conn.new)
-        → OnOk result ((state S.Store conn.new).committed ≡ (state S.Store conn.new).now) }
-    ensures opens { HasCleanDisk (state S.Store conn.new)
-        → HasOldTables (state S.Store conn.old).now
-        → OnOk result (IsOpenable (state S.Store conn.new).now) }
-    ensures before { OnOk result (IsOld (state S.Store conn.old).now.schema) }
-    ensures numbered { HasCleanDisk (state S.Store conn.new)
-        → OnOk result (HasSomeTables (state S.Store conn.old).now
-        → HasNumber (state S.Store conn.old).now old_schema_number) }
-    ensures told { HasCleanDisk (state S.Store conn.new)
-        → IfErr result (Refuses old_schema_number (state S.Store conn.old).now) }
-    ensures known { HasCleanDisk (state S.Store conn.new) → (c : _) (b : _)
-        → StandsBefore (state S.Store conn.old) c b → IfErr result (λ e. e ≡ fault.Unavailable) }
-    ensures not_made { IfErr result (λ e. e ≢ fault.NotEmpty) }
-    ensures unharmed { HasCleanDisk (state S.Store conn.new)
-        → HasOldIfBefore (state S.Store conn.old).now
-        → OnErr result (AreAsBefore (state S.Store conn.old) (state S.Store conn.new)) }
-    ensures outside { conn.old.in_transaction ≡ false → conn.new.in_transaction ≡ false }
-    ensures survives { Survives (state S.Store conn.old) (state S.Store conn.new)
-        (LeavesMigrated (state S.Store conn.old)) }
+    ensures { MigratesOn (state S.Store conn.old) (state S.Store conn.new) result }
 {
     if !conn.is_autocommit() {
         return Err(StoreFault::Unavailable);
