@@ -1,6 +1,7 @@
 -- Edits: what edits of the register's rows make of the tables, and of the book for which these
--- stand. What a crash leaves of edits. What a call inside a transaction says of itself.
-use Rattle.std.specs.Prelude.{◌≡◌, ℕ, List, Result, Ok, Err, MatchResult, OnOk, IfErr, IsTrue, ⊤}
+-- stand. What a crash leaves of edits. What a call says of itself that runs inside a transaction,
+-- or that commits edits.
+use Rattle.std.specs.Prelude.{◌≡◌, ℕ, List, [], ◌∷◌, Result, Ok, Err, MatchResult, OnOk, OnErr, IfErr, IsTrue, ⊤}
 use Rattle.sqlite.specs.declared.error.Error.{Error}
 use Rattle.sqlite.specs.declared.transaction.Transaction.{Transaction}
 use Rattle.sqlite.specs.Held.{state}
@@ -12,9 +13,13 @@ use Rattle.fr_base.specs.Book.{Book}
 use Rattle.fr_world.specs.BookEdits.{applied, all_applied}
 use Rattle.fr_world.specs.Fits.{Fits, AllFit}
 use Rattle.fr_world.specs.declared.edit.Edit.{Edit}
+use Rattle.fr_store.specs.Crashes.{LeavesOnly}
 use Rattle.fr_store.specs.Reading.{Stands}
+use Rattle.fr_store.specs.Sparing.{ChangeNoFrame, HasSameFrames}
 use Rattle.fr_store.specs.Store.{IsRegisterFor}
 use Rattle.fr_store.specs.StoreFiles.{database_of}
+use Rattle.fr_tables.specs.Asking.{AreAsBefore}
+use Rattle.fr_tables.specs.Changes.{tables_of}
 use Rattle.fr_tables.specs.Tables.{HasTables}
 use Rattle.fr_store.specs.declared.fault.StoreFault.{StoreFault}
 use Rattle.fr_store.specs.declared.fault.StoreFault.TheVariants.{Unavailable}
@@ -75,3 +80,21 @@ CarriesOutAll edits old new r = HasCleanDisk new → IsTrue old.in_transaction �
 -- what a crash may leave, where the edits fit
 abbrev pub LeavesAll : List Edit → State → Trees → Type 0
 LeavesAll edits old db = (c : Cluster) (b : Book) → Stands old c b → AllFit c.params b edits → IsRegisterFor c (all_applied b edits) (database_of db)
+
+-- A call carries out all edits, where each fits after those before it, and commits them: all, or
+-- none. The only refusal is `Unavailable`.
+pub record CommitsEdits {X : Type 0} (edits : List Edit) (old new : State) (r : Result X StoreFault) : Type 0 where
+  pub stands : HasCleanDisk new → (c : Cluster) (b : Book) → Stands old c b → AllFit c.params b edits → OnOk r (Stands new c (all_applied b edits))
+  pub spared : HasCleanDisk new → HasTables old.now → ChangeNoFrame edits → OnOk r (HasSameFrames (tables_of old) (tables_of new))
+  pub committed : HasCleanDisk new → OnOk r (new.committed ≡ new.now)
+  pub is_open : HasCleanDisk new → OnOk r (IsTrue new.is_open)
+  pub undone : HasCleanDisk new → HasTables old.now → OnErr r (AreAsBefore old new)
+  pub refused : IfErr r (λ fault. fault ≡ Unavailable)
+  pub survives : Survives old new (LeavesAll edits old)
+
+-- After edits that fit, a crash leaves what it left before, or the book after them. Where they were
+-- carried out it leaves no other book.
+pub record LeavesAfter {X E : Type 0} (edits : List Edit) (old new : State) (r : Result X E) : Type 0 where
+  pub leaves : HasCleanDisk new → (c : Cluster) (b : Book) (books : List Book) → Stands old c b → AllFit c.params b edits → LeavesOnly old c books
+      → LeavesOnly new c (all_applied b edits ∷ books)
+  pub durable : HasCleanDisk new → (c : Cluster) (b : Book) → Stands old c b → AllFit c.params b edits → OnOk r (LeavesOnly new c (all_applied b edits ∷ []))

@@ -1,19 +1,10 @@
 //! Edits of the register's rows, all carried out in one transaction, or none.
 
-ghost use Rattle.std.specs.Prelude.{◌≡◌, false, [], ◌∷◌, IfErr, OnErr, OnOk, IsTrue};
-ghost use Rattle.sqlite.specs.State.{HasCleanDisk, Survives};
+ghost use Rattle.std.specs.Prelude.{◌≡◌, false, OnErr, OnOk};
 ghost use Rattle.sqlite.specs.Held.{state};
-ghost use Rattle.fr_world.specs.BookEdits.{all_applied};
-ghost use Rattle.fr_world.specs.Fits.{AllFit};
+ghost use Rattle.fr_store.specs.Applying.{CarriesOutAll, CommitsEdits, Edits, LeavesAfter, Within};
 ghost use Rattle.fr_store.specs.Joined.{after_edits};
-ghost use Rattle.fr_store.specs.Applying.{CarriesOutAll, LeavesAll, Edits, Within};
-ghost use Rattle.fr_store.specs.Crashes.{LeavesOnly};
-ghost use Rattle.fr_tables.specs.Asking.{AreAsBefore};
-ghost use Rattle.fr_store.specs.Reading.{Stands};
-ghost use Rattle.fr_store.specs.Sparing.{ChangeNoFrame, HasSameFrames, SparesFrames};
-ghost use Rattle.fr_tables.specs.Changes.{tables_of};
-ghost use Rattle.fr_tables.specs.Tables.{HasTables};
-ghost use Rattle.fr_store.specs.declared.fault.StoreFault.TheVariants.{Unavailable};
+ghost use Rattle.fr_store.specs.Sparing.{ChangeNoFrame, SparesFrames};
 
 use crate::applying::edits::carry_out;
 use crate::applying::joining::config_after;
@@ -37,22 +28,9 @@ fn carry_out_all<S: Alter>(tx: &mut Transaction<'_, S>, edits: &[Edit]) -> Resul
 /// Carries all edits out in one transaction.
 fn in_one_transaction<S: Alter>(conn: &mut Connection<S>, edits: &[Edit]) -> Result<(), StoreFault>
     requires { conn.old.in_transaction ≡ false }
-    ensures stands { let old = state S.Store conn.old in let new = state S.Store conn.new in
-        HasCleanDisk new → (c : _) (b : _) → Stands old c b → AllFit c.params b edits.now
-        → OnOk result (Stands new c (all_applied b edits.now)) }
-    ensures spared { let old = state S.Store conn.old in let new = state S.Store conn.new in
-        HasCleanDisk new → HasTables old.now → ChangeNoFrame edits.now
-        → OnOk result (HasSameFrames (tables_of old) (tables_of new)) }
-    ensures committed { let new = state S.Store conn.new in
-        HasCleanDisk new → OnOk result (new.committed ≡ new.now) }
-    ensures open { let new = state S.Store conn.new in
-        HasCleanDisk new → OnOk result (IsTrue new.is_open) }
-    ensures undone { let old = state S.Store conn.old in let new = state S.Store conn.new in
-        HasCleanDisk new → HasTables old.now → OnErr result (AreAsBefore old new) }
-    ensures refused { IfErr result (λ fault. fault ≡ Unavailable) }
+    ensures edited { CommitsEdits edits.now (state S.Store conn.old) (state S.Store conn.new)
+        result }
     ensures autocommit { conn.new.in_transaction ≡ false }
-    ensures survives { let old = state S.Store conn.old in
-        Survives old (state S.Store conn.new) (LeavesAll edits.now old) }
 {
     // Gives the proof that all changes so far are committed.
     let _committed = conn.is_autocommit();
@@ -70,37 +48,14 @@ impl<S: Alter> Store<S> {
     /// the rows while the connection is open; but a crash may leave the rows after the edits. Where they were carried out,
     /// a crash leaves no others.
     pub fn apply(&mut self, alloc: Global, edits: &[Edit]) -> Result<(), StoreFault>
-        ensures stands { let old = state S.Store self.old.conn in
-            let new = state S.Store self.new.conn in
-            HasCleanDisk new → (c : _) (b : _) → Stands old c b → AllFit c.params b edits.now
-            → OnOk result (Stands new c (all_applied b edits.now)) }
-        ensures spared { let old = state S.Store self.old.conn in
-            let new = state S.Store self.new.conn in
-            HasCleanDisk new → HasTables old.now → ChangeNoFrame edits.now
-            → OnOk result (HasSameFrames (tables_of old) (tables_of new)) }
-        ensures committed { let new = state S.Store self.new.conn in
-            HasCleanDisk new → OnOk result (new.committed ≡ new.now) }
-        ensures open { let new = state S.Store self.new.conn in
-            HasCleanDisk new → OnOk result (IsTrue new.is_open) }
-        ensures undone { let old = state S.Store self.old.conn in
-            let new = state S.Store self.new.conn in
-            HasCleanDisk new → HasTables old.now → OnErr result (AreAsBefore old new) }
-        ensures refused { IfErr result (λ fault. fault ≡ Unavailable) }
+        ensures edited { CommitsEdits edits.now (state S.Store self.old.conn)
+            (state S.Store self.new.conn) result }
+        ensures left { LeavesAfter edits.now (state S.Store self.old.conn)
+            (state S.Store self.new.conn) result }
         ensures outside { self.old.conn.in_transaction ≡ false
             → self.new.conn.in_transaction ≡ false }
         ensures config { OnOk result (self.new.config ≡ after_edits self.old.config edits.now) }
         ensures same { OnErr result (self.new.config ≡ self.old.config) }
-        ensures survives { let old = state S.Store self.old.conn in
-            Survives old (state S.Store self.new.conn) (LeavesAll edits.now old) }
-        ensures leaves { let old = state S.Store self.old.conn in
-            let new = state S.Store self.new.conn in
-            HasCleanDisk new → (c : _) (b : _) (books : _) → Stands old c b
-            → AllFit c.params b edits.now → LeavesOnly old c books
-            → LeavesOnly new c (all_applied b edits.now ∷ books) }
-        ensures durable { let old = state S.Store self.old.conn in
-            let new = state S.Store self.new.conn in
-            HasCleanDisk new → (c : _) (b : _) → Stands old c b → AllFit c.params b edits.now
-            → OnOk result (LeavesOnly new c (all_applied b edits.now ∷ [])) }
     {
         if !self.conn.is_autocommit() {
             return Err(StoreFault::Unavailable);
