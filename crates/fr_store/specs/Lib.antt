@@ -15,5 +15,6 @@ pub mod Reading
 pub mod FrameEdits
 pub mod Paging
 pub mod Stored
+pub mod Ready
 pub mod Settled
 pub mod Joined

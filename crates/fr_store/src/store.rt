@@ -1,9 +1,8 @@
 //! A register whose rows are kept by SQL: its connection, and its cluster with the suppliers that are there.
 
-ghost use Rattle.std.specs.Prelude.{◌≡◌, IsTrue, false};
+ghost use Rattle.std.specs.Prelude.{◌≡◌};
 ghost use Rattle.sqlite.specs.Held.{state};
-ghost use Rattle.sqlite.specs.State.{HasCleanDisk, IsUnchanged, Survives};
-ghost use Rattle.fr_tables.specs.Changes.{Stays};
+ghost use Rattle.fr_store.specs.Ready.{LooksReady};
 
 use fr_base::Config;
 use sqlite::{Alter, Connection};
@@ -41,15 +40,9 @@ impl<S: Alter> Store<S> {
     /// Whether the register can be asked. Where it says so the connection is open. Else a fault of the disk may have shut
     /// it, or memory was wanting: no clause says which.
     pub fn is_ready(&mut self) -> bool
-        ensures open { HasCleanDisk (state S.Store self.new.conn) → IsTrue result
-            → IsUnchanged (state S.Store self.old.conn) (state S.Store self.new.conn) }
-        ensures stays { HasCleanDisk (state S.Store self.new.conn)
-            → Stays (state S.Store self.old.conn) (state S.Store self.new.conn) }
+        ensures looks { LooksReady (state S.Store self.old.conn) (state S.Store self.new.conn)
+            result }
         ensures config { self.new.config ≡ self.old.config }
-        ensures outside { self.old.conn.in_transaction ≡ false
-            → self.new.conn.in_transaction ≡ false }
-        ensures survives { Survives (state S.Store self.old.conn) (state S.Store self.new.conn)
-            (λ _. ⊥) }
     {
         self.conn.prepare("SELECT schema FROM register").is_ok()
     }

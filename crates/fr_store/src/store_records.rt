@@ -1,10 +1,10 @@
 //! A store's tables as the records from which requests are answered.
-ghost use Rattle.std.specs.Prelude.{◌≡◌, Ok, Err, IfErr, IsTrue, MatchResult, OnOk};
+ghost use Rattle.std.specs.Prelude.{◌≡◌, Ok, Err, MatchResult};
 ghost use Rattle.sqlite.specs.Held.{state};
 ghost use Rattle.sqlite.specs.State.{HasCleanDisk};
 ghost use Rattle.fr_base.specs.declared.refusal.Refusal.TheVariants.{Unavailable};
-ghost use Rattle.fr_world.specs.Held.{Reads};
 ghost use Rattle.fr_store.specs.Crashes.{Serves, StoredLeaves};
+ghost use Rattle.fr_store.specs.Ready.{RequiresReady};
 ghost use Rattle.fr_store.specs.Stored.{StandsStored};
 ghost use Rattle.fr_store.specs.Settled.{stored_settled};
 
@@ -87,15 +87,7 @@ impl<S: Alter> Records for Store<S> {
 // Makes sure that the register can answer. Once a fault has shut it, nothing is read and nothing is
 // changed.
 fn require_ready<S: Alter>(store: &mut Store<S>) -> Result<(), Refusal>
-    ensures reads { Reads (λ s. HasCleanDisk (state S.Store s.conn)) (λ s. s.config.cluster.params)
-        (λ s. StoredLeaves (state S.Store s.conn)) store.old store.new }
-    ensures config { store.new.config ≡ store.old.config }
-    ensures open { HasCleanDisk (state S.Store store.new.conn)
-        → OnOk result (IsTrue (state S.Store store.new.conn).is_open) }
-    ensures stands { HasCleanDisk (state S.Store store.new.conn) → (c : _) (b : _)
-        → StandsStored store.old.config (state S.Store store.old.conn) c b
-        → StandsStored store.new.config (state S.Store store.new.conn) c b }
-    ensures refused { IfErr result (λ e. e ≡ Unavailable) }
+    ensures { RequiresReady S.Store store.old store.new result }
 {
     if store.is_ready() {
         Ok(())

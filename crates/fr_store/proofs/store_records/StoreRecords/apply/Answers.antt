@@ -12,7 +12,7 @@ returns-clause-applies g c clean cluster b stored fit =
     let mid = state g.S.Store c.require_ready.new.store.conn in
     let clean_mid : HasCleanDisk mid = omega (arith, c.apply.ensures.edited.survives.clean, clean) in
     let there = c.in_ok-require_ready.ensures.stands clean_mid cluster b stored in
-    let rows = there.rows (c.in_ok-require_ready.ensures.open clean_mid) in
+    let rows = there.rows (c.in_ok-require_ready.ensures.is_open clean_mid) in
     edits_stored mid (state g.S.Store c.apply.new.self.conn) c.require_ready.new.store.config c.apply.new.self.config c.args.edits.now cluster b there fit
     c.apply.result c.or_unavailable.result c.or_unavailable.ensures (c.apply.ensures.edited.stands clean cluster b rows.0 fit) (c.apply.ensures.edited.committed clean) c.apply.ensures.config
     c.apply.ensures.same (c.apply.ensures.edited.undone clean rows.0.has)
@@ -29,7 +29,7 @@ pub returns-clause-leaves : goal.returns-clause-leaves
 returns-clause-leaves g c clean cluster b books stored fit left =
     let mid = state g.S.Store c.require_ready.new.store.conn in
     let clean_mid : HasCleanDisk mid = omega (arith, c.apply.ensures.edited.survives.clean, clean) in
-    let rows = (c.in_ok-require_ready.ensures.stands clean_mid cluster b stored).rows (c.in_ok-require_ready.ensures.open clean_mid) in
+    let rows = (c.in_ok-require_ready.ensures.stands clean_mid cluster b stored).rows (c.in_ok-require_ready.ensures.is_open clean_mid) in
     inr (edited_left mid (state g.S.Store c.apply.new.self.conn) c.args.edits.now c.apply.result c.apply.ensures.edited.survives clean cluster b books rows.0 rows.1 fit
     (c.apply.ensures.edited.stands clean cluster b rows.0 fit) (c.apply.ensures.edited.committed clean) (c.apply.ensures.edited.undone clean rows.0.has) (c.require_ready.ensures.reads.leaves clean_mid cluster books left))
 

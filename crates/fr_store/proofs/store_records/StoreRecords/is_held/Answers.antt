@@ -13,7 +13,7 @@ returns-in_err-holder-clause-held g c clean cluster b stored =
     let mid = state g.S.Store c.require_ready.new.store.conn in
     let clean_mid : HasCleanDisk mid = omega (arith, c.holder.ensures.spares.clean, clean) in
     let there = c.in_ok-require_ready.ensures.stands clean_mid cluster b stored in
-    let ready = c.in_ok-require_ready.ensures.open clean_mid in
+    let ready = c.in_ok-require_ready.ensures.is_open clean_mid in
     let known = told mid (state g.S.Store c.holder.new.self.conn) c.require_ready.new.store.config c.holder.new.self.config c.holder.ensures.config clean cluster b there
     (λ found. option_map as_holder found ≡ holder_in b c.args.variant (c.args.slot, c.args.channel)) c.holder.result c.or_unavailable.result c.or_unavailable.ensures ready c.holder.ensures.stays
     (c.holder.ensures.told clean cluster b (there.rows ready).0) in
@@ -28,7 +28,7 @@ returns-clause-held g c clean cluster b stored =
     let mid = state g.S.Store c.require_ready.new.store.conn in
     let clean_mid : HasCleanDisk mid = omega (arith, c.holder.ensures.spares.clean, clean) in
     let there = c.in_ok-require_ready.ensures.stands clean_mid cluster b stored in
-    let ready = c.in_ok-require_ready.ensures.open clean_mid in
+    let ready = c.in_ok-require_ready.ensures.is_open clean_mid in
     let known = told mid (state g.S.Store c.holder.new.self.conn) c.require_ready.new.store.config c.holder.new.self.config c.holder.ensures.config clean cluster b there
     (λ found. option_map as_holder found ≡ holder_in b c.args.variant (c.args.slot, c.args.channel)) c.holder.result c.or_unavailable.result c.or_unavailable.ensures ready c.holder.ensures.stays
     (c.holder.ensures.told clean cluster b (there.rows ready).0) in
@@ -38,10 +38,10 @@ returns-clause-held g c clean cluster b stored =
 
 pub returns-clause-reads : goal.returns-clause-reads
 returns-clause-reads g c =
-    reads_on (λ s. state g.S.Store s.conn) (λ s. s.config) _ _ _ c.require_ready.ensures.reads (λ clean. c.in_ok-require_ready.ensures.open clean)
+    reads_on (λ s. state g.S.Store s.conn) (λ s. s.config) _ _ _ c.require_ready.ensures.reads (λ clean. c.in_ok-require_ready.ensures.is_open clean)
     c.holder.ensures.spares c.holder.ensures.config c.holder.ensures.stays
 
 pub returns-in_err-holder-clause-reads : goal.returns-in_err-holder-clause-reads
 returns-in_err-holder-clause-reads g c =
-    reads_on (λ s. state g.S.Store s.conn) (λ s. s.config) _ _ _ c.require_ready.ensures.reads (λ clean. c.in_ok-require_ready.ensures.open clean)
+    reads_on (λ s. state g.S.Store s.conn) (λ s. s.config) _ _ _ c.require_ready.ensures.reads (λ clean. c.in_ok-require_ready.ensures.is_open clean)
     c.holder.ensures.spares c.holder.ensures.config c.holder.ensures.stays

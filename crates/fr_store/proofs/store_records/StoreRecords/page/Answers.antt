@@ -19,7 +19,7 @@ returns-clause-page g c clean cluster b stored =
     let mid = state g.S.Store c.require_ready.new.store.conn in
     let clean_mid : HasCleanDisk mid = omega (arith, c.page.ensures.tells.spares.clean, clean) in
     let there = c.in_ok-require_ready.ensures.stands clean_mid cluster b stored in
-    let ready = c.in_ok-require_ready.ensures.open clean_mid in
+    let ready = c.in_ok-require_ready.ensures.is_open clean_mid in
     told mid (state g.S.Store c.page.new.self.conn) c.require_ready.new.store.config c.page.new.self.config c.page.ensures.tells.config clean cluster b there
     (λ found. found ≡ page_of cluster.params b c.args.supplier c.args.variant) c.page.result c.or_unavailable.result c.or_unavailable.ensures ready c.page.ensures.tells.stays
     (given c.page.result (cluster.params.cycles ≡ cluster.params.cycles) (λ found. found ≡ page_of cluster.params b c.args.supplier c.args.variant) refl
@@ -27,5 +27,5 @@ returns-clause-page g c clean cluster b stored =
 
 pub returns-clause-reads : goal.returns-clause-reads
 returns-clause-reads g c =
-    reads_on (λ s. state g.S.Store s.conn) (λ s. s.config) _ _ _ c.require_ready.ensures.reads (λ clean. c.in_ok-require_ready.ensures.open clean)
+    reads_on (λ s. state g.S.Store s.conn) (λ s. s.config) _ _ _ c.require_ready.ensures.reads (λ clean. c.in_ok-require_ready.ensures.is_open clean)
     c.page.ensures.tells.spares c.page.ensures.tells.config c.page.ensures.tells.stays
