@@ -1,5 +1,5 @@
--- Ready: what a call says of itself that looks whether a store can be asked, and what one that is
--- refused where it cannot.
+-- Ready: what a call says of itself that looks whether a connection or a store can be asked, and
+-- what one that is refused where it cannot.
 use Rattle.std.specs.Prelude.{◌≡◌, Bool, false, Result, IfErr, OnOk, IsTrue}
 use Rattle.sqlite.specs.Held.{state}
 use Rattle.sqlite.specs.State.{State, HasCleanDisk, IsUnchanged, Survives}
@@ -12,6 +12,8 @@ use Rattle.fr_tables.specs.Changes.{Stays}
 use Rattle.fr_world.specs.Held.{Reads}
 use Rattle.fr_store.specs.Crashes.{StoredLeaves}
 use Rattle.fr_store.specs.Stored.{StandsStored}
+use Rattle.fr_store.specs.declared.fault.StoreFault.{StoreFault}
+use Rattle.fr_store.specs.declared.fault.StoreFault.TheVariants as fault
 use Rattle.fr_store.specs.declared.store.Store.{Store}
 
 -- A call looks whether a connection can be asked. Where it says so the connection is open, and
@@ -21,6 +23,11 @@ pub record LooksReady (old new : State) (r : Bool) : Type 0 where
   pub stays : HasCleanDisk new → Stays old new
   pub outside : old.in_transaction ≡ false → new.in_transaction ≡ false
   pub survives : Survives old new (λ _. ⊥)
+
+-- The connection is open, and nothing changed; or the answer is `Unavailable`.
+pub record ExpectsOpen {X : Type 0} (old new : State) (r : Result X StoreFault) : Type 0 where
+  pub unchanged : HasCleanDisk new → OnOk r (IsUnchanged old new)
+  pub refused : IfErr r (λ e. e ≡ fault.Unavailable)
 
 -- A call only looks whether a store can be asked, and is refused where it cannot. Else the store's
 -- connection is open. The store stands for the same book as before. The only refusal is

@@ -1,13 +1,12 @@
 //! Makes a register of the schema before one of this schema, in one transaction.
 
-ghost use Rattle.std.specs.Prelude.{◌≡◌, IfErr, OnOk, false};
-ghost use Rattle.sqlite.specs.State.{HasCleanDisk, IsUnchanged, Survives};
+ghost use Rattle.std.specs.Prelude.{◌≡◌, false};
 ghost use Rattle.sqlite.specs.Held.{state};
-ghost use Rattle.fr_tables.specs.Asking.{AreAsBefore};
+ghost use Rattle.fr_tables.specs.Asking.{Looks};
 ghost use Rattle.fr_store.specs.Applying.{Tries, Edits, Within};
 ghost use Rattle.fr_store.specs.Before.{MovesCluster, Migrates, MakesOpenable, KeepsBefore, KeepsNumber, ExpectsOpenable, LeavesTables};
 ghost use Rattle.fr_store.specs.Migrating.{CommitsMigration, MigratesOn};
-ghost use Rattle.fr_store.specs.declared.fault.StoreFault.TheVariants as fault;
+ghost use Rattle.fr_store.specs.Ready.{ExpectsOpen};
 
 mod files;
 
@@ -86,13 +85,7 @@ fn in_one_transaction<S: Alter>(alloc: Global, conn: &mut Connection<S>) -> Resu
 /// Makes sure that the connection is open. It leaves the tables as they are.
 pub(crate) fn require_open<S: Alter>(conn: &mut Connection<S>) -> Result<(), StoreFault>
     requires { conn.old.in_transaction ≡ false }
-    ensures open { HasCleanDisk (state S.Store conn.new)
-        → OnOk result (IsUnchanged (state S.Store conn.old) (state S.Store conn.new)) }
-    ensures same { HasCleanDisk (state S.Store conn.new)
-        → AreAsBefore (state S.Store conn.old) (state S.Store conn.new) }
-    ensures refused { IfErr result (λ e. e ≡ fault.Unavailable) }
-    ensures autocommit { conn.new.in_transaction ≡ false }
-    ensures survives { Survives (state S.Store conn.old) (state S.Store conn.new) (λ _. ⊥) }
+    ensures { Looks S.Store ExpectsOpen conn.old conn.new result }
 {
     // Gives the proof that all changes so far are committed.
     let _committed = conn.is_autocommit();

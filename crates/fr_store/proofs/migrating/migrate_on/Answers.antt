@@ -54,7 +54,7 @@ returns g c =
     let new = state g.S.Store c.in_one_transaction.new.conn in
     let clean_mid : HasCleanDisk late → HasCleanDisk mid = λ clean. omega (arith, c.require_open.ensures.survives.clean, clean) in
     let clean_late : HasCleanDisk new → HasCleanDisk late = λ clean. omega (arith, c.in_one_transaction.ensures.survives.clean, clean) in
-    let same : HasCleanDisk late → late.now ≡ old.now = λ clean. same_after old mid late (c.expect_number.ensures.same (clean_mid clean)) (c.in_ok-require_open.ensures.open clean) in
+    let same : HasCleanDisk late → late.now ≡ old.now = λ clean. same_after old mid late (c.expect_number.ensures.same (clean_mid clean)) (c.in_ok-require_open.ensures.does.unchanged clean) in
     record {
       migrated = λ clean cluster b stands. c.in_one_transaction.ensures.migrated clean cluster b (still_before old late cluster b (same (clean_late clean)) stands);
       committed = search rules;

@@ -24,7 +24,7 @@ returns-then-is_ours g c =
         ours = search rules;
         stands = λ clean ordered.
             let old = (state g.S.Store c.args.conn.now).now in
-            let third = (c.in_ok-require_open.ensures.open clean).0 in
+            let third = (c.in_ok-require_open.ensures.does.unchanged clean).0 in
             let told = c.config.ensures.same (late clean) third.was_open in
             let said = c.expect_number.ensures.same (before clean) told.0 in
             let ours : IsOurs last.now.schema = search rules in
@@ -33,7 +33,7 @@ returns-then-is_ours g c =
             (register_found c.in-Some.config old first.now second.now our_schema_number said.1 told.1 refl (subst HasTables third.now_is has) (c.in_ok-expect_number.ensures.does.found (before clean))
             (c.in-Some.ensures.does.cluster (late clean) third.was_open) (c.in-Some.ensures.does.suppliers (late clean) third.was_open));
         variants = λ clean has.
-            let third = (c.in_ok-require_open.ensures.open clean).0 in
+            let third = (c.in_ok-require_open.ensures.does.unchanged clean).0 in
             subst (λ (d : Database). TellsOpened (tables_in d.trees)) (sym third.now_is) (c.in-Some.ensures.does.variants (late clean) third.was_open (subst HasTables third.now_is has));
         is_open = search rules;
         told = search rules;
