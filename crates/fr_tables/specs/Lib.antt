@@ -8,3 +8,4 @@ pub mod Making
 pub mod Filling
 pub mod ClusterRows
 pub mod Asking
+pub mod Reopened

@@ -21,15 +21,20 @@ returns-in-Err-clause-refused g c = unopened_files (image_of g.D.Disk c.args.fil
 
 pub returns-in-Ok-reopen-clause-connected : goal.returns-in-Ok-reopen-clause-connected
 returns-in-Ok-reopen-clause-connected g c clean =
-    let before : HasCleanDisk (file_state c.in-Ok.conn) = omega (arith, c.in-Ok-reopen.ensures.clean, clean) in
+    let before : HasCleanDisk (file_state c.in-Ok.conn) = omega (arith, c.in-Ok-reopen.ensures.reopened.clean, clean) in
     let image = image_of g.D.Disk c.args.files in
-    let opens = c.in-Ok-reopen.ensures.opens clean in
-    let trees = c.in-Ok-reopen.ensures.trees clean in
+    let opens = c.in-Ok-reopen.ensures.reopened.opens clean in
+    let trees = c.in-Ok-reopen.ensures.reopened.trees clean in
     let finds = c.in-Ok.ensures.found before in
     record {
       opens = opens;
-      ordered = c.in-Ok-reopen.ensures.ordered clean;
-      ordered_before = c.in-Ok-reopen.ensures.ordered_before clean;
+      ordered = c.in-Ok-reopen.ensures.reopened.ordered clean;
+      ordered_before = c.in-Ok-reopen.ensures.reopened.ordered_before clean;
       found = λ db held. trees ∙ finds.holds db held;
       reads = found_opened image (file_state c.in-Ok-reopen.conn) opens.0.is_open opens.1 (file_state c.in-Ok.conn).committed.trees trees finds.reads finds.holds;
     }
+
+pub returns-in-Ok-reopen-clause-honest : goal.returns-in-Ok-reopen-clause-honest
+returns-in-Ok-reopen-clause-honest g c clean =
+    let before : HasCleanDisk (file_state c.in-Ok.conn) = omega (arith, c.in-Ok-reopen.ensures.reopened.clean, clean) in
+    (c.in-Ok.ensures.found before).honest

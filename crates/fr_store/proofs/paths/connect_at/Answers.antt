@@ -13,14 +13,14 @@ use Rattle.fr_store.proofs.paths.connect_at.Goals as goal
 
 pub returns-in-Ok-reopen-clause-connected : goal.returns-in-Ok-reopen-clause-connected
 returns-in-Ok-reopen-clause-connected g c clean =
-    let before : HasCleanDisk (file_state c.in-Ok.conn) = omega (arith, c.in-Ok-reopen.ensures.clean, clean) in
-    let opens = c.in-Ok-reopen.ensures.opens clean in
-    let trees = c.in-Ok-reopen.ensures.trees clean in
+    let before : HasCleanDisk (file_state c.in-Ok.conn) = omega (arith, c.in-Ok-reopen.ensures.reopened.clean, clean) in
+    let opens = c.in-Ok-reopen.ensures.reopened.opens clean in
+    let trees = c.in-Ok-reopen.ensures.reopened.trees clean in
     let finds = c.in-Ok.ensures.found before in
     record {
       opens = opens;
-      ordered = c.in-Ok-reopen.ensures.ordered clean;
-      ordered_before = c.in-Ok-reopen.ensures.ordered_before clean;
+      ordered = c.in-Ok-reopen.ensures.reopened.ordered clean;
+      ordered_before = c.in-Ok-reopen.ensures.reopened.ordered_before clean;
       found = λ db held. trees ∙ finds.holds db held;
       reads = found_opened (image_at g.S.Start) (file_state c.in-Ok-reopen.conn) opens.0.is_open opens.1 (file_state c.in-Ok.conn).committed.trees trees finds.reads finds.holds;
     }
@@ -46,7 +46,7 @@ returns-in-Err-reopen-clause-refused g c =
     let held = image_at g.S.Start in
     let it = c.in-Err-reopen in
     left_store held it.store (λ clean db may.
-    let before : HasCleanDisk (file_state c.in-Ok.conn) = omega (arith, it.ensures.unharmed.clean, no_doubt _ clean) in
+    let before : HasCleanDisk (file_state c.in-Ok.conn) = omega (arith, it.ensures.given_back.unharmed.clean, no_doubt _ clean) in
     let finds = c.in-Ok.ensures.found before in
-    let is = it.ensures.left db (c.in-Ok.ensures.opened before).0.is_open may in
+    let is = it.ensures.given_back.left db (c.in-Ok.ensures.opened before).0.is_open may in
     record { recovered = subst (AreFoundIn held) (sym is) finds.reads; only = λ trees there. is ∙ finds.holds trees there })
