@@ -13,6 +13,7 @@ use Rattle.fr_cli.specs.Words.{AskFor, IsFaultOf, IsFileOf, LackAnObject, word_o
 use Rattle.fr_cli.specs.declared.text_file.TextFile.{TextFile}
 use Rattle.fr_cli.specs.declared.text_file.TextFile.TheVariants.{Config, Requests, Rows}
 use Rattle.fr_cli.specs.declared.words.Job.TheVariants as job
+use Rattle.fr_cli.specs.declared.words.WordFault.TheVariants.{Usage}
 
 server_is_taken : fault_of slotplan (codes "serve" ∷ codes "car.db" ∷ codes "8080" ∷ codes "--count" ∷ codes "3" ∷ []) ≡ []
 unfolding clap_on_literals

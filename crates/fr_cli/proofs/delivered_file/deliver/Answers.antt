@@ -9,7 +9,7 @@ returns-then-ne-clause-says g c =
 
 pub returns-in-Ok-clause-says : goal.returns-in-Ok-clause-says
 returns-in-Ok-clause-says g c =
-    given_over c.args.delivery _ _ c.first_line-key.result c.args.body (inr (search rules, (c.in-Ok.front.items, c.in-Ok.ensures.line, c.in-Ok.ensures.bound, search rules))) c.over_file-in-Ok.ensures
+    given_over c.args.delivery _ _ c.first_line-key.result c.args.body (inr (search rules, (c.in-Ok.front.items, c.in-Ok.ensures.line, search rules, search rules))) c.over_file-in-Ok.ensures
 
 pub returns-in-Err-clause-says : goal.returns-in-Err-clause-says
 returns-in-Err-clause-says g c = inr (search rules, (c.in-Err.fault, search rules, search rules), refl)
