@@ -27,7 +27,7 @@ use Rattle.fr_cli.specs.Asking.{IsForReader, asked_with, query_of}
 use Rattle.fr_cli.specs.Deeds.{Asked, Deed, Did, Drawn, IsDeedOf, IsShown, LacksAnswer, Lines, Visits, WereLines, asks_by, session_of}
 use Rattle.fr_cli.specs.Deliveries.{request_with}
 use Rattle.fr_cli.specs.Endings.{Tells, status_of, word_line}
-use Rattle.fr_cli.specs.Faults.{IsNotDelivered, IsNotReported, fault_word}
+use Rattle.fr_cli.specs.Faults.{IsNotDelivered, IsNotOpened, IsNotReported, fault_word}
 use Rattle.fr_cli.specs.Incoming.{AreFirstOf, HasAnswered, IsAsked}
 use Rattle.fr_cli.specs.Jobs.{Ends, IsPerformed, Serves, Shows, Streams}
 use Rattle.fr_cli.specs.Outcomes.{line_of}
@@ -51,6 +51,7 @@ use Rattle.fr_cli.specs.declared.query.Inquiry.{Inquiry}
 use Rattle.fr_cli.specs.declared.script_fault.ScriptFault.{ScriptFault}
 use Rattle.fr_cli.specs.declared.words.Job.{Job}
 use Rattle.fr_cli.specs.declared.words.Job.TheVariants as job
+use Rattle.fr_cli.proofs.HoldingLaws.{holds_on}
 use Rattle.fr_cli.proofs.ServingLaws.{appends-kept}
 
 -- ---- streams
@@ -74,7 +75,7 @@ next_holds : {D : Type 0} {g : Ghosts D} (left : Leftover D g) (next : Image) (c
     → (x : Book) × Follows (end_of left) c b x × Held next c x
 next_holds (left.Files files) next c b is (inl same) holds = (b, refl, inl (subst (HoldsBook c b) (sym same) (holds is).0))
 next_holds (left.Files files) next c b is (inr crash) holds = (b, refl, inl ((holds is).1 next crash))
-next_holds (left.Unopened files) next c b is opened holds = absurd opened
+next_holds (left.Unopened files) next c b is opened holds = absurd holds
 next_holds (left.Store it) next c b is (db, found, in_it) holds = let (x, near, register) = holds db found in (x, near, inr (db, in_it, register))
 
 -- what was done where there is no answer
@@ -162,6 +163,10 @@ module _ {D : Type 0} {g : Ghosts D} (held : Image) (rest : Option (Leftover D g
         ⊎ ((left : Leftover D g) × (rest ≡ Some left) × (deed : Deed) × IsDeedOf read comings s status j deed
         × ((next : Image) → IsCleanLeft left → IsNextOf left next → LeadsBy held (record { deed = deed; end = end_of left }) next))
 
+    -- as one that did not open the file
+    refused : (j : Job) (fault : Fault) → (rest ≡ None) ⊎ IsNotOpened held rest fault → Shows (Err (failure.Fault fault)) s status → comings.none → Leading j
+    refused j fault why shown none = inl (fault, why, shown, none, λ left next. holds_on held next rest fault why left)
+
     -- with this deed
     led : (j : Job) (deed : Deed) → IsDeedOf read comings s status j deed → LeadsOn deed → Leading j
     led j deed is (left, same, leads) = inr (left, same, deed, is, leads)
@@ -172,7 +177,7 @@ module _ {D : Type 0} {g : Ghosts D} (held : Image) (rest : Option (Leftover D g
     -- of a fault for which no report is given
     not_reported : (j : Job) (deed : Deed) (fault : Fault) → comings.none → Shows (Err (failure.Fault fault)) s status → (LacksAnswer s status → IsDeedOf read comings s status j deed)
         → ((c : Cluster) (b : Book) → Did c b deed (session_of []) b) → IsNotReported held rest fault → Leading j
-    not_reported j deed fault none shown is did (inl not) = inl (fault, inr not, shown, none)
+    not_reported j deed fault none shown is did (inl not) = refused j fault (inr not) shown none
     not_reported j deed fault none shown is did (inr (lacks, stays)) = led j deed (is (lacking fault lacks shown)) (stays_lead deed did stays)
 
     reported : (db : Bor (List ℕ)) (query : Inquiry) (done : Result (Vec ℕ) Failure) (a : Answer) → Shows done s status → Says (λ fault. ⊥) (λ told. told ≡ a) done
@@ -206,12 +211,12 @@ module _ {D : Type 0} {g : Ghosts D} (held : Image) (rest : Option (Leftover D g
     -- of a fault for which no answer to a delivery is given
     not_delivered : (db : Bor (List ℕ)) (delivery : Delivery) (fault : Fault) → comings.none → Shows (Err (failure.Fault fault)) s status
         → IsNotDelivered held rest read delivery s.input.old s.input.new fault → Leading (job.Deliver db delivery)
-    not_delivered db delivery fault none shown (inl (unread, nothing)) = inl (fault, inl nothing, shown, none)
-    not_delivered db delivery fault none shown (inr (body, front, inl (key, given, inl not))) = inl (fault, inr not, shown, none)
+    not_delivered db delivery fault none shown (inl (unread, nothing)) = refused (job.Deliver db delivery) fault (inl nothing) shown none
+    not_delivered db delivery fault none shown (inr (body, front, inl (key, given, inl not))) = refused (job.Deliver db delivery) fault (inr not) shown none
     not_delivered db delivery fault none shown (inr (body, front, inl (key, given, inr (lacks, leads)))) =
         let asks = asked_with key (request_with delivery body) in
         led (job.Deliver db delivery) (Asked asks None) ((body, key, front, given, refl), lacking fault lacks shown) (unanswered_leads asks leads)
-    not_delivered db delivery fault none shown (inr (body, front, inr (dash, of, nothing))) = inl (fault, inl nothing, shown, none)
+    not_delivered db delivery fault none shown (inr (body, front, inr (dash, of, nothing))) = refused (job.Deliver db delivery) fault (inl nothing) shown none
 
     delivered : (db : Bor (List ℕ)) (delivery : Delivery) (done : Result (Vec ℕ) Failure) (a : Answer) → Shows done s status → Says (λ fault. ⊥) (λ told. told ≡ a) done
         → IsDeliveryToFile held rest read delivery s.input.old s.input.new a → Leading (job.Deliver db delivery)
@@ -260,7 +265,7 @@ module _ {D : Type 0} {g : Ghosts D} (held : Image) (rest : Option (Leftover D g
     ask : (db : Bor (List ℕ)) (done : Result ⊤ Fault) → comings.none → IsAsked held rest s.input.old s.input.new s.out.old s.out.new done → Ends done s status
         → Leading (job.Ask db)
     ask db done none (inl (fault, failed, not, kept, silent)) ends =
-        let (ended, told) = subst (λ (d : Result ⊤ Fault). Ends d s status) failed ends in inl (fault, inr not, (ended, silent, told), none)
+        let (ended, told) = subst (λ (d : Result ⊤ Fault). Ends d s status) failed ends in refused (job.Ask db) fault (inr not) (ended, silent, told) none
     ask db done none (inr (asked, last, is_left, same, at_end, has)) ends = answered db last is_left.0 asked (ends.0 ∙ ap status_of same) has
 
     -- as many connections as were to be, where all were served
@@ -272,7 +277,7 @@ module _ {D : Type 0} {g : Ghosts D} (held : Image) (rest : Option (Leftover D g
     serve db port count seconds (done, told, ends, announced, inl (fault, failed, not, stayed, silent, kept), tells) =
         let (written, begins, appended) = subst (λ (d : Result ⊤ Fault). Tells told s.err.new d) failed tells in
         let front : AppendsFront s.err.old s.err.new (word_line (fault_word fault)) = (written, begins, appends-kept s.err.old told s.err.new written kept appended) in
-        inl (fault, inr not, (ends ∙ ap status_of failed, silent, front), stayed)
+        refused (job.Serve db port count seconds) fault (inr not) (ends ∙ ap status_of failed, silent, front) stayed
     serve db port count seconds (done, told, ends, announced, inr (last, is_left, has), tells) =
         led (job.Serve db port count seconds) (Visits has.visits) (has.came_in, all_served count has.visits done ends has.all) (visits_lead last is_left.0 has.visits has.served)
 

@@ -28,5 +28,6 @@ pub mod VisitLaws
 mod NumberedLaws
 mod EachFault
 mod CheckingLaws
+mod HoldingLaws
 mod DeedLaws
 mod SeriesLaws

@@ -1,5 +1,6 @@
--- Deeds that are done one after another are a run.
+-- Deeds that are done one after another are a run, also where jobs come between them that did not open the file.
 use Rattle.std.proofs.Common.{◌≡◌, inl, inr, List, [], ◌∷◌, ◌++◌, Some, None, Ok, Err, Result, Option, refl, subst, sym}
+use Rattle.std.proofs.Math.Logic.{∥∥₁_elim, ∥∥₁_map}
 use Rattle.fr_base.specs.Book.{Book}
 use Rattle.fr_base.specs.Cluster.{Cluster}
 use Rattle.fr_base.specs.Run.{IsRun}
@@ -11,9 +12,10 @@ use Rattle.fr_base.specs.declared.request.Ask.{Ask}
 use Rattle.fr_desks.specs.FileDesk.{Held}
 use Rattle.fr_desks.specs.Sessions.{Session}
 use Rattle.fr_http.specs.Exchanges.{Answered, AreExchanged, Asks, Dealing, Drawn, Exchange}
+use Rattle.fr_office.specs.Headline.{WereAnswered}
 use Rattle.fr_office.proofs.RunLaws.{runs_joined, were_answered}
 use Rattle.fr_cli.specs.Deeds.{Asked, Deed, Did, Drawn as DrawnBy, Lines, Visits, WasLeft, WasReplied, asks_at, asks_by, session_of}
-use Rattle.fr_cli.specs.Series.{Adds, Closed, End, Follows, JobsAreKept, Unclosed, joined}
+use Rattle.fr_cli.specs.Series.{Adds, AllJobsAreKept, AreAllBy, Closed, End, Follows, JobsAreKept, Turn, Unclosed, joined, turns_of}
 use Rattle.fr_cli.proofs.ScriptRunLaws.{lines-run}
 
 -- From one book to another the session's requests had its answers.
@@ -66,6 +68,20 @@ still_sound : (c : Cluster) (b last : Book) (s : Session) → IsSound c b → Ru
 still_sound c b last s sound run =
     let was = were_answered (λ d. d ≡ last) c b s.asks s.answers sound (last, refl, run) in subst (IsSound c) was.stands was.sound
 
+-- Where a deed leads from one book to the next, and others from there, they lead together.
+all_behind : (now : Book → Book → Type 0) (turn : Turn) (turns : List Turn) (c : Cluster) (b book next : Book) (done more : Session) → IsSound c b → Did c b turn.deed done book
+    → Adds turn.end c book more next → Runs c book more next
+    → (rest : Session) × (end : Book) × AreAllBy c next turns rest end × WereAnswered (now end) c next rest.asks rest.answers
+    → (all : Session) × (end : Book) × AreAllBy c b (turn ∷ turns) all end × WereAnswered (now end) c b all.asks all.answers
+all_behind now turn turns c b book next done more sound did adds second (rest, end, all, was) =
+    let run = run_joined c b book was.last done (joined more rest) (did_run c b book turn.deed done did) (run_joined c book next was.last more rest second was.run) in
+    let whole = joined done (joined more rest) in (
+      whole,
+      end,
+      (done, more, rest, book, next, did, adds, all, refl),
+      were_answered (now end) c b whole.asks whole.answers sound (was.last, was.stands, run),
+    )
+
 pub jobs_are_kept : JobsAreKept
 jobs_are_kept held last [] led c b there sound = (
   session_of [],
@@ -75,14 +91,17 @@ jobs_are_kept held last [] led c b there sound = (
 )
 jobs_are_kept held last (turn ∷ turns) (image, leads, led) c b there sound =
     let (done, book, next, did, follows, holds) = leads c b there sound in
-    let first = did_run c b book turn.deed done did in
     let (more, adds, second) = one_more turn.end c book next follows in
-    let start = still_sound c book next more (still_sound c b book done sound first) second in
-    let (rest, end, all, was) = jobs_are_kept image last turns led c next holds start in
-    let run = run_joined c b book was.last done (joined more rest) first (run_joined c book next was.last more rest second was.run) in
-    let whole = joined done (joined more rest) in (
-      whole,
-      end,
-      (done, more, rest, book, next, did, adds, all, refl),
-      were_answered (λ x. (x ≡ end) × Held last c x) c b whole.asks whole.answers sound (was.last, was.stands, run),
-    )
+    let start = still_sound c book next more (still_sound c b book done sound (did_run c b book turn.deed done did)) second in
+    all_behind (λ end x. (x ≡ end) × Held last c x) turn turns c b book next done more sound did adds second (jobs_are_kept image last turns led c next holds start)
+
+pub all_jobs_are_kept : AllJobsAreKept
+all_jobs_are_kept held last [] led c b there sound = ∣ jobs_are_kept held last [] led c b there sound ∣₁
+all_jobs_are_kept held last (Some turn ∷ jobs) (image, leads, led) c b there sound =
+    let (done, book, next, did, follows, holds) = leads c b there sound in
+    let (more, adds, second) = one_more turn.end c book next follows in
+    let start = still_sound c book next more (still_sound c b book done sound (did_run c b book turn.deed done did)) second in
+    ∥∥₁_map (all_jobs_are_kept image last jobs led c next holds start)
+    (all_behind (λ end x. (x ≡ end) × Held last c x) turn (turns_of jobs) c b book next done more sound did adds second)
+all_jobs_are_kept held last (None ∷ jobs) (image, holds, led) c b there sound =
+    ∥∥₁_elim (holds c b there) (hlevel) (λ now. all_jobs_are_kept image last jobs led c b now sound)

@@ -1,8 +1,9 @@
 -- Series: jobs at one register's file, one after another. Each opens what the one before left: files that were closed, as
 -- they are or as a crash leaves them; or, where they failed to close, as where the disk fails from some call on, what an open after a
 -- crash finds in their store. What such jobs ask of the register, and are answered, is a run of it, with one request more at most at
--- the end of each whose files failed to close; and all of it is as promised.
-use Rattle.std.specs.Prelude.{◌≡◌, ◌⊎◌, ℕ, List, [], ◌∷◌, ◌++◌, Option, Some, None, Err, ⊤}
+-- the end of each whose files failed to close; and all of it is as promised. A job that did not open the file asks nothing, and what it leaves
+-- holds next what the file held.
+use Rattle.std.specs.Prelude.{◌≡◌, ◌≢◌, ◌⊎◌, ℕ, List, [], ◌∷◌, ◌++◌, Option, Some, None, Err, ⊤}
 use Rattle.std.specs.Borrow.{Bor}
 use Rattle.std.specs.declared.io.Read as Read
 use Rattle.sqlite.specs.Files.{HoldsDatabase, IsCleanLeft}
@@ -28,18 +29,22 @@ use Rattle.fr_cli.specs.Texts.{IsClusterAt, readings}
 use Rattle.fr_cli.specs.Visits.{Comings, SinkGhosts, SourceGhosts, comings}
 use Rattle.fr_cli.specs.declared.failure.Failure.TheVariants as failure
 use Rattle.fr_cli.specs.declared.fault.Fault.{Fault}
+use Rattle.fr_cli.specs.declared.fault.Fault.TheVariants.{Register}
 use Rattle.fr_cli.specs.declared.listener.Listener as Listener
 use Rattle.fr_cli.specs.declared.text_files.TextFiles as TextFiles
 use Rattle.fr_cli.specs.declared.words.Job.{Job}
 use Rattle.fr_cli.specs.declared.words.Job.TheVariants as job
+use Rattle.fr_store.specs.StoreFiles.{image_left, outcomes_left}
+use Rattle.fr_store.specs.declared.fault.StoreFault.TheVariants.{Unavailable}
 
 -- ---- one job
 
--- What is opened next, where nobody else writes to the files: files that were closed, as they are or as a crash leaves them; or what an
--- open after a crash finds in the store of files that failed to close.
+-- What is opened next, where nobody else writes to the files: files that were closed, or were not opened, as they are or as a crash leaves
+-- them; or what an open after a crash finds in the store of files that failed to close.
 abbrev pub IsNextOf : {D : Type 0} {g : Ghosts D} → Leftover D g → Image → Type 0
 IsNextOf {D} {g} (left.Files files) next = IsLeftBy g files next
-IsNextOf (left.Unopened files) next = ⊥
+IsNextOf {D} {g} (left.Unopened files) next =
+    let rest : Leftover D g = left.Unopened files in (next ≡ image_left rest) ⊎ outcomes_left rest next
 IsNextOf (left.Store it) next = (db : Trees) × recovers it db × HoldsDatabase next db
 
 -- How a deed's files were left: closed, or as they failed to close.
@@ -78,11 +83,22 @@ AsksRegister (job.Picture db variant supplier) = ⊤
 AsksRegister (job.Deliver db delivery) = ⊤
 AsksRegister _ = ⊥
 
--- The job ended by this fault, and told it, as one that did not open the file does: nothing was printed, and no connection came in. Of what
--- it leaves no more is said.
+-- Each book that the file held it holds next.
+abbrev pub HoldsOn : Image → Image → Type 0
+HoldsOn held next = (c : Cluster) (b : Book) → Held held c b → ∥ Held next c b ∥₁
+
+-- By this fault it is clear what is left of a file that was not opened. Of files in which no database was opened it is not for `Unavailable`.
+abbrev pub IsClear : {D : Type 0} {g : Ghosts D} → Leftover D g → Fault → Type 0
+IsClear (left.Files files) fault = ⊤
+IsClear (left.Unopened files) fault = fault ≢ Register Unavailable
+IsClear (left.Store it) fault = ⊤
+
+-- The job ended by this fault, and told it, as one that did not open the file does: nothing was printed, and no connection came in. What is
+-- left, where that is clear, holds next each book that the file held.
 abbrev pub WasNotOpened : {D : Type 0} {g : Ghosts D} → Image → Option (Leftover D g) → Comings → Streams → ℕ → Type 0
-WasNotOpened held rest comings s status =
+WasNotOpened {D} {g} held rest comings s status =
     (fault : Fault) × ((rest ≡ None) ⊎ IsNotOpened held rest fault) × Shows (Err (failure.Fault fault)) s status × comings.none
+    × ((left : Leftover D g) (next : Image) → rest ≡ Some left → IsClear left fault → IsCleanLeft left → IsNextOf left next → HoldsOn held next)
 
 -- While a job was done, these files of text became those, and this listener that one. What is said of a job that was done, and left
 -- this of its file.
@@ -97,7 +113,7 @@ module _ {D F R L I O : Type 0} (g : Ghosts D) (texts : TextFiles.Ghosts F R) (r
       → (f : ClusterFile) × IsClusterAt (readings texts reader before after) config.now f × Held next f.cluster (opening f) × IsSound f.cluster (opening f)
 
   -- A job that asks the register of a file did such a deed, and that leads from what the file held to what it holds next; or it ended as one
-  -- that did not open the file.
+  -- that did not open the file, and asked nothing.
   abbrev pub JobLeads : Type 0
   JobLeads = (held : Image) (rest : Option (Leftover D g)) (before after : F) (old new : L) (job : Job) (s : Streams) (status : ℕ)
       → IsPerformed held rest (readings texts reader before after) (comings listener from to old new) job s status → AsksRegister job
@@ -141,3 +157,26 @@ JobsAreKept = (held last : Image) (turns : List Turn) → AllLeadBy held turns l
     → (c : Cluster) (b : Book) → Held held c b → IsSound c b
     → (all : Session) × (book : Book) × AreAllBy c b turns all book
     × WereAnswered (λ x. (x ≡ book) × Held last c x) c b all.asks all.answers
+
+-- ---- one after another, and some that did not open the file
+
+-- One after another jobs lead from what the file held at first to what it holds at last: each by its turn; or one that did not open the
+-- file by none, and each book that the file held it holds next.
+abbrev pub AllLeadOn : Image → List (Option Turn) → Image → Type 0
+AllLeadOn held [] last = last ≡ held
+AllLeadOn held (Some turn ∷ jobs) last = (next : Image) × LeadsBy held turn next × AllLeadOn next jobs last
+AllLeadOn held (None ∷ jobs) last = (next : Image) × HoldsOn held next × AllLeadOn next jobs last
+
+-- the turns of jobs
+abbrev pub turns_of : List (Option Turn) → List Turn
+turns_of [] = []
+turns_of (Some turn ∷ jobs) = turn ∷ turns_of jobs
+turns_of (None ∷ jobs) = turns_of jobs
+
+-- From a sound book that the file held at first, it holds at last the one after all requests of the turns, whatever jobs came between
+-- them that did not open it; and all was answered as promised.
+abbrev pub AllJobsAreKept : Type 0
+AllJobsAreKept = (held last : Image) (jobs : List (Option Turn)) → AllLeadOn held jobs last
+    → (c : Cluster) (b : Book) → Held held c b → IsSound c b
+    → ∥ ((all : Session) × (book : Book) × AreAllBy c b (turns_of jobs) all book
+    × WereAnswered (λ x. (x ≡ book) × Held last c x) c b all.asks all.answers) ∥₁

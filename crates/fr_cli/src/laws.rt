@@ -4,7 +4,7 @@
 ghost use Rattle.fr_cli.specs.Numbers.{EachNumberIsNamed};
 ghost use Rattle.fr_cli.specs.Laws.{AnsweredLinesAreARun, AvailableAnswersAreSteps, EachFaultIsExplained};
 ghost use Rattle.fr_cli.specs.OutputLaws.{AnsweredLinesAreOne, OutputIsOne};
-ghost use Rattle.fr_cli.specs.Series.{JobLeads, JobsAreKept, MadeIsHeld};
+ghost use Rattle.fr_cli.specs.Series.{AllJobsAreKept, JobLeads, JobsAreKept, MadeIsHeld};
 
 use crate::listener::Listener;
 use crate::text_files::TextFiles;
@@ -49,7 +49,7 @@ pub fn made_is_held<D: Disk, F: TextFiles, L: Listener>()
 
 /// What a job asked the register of a file, by what the job read and printed, leads from the book that the file held to the one that
 /// it holds next: the book after what was asked, and where the file failed to close at most one request more. Or the job ended as one
-/// that did not open the file.
+/// that did not open the file, and asked nothing. Then what is left holds next what the file held, where it is clear what is left.
 pub fn job_leads<D: Disk, F: TextFiles, L: Listener>()
     ensures { JobLeads D.Disk F.TextFiles F.Reader.Read L.Listener L.Reader.Source L.Writer.Sink }
 {}
@@ -59,4 +59,10 @@ pub fn job_leads<D: Disk, F: TextFiles, L: Listener>()
 /// supplier all was answered as if it were alone, and at most one frame is sent in a cell.
 pub fn jobs_are_kept()
     ensures { JobsAreKept }
+{}
+
+/// So it is also where jobs come before them, between them or behind them that did not open the file: each book that the file held
+/// before such a job it holds next.
+pub fn all_jobs_are_kept()
+    ensures { AllJobsAreKept }
 {}
