@@ -3,22 +3,22 @@ use Rattle.std.proofs.Common.{◌≡◌, ◌≤◌, length, inl, inr, ℕ, List,
 use Rattle.std.specs.Prelude.{⊤}
 use Rattle.std.specs.Io.KnownBytes.{Appends, Keeps}
 use Rattle.std.proofs.KnownBytes.{Appends-nil, Keeps-trans, Keeps-refl}
-use Rattle.std.proofs.lemmas.List.{map_push}
+use Rattle.sqlite.specs.Files.{IsCleanLeft}
 use Rattle.sqlite.specs.declared.file.Leftover.{Leftover}
 use Rattle.sqlite_disk.specs.declared.Disk.{Ghosts}
 use Rattle.sqlite_wal.specs.Recovery.{Image}
 use Rattle.fr_base.specs.Book.{Book}
 use Rattle.fr_base.specs.Cluster.{Cluster}
+use Rattle.fr_desks.specs.FileDesk.{Held, IsLeftWith}
 use Rattle.fr_http.specs.Connection.{IsConnection}
-use Rattle.fr_http.specs.Exchanges.{AreExchanged, Exchange, IsExchange}
 use Rattle.fr_http.specs.declared.fault.LinkFault.{LinkFault}
 use Rattle.fr_http.specs.declared.serve.Served.{Served}
 use Rattle.fr_http.proofs.ExchangeLaws.{exchanges-sound}
 use Rattle.fr_world.specs.Held.{Standing}
 use Rattle.fr_cli.specs.Guarding.{fault_unwatched}
 use Rattle.fr_cli.specs.Performing.{listening}
-use Rattle.fr_cli.specs.Serving.{HasServed, IsServed, IsServedOver, ServesAll, ServesOne, StopsServing, TellsEach, TellsEnd}
-use Rattle.fr_cli.specs.Visits.{Comings, Visit, visit_of}
+use Rattle.fr_cli.specs.Serving.{HasServed, IsServed, IsServedOver, ServesAll, ServesEach, ServesOne, StopsServing, TellsEach, TellsEnd}
+use Rattle.fr_cli.specs.Visits.{Comings, Visit}
 use Rattle.fr_cli.specs.declared.fault.Fault.{Fault}
 use Rattle.fr_cli.specs.declared.fault.Fault.TheVariants.{CannotListen}
 use Rattle.fr_cli.specs.declared.serving.Service.{Service}
@@ -48,29 +48,38 @@ pub serves_stay : (clean first : Type 0) (old mid new : Standing) (visit : Visit
 serves_stay clean first old mid new visit falls stays one = λ is c b stands sound.
     let (x, last, same, exchange, after) = one (falls is) c b stands sound in (x, last, same, exchange, stays is c last after)
 
--- ---- exchanges, and then one more
+-- ---- exchanges, one behind another
 
-exchanged-then : (c : Cluster) (b mid last : Book) (xs : List Exchange) (x : Exchange) → AreExchanged c b xs mid → IsExchange c mid x last
-    → AreExchanged c b (xs ++ x ∷ []) last
-exchanged-then c b mid last [] x so more = (last, subst (λ d. IsExchange c d x last) so more, refl)
-exchanged-then c b mid last (y ∷ ys) x so more = (so.0, so.1, exchanged-then c so.0 mid last ys x so.2 more)
-
--- No connection was served yet.
-pub serves_none : (clean : Type 0) (s : Standing) → ServesAll clean s s []
+-- No connection was served.
+serves_none : (clean : Type 0) (s : Standing) → ServesAll clean s s []
 serves_none clean s = λ is c b stands sound. ([], b, refl, refl, stands)
 
--- One more was served.
-pub serves_then : (clean first : Type 0) (old mid new : Standing) (visits : List Visit) (visit : Visit) → (clean → first)
-    → ServesAll first old mid visits → ServesOne clean mid new visit → ServesAll clean old new (visits ++ visit ∷ [])
-serves_then clean first old mid new visits visit falls p q = λ is c b stands sound.
-    let (xs, book, each, so, there) = p (falls is) c b stands sound in
-    let (x, last, same, one, after) = q is c book there (exchanges-sound c b book xs sound so) in (
-      xs ++ x ∷ [],
-      last,
-      map_push visit_of xs x ∙ ap₂ (λ (l : List Visit) (v : Visit). l ++ v ∷ []) each same,
-      exchanged-then c b book last xs x so one,
-      after,
-    )
+-- One was served before others.
+serves_first : (clean first : Type 0) (old mid new : Standing) (visit : Visit) (visits : List Visit) → (clean → first)
+    → ServesOne first old mid visit → ServesAll clean mid new visits → ServesAll clean old new (visit ∷ visits)
+serves_first clean first old mid new visit visits falls p q = λ is c b stands sound.
+    let (x, book, same, one, there) = p (falls is) c b stands sound in
+    let (xs, last, each, so, after) = q is c book there (exchanges-sound c b book (x ∷ []) sound (book, one, refl)) in
+    (x ∷ xs, last, ap₂ (λ (v : Visit) (l : List Visit). v ∷ l) same each, (book, one, so), after)
+
+module _ {D : Type 0} (clean : D → Type 0) (stands : D → Standing) where
+  -- One more was served behind others.
+  pub each_then : (old mid new : D) (visits : List Visit) (visit : Visit) → (clean new → clean mid) → ServesEach clean stands old mid visits
+      → ServesOne (clean new) (stands mid) (stands new) visit → ServesEach clean stands old new (visits ++ visit ∷ [])
+  each_then old mid new [] visit falls so one =
+      (new, subst (λ d. clean new → clean d) so falls, subst (λ d. ServesOne (clean new) (stands d) (stands new) visit) so one, refl)
+  each_then old mid new (first ∷ visits) visit falls so one = (so.0, so.1, so.2, each_then so.0 mid new visits visit falls so.3 one)
+
+  -- The first register was clean if the last is.
+  each_falls : (old new : D) (visits : List Visit) → ServesEach clean stands old new visits → clean new → clean old
+  each_falls old new [] so is = subst clean so is
+  each_falls old new (visit ∷ visits) so is = so.1 (each_falls so.0 new visits so.3 is)
+
+  -- What there was one behind another leads from what the first register stood for to what the last stands for.
+  pub each_all : (old new : D) (visits : List Visit) → ServesEach clean stands old new visits → ServesAll (clean new) (stands old) (stands new) visits
+  each_all old new [] so = subst (λ d. ServesAll (clean new) (stands d) (stands new) []) so (serves_none (clean new) (stands new))
+  each_all old new (visit ∷ visits) so = serves_first (clean new) (clean so.0) (stands old) (stands so.0) (stands new) visit visits
+      (each_falls so.0 new visits so.3) so.2 (each_all so.0 new visits so.3)
 
 -- ---- what was told
 
@@ -96,13 +105,28 @@ tells_then a b c (visit ∷ visits) more p q = (p.0, p.1, tells_then p.0 b c vis
 
 -- ---- how a server ends
 
+-- Less is said of how they were served.
+pub served_as : (WereServed AreServed : List Visit → Type 0) (count : ℕ) (said deaf : Type 0) (CameIn : List Visit → Type 0) (a b : Option (List ℕ)) (done : Result ⊤ Fault)
+    → ((visits : List Visit) → WereServed visits → AreServed visits) → HasServed WereServed count said deaf CameIn a b done
+    → HasServed AreServed count said deaf CameIn a b done
+served_as WereServed AreServed count said deaf CameIn a b done so has = record {
+  visits = has.visits;
+  came_in = has.came_in;
+  served = so has.visits has.served;
+  told = has.told;
+  all = has.all;
+  few = has.few;
+  fault = has.fault;
+  first = has.first;
+}
+
 -- A fault came before a connection was served.
-pub served_early : (clean : Type 0) (s : Standing) (count : ℕ) (said deaf : Type 0) (CameIn : List Visit → Type 0) (a : Option (List ℕ)) (done : Result ⊤ Fault) (fault : Fault)
-    → done ≡ Err fault → StopsServing deaf [] fault → CameIn [] → HasServed clean s s count said deaf CameIn a a done
-served_early clean s count said deaf CameIn a done fault is stops came = subst (HasServed clean s s count said deaf CameIn a a) (sym is) (record {
+pub served_early : (WereServed : List Visit → Type 0) (count : ℕ) (said deaf : Type 0) (CameIn : List Visit → Type 0) (a : Option (List ℕ)) (done : Result ⊤ Fault) (fault : Fault)
+    → WereServed [] → done ≡ Err fault → StopsServing deaf [] fault → CameIn [] → HasServed WereServed count said deaf CameIn a a done
+served_early WereServed count said deaf CameIn a done fault none is stops came = subst (HasServed WereServed count said deaf CameIn a a) (sym is) (record {
   visits = [];
   came_in = came;
-  served = serves_none clean s;
+  served = none;
   told = Keeps-refl a;
   all = tt;
   few = omega arith;
@@ -110,16 +134,21 @@ served_early clean s count said deaf CameIn a done fault is stops came = subst (
   first = inl refl;
 })
 
+-- So it is of a register that was not asked.
+pub unserved : (clean : Type 0) (s : Standing) (count : ℕ) (said deaf : Type 0) (CameIn : List Visit → Type 0) (a : Option (List ℕ)) (done : Result ⊤ Fault) (fault : Fault)
+    → done ≡ Err fault → StopsServing deaf [] fault → CameIn [] → HasServed (ServesAll clean s s) count said deaf CameIn a a done
+unserved clean s count said deaf CameIn a done fault = served_early (ServesAll clean s s) count said deaf CameIn a done fault (serves_none clean s)
+
 -- For this no connection is served: its files are not watched.
 pub stops_unwatched : (deaf : Type 0) (why : WatchFault) (fault : Fault) → fault ≡ fault_unwatched why → StopsServing deaf [] fault
 stops_unwatched deaf watch.NoMemory fault is = inr (inr (refl, inl is))
 stops_unwatched deaf watch.Unavailable fault is = inr (inl is)
 
 -- No more connections could be accepted.
-pub served_until : (clean : Type 0) (old new : Standing) (count : ℕ) (deaf : Type 0) (CameIn : List Visit → Type 0) (a b : Option (List ℕ)) (done : Result ⊤ Fault) (fault : Fault) (visits : List Visit)
-    → done ≡ Err fault → fault ≡ CannotListen → deaf → CameIn visits → ServesAll clean old new visits → TellsEach a b visits → length visits ≤ count
-    → HasServed clean old new count ⊤ deaf CameIn a b done
-served_until clean old new count deaf CameIn a b done fault visits is cannot over came served told few = subst (HasServed clean old new count ⊤ deaf CameIn a b) (sym is) (record {
+pub served_until : (WereServed : List Visit → Type 0) (count : ℕ) (deaf : Type 0) (CameIn : List Visit → Type 0) (a b : Option (List ℕ)) (done : Result ⊤ Fault) (fault : Fault) (visits : List Visit)
+    → done ≡ Err fault → fault ≡ CannotListen → deaf → CameIn visits → WereServed visits → TellsEach a b visits → length visits ≤ count
+    → HasServed WereServed count ⊤ deaf CameIn a b done
+served_until WereServed count deaf CameIn a b done fault visits is cannot over came served told few = subst (HasServed WereServed count ⊤ deaf CameIn a b) (sym is) (record {
   visits = visits;
   came_in = came;
   served = served;
@@ -131,10 +160,10 @@ served_until clean old new count deaf CameIn a b done fault visits is cannot ove
 })
 
 -- What connections are served is said of the server, and where they came in.
-pub served_said : (clean : Type 0) (old new : Standing) (count : ℕ) (said deaf deafer : Type 0) (CameIn CameTo : List Visit → Type 0) (a b : Option (List ℕ)) (done : Result ⊤ Fault)
+pub served_said : (WereServed : List Visit → Type 0) (count : ℕ) (said deaf deafer : Type 0) (CameIn CameTo : List Visit → Type 0) (a b : Option (List ℕ)) (done : Result ⊤ Fault)
     → said → ((visits : List Visit) → CameIn visits → CameTo visits)
-    → (deaf → deafer) → HasServed clean old new count ⊤ deaf CameIn a b done → HasServed clean old new count said deafer CameTo a b done
-served_said clean old new count said deaf deafer CameIn CameTo a b done is came stops has = record {
+    → (deaf → deafer) → HasServed WereServed count ⊤ deaf CameIn a b done → HasServed WereServed count said deafer CameTo a b done
+served_said WereServed count said deaf deafer CameIn CameTo a b done is came stops has = record {
   visits = has.visits;
   came_in = came has.visits has.came_in;
   served = has.served;
@@ -154,23 +183,15 @@ module _ {D : Type 0} {g : Ghosts D} where
   -- What was served by a register over a file was served from the file.
   pub served_file : (file : Image) (rest : Option (Leftover D g)) (left : Leftover D g) (clean : Type 0) (old new : Standing) (port count : ℕ) (stayed deaf : Type 0)
       (CameIn : List Visit → Type 0) (out out' a b : Option (List ℕ)) (done : Result ⊤ Fault) → IsOver file rest left clean old new
-      → HasServed clean old new count (Appends out out' (listening port)) deaf CameIn a b done → IsServed file rest port count stayed deaf CameIn out out' a b done
+      → HasServed (ServesAll clean old new) count (Appends out out' (listening port)) deaf CameIn a b done → IsServed file rest port count stayed deaf CameIn out out' a b done
   served_file file rest left clean old new port count stayed deaf CameIn out out' a b done over has = inr (
     left,
     over.left,
-    record {
-      visits = has.visits;
-      came_in = has.came_in;
-      served = λ kept c book there sound.
-          let up = over.closes kept in
-          let (xs, last, each, so, after) = has.served up c book (over.finds up c book there) sound in
-          (xs, last, each, so, over.leaves c last after);
-      told = has.told;
-      all = has.all;
-      few = has.few;
-      fault = has.fault;
-      first = has.first;
-    },
+    served_as (ServesAll clean old new) (ServesAll (IsCleanLeft left) (Held file) (IsLeftWith left)) count (Appends out out' (listening port)) deaf CameIn a b done
+        (λ visits served kept c book there sound.
+        let up = over.closes kept in
+        let (xs, last, each, so, after) = served up c book (over.finds up c book there) sound in
+        (xs, last, each, so, over.leaves c last after)) has,
   )
 
   -- So it is by an errand.

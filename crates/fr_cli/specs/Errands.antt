@@ -19,7 +19,7 @@ use Rattle.fr_cli.specs.Performing.{listening, of_script}
 use Rattle.fr_cli.specs.Picturing.{plans_for}
 use Rattle.fr_cli.specs.Queries.{reader_named}
 use Rattle.fr_cli.specs.Reading.{IsRead, PrintsRead, Stays}
-use Rattle.fr_cli.specs.Serving.{HasServed, IsAnnounced}
+use Rattle.fr_cli.specs.Serving.{HasServed, IsAnnounced, ServesAll}
 use Rattle.fr_cli.specs.Visits.{Comings}
 use Rattle.fr_cli.specs.declared.failure.Failure.{Failure}
 use Rattle.fr_cli.specs.declared.fault.Fault.{Fault}
@@ -50,7 +50,7 @@ AnswersInput input left a b clean old new done = (asked : Result ⊤ ScriptFault
 -- Connections that come in are served. The line of a server that listens is printed, and the ends of those that failed are told.
 abbrev pub ServesConnections : Service → Comings → Option (List ℕ) → Option (List ℕ) → Option (List ℕ) → Option (List ℕ) → Doing ⊤ Fault
 ServesConnections service came out out' a b clean old new done = IsAnnounced (came.heard service.port) service.port out out' done
-    × HasServed clean old new service.count (Appends out out' (listening service.port)) (came.deaf service.port) (came.at service.port service.seconds) a b done
+    × HasServed (ServesAll clean old new) service.count (Appends out out' (listening service.port)) (came.deaf service.port) (came.at service.port service.seconds) a b done
 
 module _ {D : Type 0} {g : Ghosts D} (held : Image) (rest : Option (Leftover D g)) where
   -- A register stood so over the file, and then so, behind which the file was closed, and this is left of it.

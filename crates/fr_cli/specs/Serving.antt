@@ -1,6 +1,7 @@
 -- Server: its connections are exchanges with the register, one after another, with the bytes that were read and written; how
--- each ended, and to which book they lead. Of each that failed a line is told. Those of a register in a file lead from the book that the file held, and
--- what is left holds the book after them. The line of a server that listens is printed.
+-- each ended, and to which book they lead. Behind each the register stands for the book after it. Of each that failed a line is
+-- told. Those of a register in a file lead from the book that the file held, and what is left holds the book after them. The line
+-- of a server that listens is printed.
 use Rattle.std.specs.Prelude.{◌≡◌, ◌⊎◌, ◌≤◌, ℕ, List, [], ◌∷◌, length, map, Option, Result, Err, IfErr, MatchResult, OnOk, ⊤}
 use Rattle.std.specs.Io.KnownBytes.{Appends, Keeps}
 use Rattle.std.specs.declared.io.Write as Write
@@ -36,6 +37,13 @@ abbrev pub ServesAll : Type 0 → Standing → Standing → List Visit → Type 
 ServesAll clean old new visits =
     clean → InSound old (λ c b. (xs : List Exchange) × (last : Book) × (map visit_of xs ≡ visits) × AreExchanged c b xs last × new c last)
 
+-- From the first register to the last there were such exchanges, one after another. Behind each there was a register, that stood for the book after
+-- it; and it was clean if the one behind the next exchange was.
+abbrev pub ServesEach : {D : Type 0} → (D → Type 0) → (D → Standing) → D → D → List Visit → Type 0
+ServesEach clean stands old new [] = new ≡ old
+ServesEach {D} clean stands old new (visit ∷ visits) = (mid : D) × (clean mid → clean old) × ServesOne (clean mid) (stands old) (stands mid) visit
+    × ServesEach clean stands mid new visits
+
 -- Nothing is told of a connection that was served; of a fault that ended it its line, as far as it can be written.
 abbrev pub TellsEnd : Option (List ℕ) → Option (List ℕ) → Result Served LinkFault → Type 0
 TellsEnd old new done = MatchResult done (λ _. Keeps old new) (λ fault. AppendsFront old new (word_line (link_word fault)))
@@ -52,12 +60,12 @@ abbrev pub StopsServing : Type 0 → List Visit → Fault → Type 0
 StopsServing deaf visits fault = ((fault ≡ CannotListen) × deaf) ⊎ (fault ≡ Register Unavailable)
     ⊎ ((visits ≡ []) × ((fault ≡ NoMemory) ⊎ (fault ≡ WriteFailed)))
 
--- Connections that came in so were served one after another: all that were to be; or no more than those, and a fault came. The ends of those that failed were
--- told. None was served before this was said of the server.
-pub record HasServed (clean : Type 0) (old new : Standing) (count : ℕ) (said deaf : Type 0) (CameIn : List Visit → Type 0) (a b : Option (List ℕ)) (done : Result ⊤ Fault) : Type 0 where
+-- Connections that came in so were served so, one after another: all that were to be; or no more than those, and a fault came. The ends
+-- of those that failed were told. None was served before this was said of the server.
+pub record HasServed (WereServed : List Visit → Type 0) (count : ℕ) (said deaf : Type 0) (CameIn : List Visit → Type 0) (a b : Option (List ℕ)) (done : Result ⊤ Fault) : Type 0 where
   pub visits : List Visit
   pub came_in : CameIn visits
-  pub served : ServesAll clean old new visits
+  pub served : WereServed visits
   pub told : TellsEach a b visits
   pub all : OnOk done (length visits ≡ count)
   pub few : length visits ≤ count
@@ -82,7 +90,7 @@ abbrev pub IsServed : {D : Type 0} {g : Ghosts D} → Image → Option (Leftover
 IsServed {D} {g} file rest port count stayed deaf CameIn out out' a b done =
     ((fault : Fault) × (done ≡ Err fault) × IsNotOpened file rest fault × stayed × Keeps out out' × Keeps a b)
     ⊎ ((last : Leftover D g) × IsLeftOf file rest last
-    × HasServed (IsCleanLeft last) (Held file) (IsLeftWith last) count (Appends out out' (listening port)) deaf CameIn a b done)
+    × HasServed (ServesAll (IsCleanLeft last) (Held file) (IsLeftWith last)) count (Appends out out' (listening port)) deaf CameIn a b done)
 
 -- The same of a service, with the line that says where the server listens.
 abbrev pub IsServedOver : {D : Type 0} {g : Ghosts D} → Image → Option (Leftover D g) → Service → Comings → Option (List ℕ) → Option (List ℕ) → Option (List ℕ) → Option (List ℕ)

@@ -3,7 +3,7 @@ ghost use Rattle.std.specs.Prelude.{◌≡◌, ◌⊎◌, ◌∷◌, [], false, 
 ghost use Rattle.std.specs.Io.KnownBytes.{Appends};
 ghost use Rattle.sqlite_wal.specs.Files.{image_at};
 ghost use Rattle.fr_cli.specs.Performing.{listening};
-ghost use Rattle.fr_cli.specs.Serving.{Announces, HasServed, IsAnnounced, IsServedOver, ServesOne, TellsEach, TellsEnd};
+ghost use Rattle.fr_cli.specs.Serving.{Announces, HasServed, IsAnnounced, IsServedOver, ServesEach, ServesOne, TellsEach, TellsEnd};
 ghost use Rattle.fr_cli.specs.Visits.{AreVisited, IsVisited, Visit, comings};
 ghost use Rattle.fr_cli.specs.declared.fault.Fault.TheVariants.{CannotListen, Register};
 ghost use Rattle.fr_http.specs.Exchanges.{was_asked};
@@ -121,7 +121,7 @@ pub(crate) fn serve<S: Start, L: Listener, O: Write, E: Write>(
     over_file(rt, db, start, &mut serving)
 }
 
-// Listens, and serves as many connections as the service has.
+// Listens, and serves as many connections as the service has. Behind each there is a desk that stands for the book after it.
 fn listen<D: Lasting, L: Listener, O: Write, E: Write>(
     alloc: Global,
     desk: &mut D,
@@ -134,7 +134,7 @@ fn listen<D: Lasting, L: Listener, O: Write, E: Write>(
     ensures announced { Announces L.Listener O.Write service listener.old out.old out.new result }
     ensures served { let came = comings L.Listener L.Reader.Source L.Writer.Sink listener.old
         listener.new in
-        HasServed (D.clean desk.new) (D.stands desk.old) (D.stands desk.new) service.count
+        HasServed (ServesEach D.clean D.stands desk.old desk.new) service.count
         (Appends (O.contents out.old) (O.contents out.new) (listening service.port))
         (came.deaf service.port) (came.at service.port service.seconds)
         (E.contents err.old) (E.contents err.new) result }
@@ -162,7 +162,8 @@ fn announce<O: Write>(alloc: Global, port: u16, out: &mut O) -> Result<(), Fault
     Ok(print(line.as_bytes(), &mut Output::new(out))?)
 }
 
-// Serves as many connections as the service has; or fewer, where the register comes to an end.
+// Serves as many connections as the service has; or fewer, where the register comes to an end. Behind each there is a desk
+// that stands for the book after it.
 fn answer_all<D: Lasting, L: Listener, E: Write>(
     alloc: Global,
     listener: &mut L,
@@ -171,7 +172,7 @@ fn answer_all<D: Lasting, L: Listener, E: Write>(
     err: &mut E,
 ) -> Result<(), Fault>
     ensures falls { D.clean desk.new → D.clean desk.old }
-    ensures served { HasServed (D.clean desk.new) (D.stands desk.old) (D.stands desk.new)
+    ensures served { HasServed (ServesEach D.clean D.stands desk.old desk.new)
         service.now.count ⊤ (L.ends listener.new) (λ visits.
         AreVisited L.Listener L.Reader.Source L.Writer.Sink service.now.seconds listener.old visits
         listener.new) (E.contents err.old) (E.contents err.new) result }

@@ -1,6 +1,6 @@
 -- So many connections came in and were served, one after another, and the ends of those that failed were told.
 use Rattle.std.proofs.Common.{◌≡◌, List, length}
-use Rattle.fr_cli.specs.Serving.{ServesAll, TellsEach}
+use Rattle.fr_cli.specs.Serving.{ServesEach, TellsEach}
 use Rattle.fr_cli.specs.Visits.{AreVisited, Visit}
 use Rattle.fr_cli.proofs.VisitLaws.{sink, source}
 use Rattle.fr_cli.proofs.serving.answer_all.Given as goal
@@ -11,6 +11,6 @@ invariant-loop g l = record {
   visits : List Visit;
   each : length visits ≡ l.counter;
   came_in : AreVisited g.L.Listener (source g.L.Reader.Read g.L.Reader.Source) (sink g.L.Writer.Write g.L.Writer.Sink) l.service.seconds l.fn.listener visits l.listener;
-  served : ServesAll (g.D.Desk.clean l.desk) (g.D.Desk.stands l.fn.desk) (g.D.Desk.stands l.desk) visits;
+  served : ServesEach g.D.Desk.clean g.D.Desk.stands l.fn.desk l.desk visits;
   told : TellsEach (g.E.Write.contents l.fn.err) (g.E.Write.contents l.err) visits;
 }

@@ -11,7 +11,7 @@ returns-in_err-begin-clause-served g c =
     let (refused, stood) = c.in_err-begin.ensures.refused in
     let came_in = λ (visits : List Visit).
     AreVisitedAt g.L.Listener (source g.L.Reader.Read g.L.Reader.Source) (sink g.L.Writer.Write g.L.Writer.Sink) c.args.service.port c.args.service.seconds c.args.listener.now visits c.begin.new.listener in
-    served_early _ _ c.args.service.count _ _ came_in (g.E.Write.contents c.args.err.now) c.from_residual.result fault is
+    served_early _ c.args.service.count _ _ came_in (g.E.Write.contents c.args.err.now) c.from_residual.result fault refl is
     (inl (c.in_err-begin.ensures.fault, inl (refused, stood))) (inl (refl, stood))
 
 pub returns-in_err-announce-clause-served : goal.returns-in_err-announce-clause-served
@@ -20,10 +20,10 @@ returns-in_err-announce-clause-served g c =
     let is : c.from_residual-in_err-announce.result ≡ Err fault = search rules in
     let came_in = λ (visits : List Visit).
     AreVisitedAt g.L.Listener (source g.L.Reader.Read g.L.Reader.Source) (sink g.L.Writer.Write g.L.Writer.Sink) c.args.service.port c.args.service.seconds c.args.listener.now visits c.begin.new.listener in
-    served_early _ _ c.args.service.count _ _ came_in (g.E.Write.contents c.args.err.now)
-    c.from_residual-in_err-announce.result fault is (inr (inr (refl, c.in_err-announce.ensures.fault))) (inr (c.begin.new.listener, c.in_ok-begin.ensures.ok, refl))
+    served_early _ c.args.service.count _ _ came_in (g.E.Write.contents c.args.err.now)
+    c.from_residual-in_err-announce.result fault refl is (inr (inr (refl, c.in_err-announce.ensures.fault))) (inr (c.begin.new.listener, c.in_ok-begin.ensures.ok, refl))
 
 pub returns-clause-served : goal.returns-clause-served
 returns-clause-served g c =
-    served_said _ _ _ _ _ _ _ _ _ _ _ _ c.in_ok-announce.ensures.announced.1 (λ visits came. inr (c.begin.new.listener, c.in_ok-begin.ensures.ok, came)) (λ ended. inr ended)
+    served_said _ _ _ _ _ _ _ _ _ _ c.in_ok-announce.ensures.announced.1 (λ visits came. inr (c.begin.new.listener, c.in_ok-begin.ensures.ok, came)) (λ ended. inr ended)
     c.answer_all.ensures.served
