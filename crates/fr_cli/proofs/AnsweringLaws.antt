@@ -7,14 +7,15 @@ use Rattle.fr_base.specs.Book.{Book}
 use Rattle.fr_base.specs.Cluster.{Cluster}
 use Rattle.fr_base.specs.declared.answer.Answer.{Answer}
 use Rattle.fr_base.specs.declared.answer.Answer.TheVariants.{Done, Refused}
+use Rattle.fr_base.specs.declared.desk.Desk as Desk
 use Rattle.fr_base.specs.declared.refusal.Refusal.{Refusal}
 use Rattle.fr_base.specs.declared.refusal.Refusal.TheVariants.{Unavailable}
 use Rattle.fr_base.specs.declared.request.Ask.{Ask}
 use Rattle.fr_office.specs.Answering.{Answers}
 use Rattle.fr_world.specs.Held.{Standing}
-use Rattle.fr_cli.specs.Answering.{AnswersLine, AnswersLines, Anything, Reads, WasCutShort}
+use Rattle.fr_cli.specs.Answering.{Account, AnswersAll, AnswersEach, AnswersLine, AnswersLines, IsStill, Reads, WasCutShort, account_by, account_of}
 use Rattle.fr_cli.specs.Outcomes.{line_of}
-use Rattle.fr_cli.specs.ScriptRun.{AreAnswered, Replied}
+use Rattle.fr_cli.specs.ScriptRun.{Replied}
 use Rattle.fr_cli.specs.declared.script_fault.ScriptFault.{ScriptFault}
 use Rattle.fr_cli.proofs.ScriptRunLaws.{answered-sound}
 
@@ -36,108 +37,45 @@ line_refused old line refusal other (inl same) = absurd (other cc)
 line_refused old line refusal other (inr reads) = λ c b stands sound.
     (b, stands, subst (λ r. Replied c b r (Refused refusal) b) (reads c b stands sound) (refl, refl))
 
--- ---- lines, and then more
+-- ---- what is said of lines
 
-answered-then : (c : Cluster) (b mid last : Book) (l m : List (List ℕ)) (xs ys : List Answer) → AreAnswered c b l xs mid → AreAnswered c mid m ys last
-    → AreAnswered c b (l ++ m) (xs ++ ys) last
-answered-then c b mid last [] m [] ys so more = subst (λ x. AreAnswered c x m ys last) so more
-answered-then c b mid last [] m (x ∷ xs) ys so more = absurd so
-answered-then c b mid last (line ∷ l) m [] ys so more = absurd so
-answered-then c b mid last (line ∷ l) m (x ∷ xs) ys so more = (so.0, so.1, answered-then c so.0 mid last l m xs ys so.2 more)
+-- It is said of those that are said to be none.
+none_said : (Are : List (List ℕ) → List Answer → Type 0) → Are [] [] → AnswersLines Are [] []
+none_said Are so = record { answers = []; each = refl; bytes = refl; answered = so }
 
--- No line is answered yet.
-pub no_lines : (clean : Type 0) (s : Standing) → AnswersLines clean s s [] []
-no_lines clean s = record { answers = []; each = refl; bytes = refl; answered = λ is c b stands sound. (b, stands, refl) }
+-- Something else is said of them.
+pub lines_as : (A B : List (List ℕ) → List Answer → Type 0) (l : List (List ℕ)) (w : List ℕ) → ((answers : List Answer) → A l answers → B l answers) → AnswersLines A l w
+    → AnswersLines B l w
+lines_as A B l w so p = record { answers = p.answers; each = p.each; bytes = p.bytes; answered = so p.answers p.answered }
 
--- One line was answered.
-pub one_line : (clean : Type 0) (old new : Standing) (line : List ℕ) (answer : Answer) (text : List ℕ) → (clean → AnswersLine old new line answer)
-    → text ≡ line_of answer → AnswersLines clean old new (line ∷ []) text
-one_line clean old new line answer text so e = record {
-  answers = answer ∷ [];
-  each = refl;
-  bytes = e ∙ sym (append-nil (line_of answer));
-  answered = λ is c b stands sound.
-      let (last, after, replied) = so is c b stands sound in
-      (last, after, (last, replied, refl));
-}
-
--- More lines were answered.
-pub lines_then : (clean first : Type 0) (old mid new : Standing) (l m : List (List ℕ)) (w v : List ℕ) → (clean → first)
-    → AnswersLines first old mid l w → AnswersLines clean mid new m v → AnswersLines clean old new (l ++ m) (w ++ v)
-lines_then clean first old mid new l m w v falls p q = record {
+-- It is said of lines and of more.
+both_said : (A B C : List (List ℕ) → List Answer → Type 0) (l m : List (List ℕ)) (w v : List ℕ) → ((xs ys : List Answer) → A l xs → B m ys → C (l ++ m) (xs ++ ys))
+    → AnswersLines A l w → AnswersLines B m v → AnswersLines C (l ++ m) (w ++ v)
+both_said A B C l m w v so p q = record {
   answers = p.answers ++ q.answers;
   each = length-append p.answers q.answers ∙ ap₂ (λ (x y : ℕ). x + y) p.each q.each ∙ sym (length-append l m);
   bytes = ap₂ (λ (x y : List ℕ). x ++ y) p.bytes q.bytes ∙ sym (flat_map-append line_of p.answers q.answers);
-  answered = λ is c b stands sound.
-      let (book, there, so) = p.answered (falls is) c b stands sound in
-      let (last, after, more) = q.answered is c book there (answered-sound c b book l p.answers so sound) in
-      (last, after, answered-then c b book last l m p.answers q.answers so more);
+  answered = so p.answers q.answers p.answered q.answered;
 }
 
--- ---- less is known
-
--- The register is clean for less.
-pub lines_falls : (clean first : Type 0) (old new : Standing) (l : List (List ℕ)) (w : List ℕ) → (clean → first) → AnswersLines first old new l w
-    → AnswersLines clean old new l w
-lines_falls clean first old new l w falls p = record { answers = p.answers; each = p.each; bytes = p.bytes; answered = λ is. p.answered (falls is) }
-
--- The register's rows stayed afterwards.
-pub lines_stay : (clean first : Type 0) (old mid new : Standing) (l : List (List ℕ)) (w : List ℕ) → (clean → first) → (clean → (c : Cluster) (b : Book) → mid c b → new c b)
-    → AnswersLines first old mid l w → AnswersLines clean old new l w
-lines_stay clean first old mid new l w falls stays p = record {
-  answers = p.answers;
-  each = p.each;
-  bytes = p.bytes;
-  answered = λ is c b stands sound.
-      let (last, after, so) = p.answered (falls is) c b stands sound in
-      (last, stays is c last after, so);
-}
-
--- What the register stands for now is not said.
-pub lines_kept : (clean first : Type 0) (old new : Standing) (l : List (List ℕ)) (w : List ℕ) → (clean → first) → AnswersLines first old new l w
-    → AnswersLines clean old Anything l w
-lines_kept clean first old new l w falls p = record {
-  answers = p.answers;
-  each = p.each;
-  bytes = p.bytes;
-  answered = λ is c b stands sound.
-      let (last, after, so) = p.answered (falls is) c b stands sound in
-      (last, tt, so);
-}
-
--- What was answered by a register that stands for what is held, and leaves what it then stands for, was answered of that.
-pub lines_moved : (whole clean : Type 0) (held old new leaves : Standing) (l : List (List ℕ)) (w : List ℕ) → (whole → clean)
-    → (clean → (c : Cluster) (b : Book) → held c b → old c b) → ((c : Cluster) (b : Book) → new c b → leaves c b)
-    → AnswersLines clean old new l w → AnswersLines whole held leaves l w
-lines_moved whole clean held old new leaves l w closes finds left p = record {
-  answers = p.answers;
-  each = p.each;
-  bytes = p.bytes;
-  answered = λ is c b there sound.
-      let (last, after, so) = p.answered (closes is) c b (finds (closes is) c b there) sound in
-      (last, left c last after, so);
-}
-
--- ---- a fault comes
-
--- It comes when whole answers were written.
-pub cut_here : (clean first : Type 0) (old new : Standing) (D T : List (List ℕ) → Type 0) (a b : Option (List ℕ)) (fault : ScriptFault) (l : List (List ℕ)) (w : List ℕ)
-    → (clean → first) → AnswersLines first old new l w → Appends a b w → D l → T l → WasCutShort clean old new D T a b fault
-cut_here clean first old new D T a b fault l w falls p appended d t = record {
+-- A fault comes when whole answers were written.
+cut_at : (account : Account) (D T : List (List ℕ) → Type 0) (a b : Option (List ℕ)) (fault : ScriptFault) (l : List (List ℕ)) (w : List ℕ)
+    → AnswersLines account.all l w → AnswersLines account.first l w → Appends a b w → D l → T l → WasCutShort account D T a b fault
+cut_at account D T a b fault l w p q appended d t = record {
   lines = l;
   done = d;
   written = w;
   missing = [];
   appended = appended;
   one = (line_of Done, Done, sym (append-nil (line_of Done)));
-  answered = subst (AnswersLines clean old new l) (sym (append-nil w)) (lines_falls clean first old new l w falls p);
-  whole = inr (l, t, lines_kept clean first old new l w falls p);
+  answered = subst (AnswersLines account.all l) (sym (append-nil w)) p;
+  whole = inr (l, t, q);
 }
 
 -- Other lines are of what was answered.
-pub cut_as : (clean : Type 0) (old new : Standing) (D T E U : List (List ℕ) → Type 0) (a b : Option (List ℕ)) (fault : ScriptFault)
-    → ((l : List (List ℕ)) → D l → E l) → ((l : List (List ℕ)) → T l → U l) → WasCutShort clean old new D T a b fault → WasCutShort clean old new E U a b fault
-cut_as clean old new D T E U a b fault f g w = record {
+pub cut_as : (account : Account) (D T E U : List (List ℕ) → Type 0) (a b : Option (List ℕ)) (fault : ScriptFault)
+    → ((l : List (List ℕ)) → D l → E l) → ((l : List (List ℕ)) → T l → U l) → WasCutShort account D T a b fault → WasCutShort account E U a b fault
+cut_as account D T E U a b fault f g w = record {
   lines = w.lines;
   done = f w.lines w.done;
   written = w.written;
@@ -151,39 +89,160 @@ cut_as clean old new D T E U a b fault f g w = record {
   ];
 }
 
--- It comes after lines that were answered before.
-pub cut_after : (clean first : Type 0) (old mid new : Standing) (D T E U : List (List ℕ) → Type 0) (a m b : Option (List ℕ)) (fault : ScriptFault) (l : List (List ℕ)) (w : List ℕ)
-    → (clean → first) → AnswersLines first old mid l w → Appends a m w → ((k : List (List ℕ)) → D k → E (l ++ k)) → ((k : List (List ℕ)) → T k → U (l ++ k))
-    → WasCutShort clean mid new D T m b fault → WasCutShort clean old new E U a b fault
-cut_after clean first old mid new D T E U a m b fault l w falls p appended f g c = record {
-  lines = l ++ c.lines;
-  done = f c.lines c.done;
-  written = w ++ c.written;
-  missing = c.missing;
-  appended = Appends-trans a m b w c.written appended c.appended;
-  one = c.one;
-  answered = subst (AnswersLines clean old new (l ++ c.lines)) (sym (append_assoc w c.written c.missing))
-      (lines_then clean first old mid new l c.lines w (c.written ++ c.missing) falls p c.answered);
-  whole = elim c.whole [
-    | inl is ↦ inl is
-    | inr so ↦ inr (l ++ so.0, g so.0 so.1, lines_then clean first old mid Anything l so.0 w c.written falls p so.2)
-  ];
-}
+-- ---- from one account to another
 
--- So where a fault came.
-pub cut_moved : (whole clean : Type 0) (held old new leaves : Standing) (D T : List (List ℕ) → Type 0) (a b : Option (List ℕ)) (fault : ScriptFault) → (whole → clean)
-    → (clean → (c : Cluster) (b : Book) → held c b → old c b) → ((c : Cluster) (b : Book) → new c b → leaves c b)
-    → WasCutShort clean old new D T a b fault → WasCutShort whole held leaves D T a b fault
-cut_moved whole clean held old new leaves D T a b fault closes finds left w = record {
+-- What is said by the one is said by the other.
+pub record Tells (A B : Account) : Type 0 where
+  pub all : (l : List (List ℕ)) (answers : List Answer) → A.all l answers → B.all l answers
+  pub first : (l : List (List ℕ)) (answers : List Answer) → A.first l answers → B.first l answers
+
+pub cut_told : (A B : Account) (D T : List (List ℕ) → Type 0) (a b : Option (List ℕ)) (fault : ScriptFault) → Tells A B → WasCutShort A D T a b fault → WasCutShort B D T a b fault
+cut_told A B D T a b fault so w = record {
   lines = w.lines;
   done = w.done;
   written = w.written;
   missing = w.missing;
   appended = w.appended;
   one = w.one;
-  answered = lines_moved whole clean held old new leaves w.lines (w.written ++ w.missing) closes finds left w.answered;
+  answered = lines_as A.all B.all w.lines (w.written ++ w.missing) (so.all w.lines) w.answered;
   whole = elim w.whole [
     | inl is ↦ inl is
-    | inr so ↦ inr (so.0, so.1, lines_moved whole clean held old Anything Anything so.0 w.written closes finds (λ c b is. is) so.2)
+    | inr told ↦ inr (told.0, told.1, lines_as A.first B.first told.0 w.written (so.first told.0) told.2)
   ];
 }
+
+-- What was answered by a register that stands for what is held, and leaves what it then stands for, was answered of that.
+pub told_moved : (whole clean : Type 0) (held old new leaves : Standing) → (whole → clean)
+    → (clean → (c : Cluster) (b : Book) → held c b → old c b) → ((c : Cluster) (b : Book) → new c b → leaves c b)
+    → Tells (account_of clean old new) (account_of whole held leaves)
+told_moved whole clean held old new leaves closes finds left = record {
+  all = λ l answers so is c b there sound.
+      let (last, after, are) = so (closes is) c b (finds (closes is) c b there) sound in
+      (last, left c last after, are);
+  first = λ l answers so is c b there sound. so (closes is) c b (finds (closes is) c b there) sound;
+}
+
+-- Where the register was not asked, no line was answered, and a fault came.
+pub cut_unasked : (clean : Type 0) (s : Standing) (D T : List (List ℕ) → Type 0) (a b : Option (List ℕ)) (fault : ScriptFault) → Appends a b [] → D [] → T []
+    → WasCutShort (account_of clean s s) D T a b fault
+cut_unasked clean s D T a b fault = cut_at (account_of clean s s) D T a b fault [] []
+    (none_said (AnswersAll clean s s) (λ is c b stands sound. (b, stands, refl))) (none_said _ (λ is c b stands sound. (b, tt, refl)))
+
+-- ---- one line behind another
+
+module _ {D : Type 0} (desk : Desk.Ghosts D) where
+  abbrev Each : D → D → List (List ℕ) → List Answer → Type 0
+  Each = AnswersEach desk.clean desk.stands
+
+  abbrev Still : D → D → Type 0
+  Still = IsStill desk.clean desk.stands
+
+  still_then : (old mid new : D) → Still old mid → Still mid new → Still old new
+  still_then old mid new p q = (λ is. p.0 (q.0 is), λ is c b there. q.1 is c b (p.1 (q.0 is) c b there))
+
+  -- behind a register that stands for the same
+  each_behind : (old mid new : D) (l : List (List ℕ)) (xs : List Answer) → Still old mid → Each mid new l xs → Each old new l xs
+  each_behind old mid new [] [] still so = still_then old mid new still so
+  each_behind old mid new [] (x ∷ xs) still so = absurd so
+  each_behind old mid new (line ∷ l) [] still so = absurd so
+  each_behind old mid new (line ∷ l) (x ∷ xs) still so =
+      (so.0, λ is. still.0 (so.1 is), λ is c b there sound. so.2 is c b (still.1 (so.1 is) c b there) sound, so.3)
+
+  each_then : (old mid new : D) (l m : List (List ℕ)) (xs ys : List Answer) → Each old mid l xs → Each mid new m ys → Each old new (l ++ m) (xs ++ ys)
+  each_then old mid new [] m [] ys so more = each_behind old mid new m ys so more
+  each_then old mid new [] m (x ∷ xs) ys so more = absurd so
+  each_then old mid new (line ∷ l) m [] ys so more = absurd so
+  each_then old mid new (line ∷ l) m (x ∷ xs) ys so more = (so.0, so.1, so.2, each_then so.0 mid new l m xs ys so.3 more)
+
+  -- before a register that stands for the same
+  each_still : (old mid new : D) (l : List (List ℕ)) (xs : List Answer) → Each old mid l xs → Still mid new → Each old new l xs
+  each_still old mid new [] [] so still = still_then old mid new so still
+  each_still old mid new [] (x ∷ xs) so still = absurd so
+  each_still old mid new (line ∷ l) [] so still = absurd so
+  each_still old mid new (line ∷ l) (x ∷ xs) so still = (so.0, so.1, so.2, each_still so.0 mid new l xs so.3 still)
+
+  each_falls : (old new : D) (l : List (List ℕ)) (xs : List Answer) → Each old new l xs → desk.clean new → desk.clean old
+  each_falls old new [] [] so is = so.0 is
+  each_falls old new [] (x ∷ xs) so is = absurd so
+  each_falls old new (line ∷ l) [] so is = absurd so
+  each_falls old new (line ∷ l) (x ∷ xs) so is = so.1 (each_falls so.0 new l xs so.3 is)
+
+  -- from what the first register stood for to what the last stands for
+  each_all : (old new : D) (l : List (List ℕ)) (xs : List Answer) → Each old new l xs → AnswersAll (desk.clean new) (desk.stands old) (desk.stands new) l xs
+  each_all old new [] [] so = λ is c b there sound. (b, so.1 is c b there, refl)
+  each_all old new [] (x ∷ xs) so = absurd so
+  each_all old new (line ∷ l) [] so = absurd so
+  each_all old new (line ∷ l) (x ∷ xs) so = λ is c b there sound.
+      let (book, stood, replied) = so.2 (each_falls so.0 new l xs so.3 is) c b there sound in
+      let (last, after, are) = each_all so.0 new l xs so.3 is c book stood (answered-sound c b book (line ∷ []) (x ∷ []) (book, replied, refl) sound) in
+      (last, after, (book, replied, are))
+
+  -- What is said by the register behind each line is said by what it stood for and stands for.
+  pub each_told : (old new : D) → Tells (account_by desk old new) (account_of (desk.clean new) (desk.stands old) (desk.stands new))
+  each_told old new = record {
+    all = each_all old new;
+    first = λ l answers so is c b there sound.
+        let (last, after, are) = each_all old so.0 l answers so.2 (so.1 is) c b there sound in
+        (last, tt, are);
+  }
+
+  -- ---- lines, and then more
+
+  -- No line is answered yet.
+  pub no_lines : (d : D) → AnswersLines (Each d d) [] []
+  no_lines d = none_said (Each d d) (λ is. is, λ is c b there. there)
+
+  -- One line was answered.
+  pub one_line : (old new : D) (line : List ℕ) (answer : Answer) (text : List ℕ) → (desk.clean new → desk.clean old)
+      → (desk.clean new → AnswersLine (desk.stands old) (desk.stands new) line answer) → text ≡ line_of answer → AnswersLines (Each old new) (line ∷ []) text
+  one_line old new line answer text falls so e = record {
+    answers = answer ∷ [];
+    each = refl;
+    bytes = e ∙ sym (append-nil (line_of answer));
+    answered = (new, falls, so, (λ is. is, λ is c b there. there));
+  }
+
+  -- More lines were answered.
+  pub lines_then : (old mid new : D) (l m : List (List ℕ)) (w v : List ℕ) → AnswersLines (Each old mid) l w → AnswersLines (Each mid new) m v
+      → AnswersLines (Each old new) (l ++ m) (w ++ v)
+  lines_then old mid new l m w v = both_said (Each old mid) (Each mid new) (Each old new) l m w v (each_then old mid new l m)
+
+  -- The register's rows stayed afterwards.
+  pub lines_stay : (old mid new : D) (l : List (List ℕ)) (w : List ℕ) → Still mid new → AnswersLines (Each old mid) l w → AnswersLines (Each old new) l w
+  lines_stay old mid new l w still = lines_as (Each old mid) (Each old new) l w (λ xs so. each_still old mid new l xs so still)
+
+  -- What the register stands for now is not said.
+  pub lines_kept : (old mid new : D) (l : List (List ℕ)) (w : List ℕ) → (desk.clean new → desk.clean mid) → AnswersLines (Each old mid) l w
+      → AnswersLines (account_by desk old new).first l w
+  lines_kept old mid new l w falls = lines_as (Each old mid) (account_by desk old new).first l w (λ xs so. (mid, falls, so))
+
+  -- ---- a fault comes
+
+  -- It comes when whole answers were written.
+  pub cut_here : (old new : D) (E U : List (List ℕ) → Type 0) (a b : Option (List ℕ)) (fault : ScriptFault) (l : List (List ℕ)) (w : List ℕ)
+      → AnswersLines (Each old new) l w → Appends a b w → E l → U l → WasCutShort (account_by desk old new) E U a b fault
+  cut_here old new E U a b fault l w p = cut_at (account_by desk old new) E U a b fault l w p (lines_kept old new new l w (λ is. is) p)
+
+  -- It comes after lines that were answered before.
+  pub cut_after : (old mid new : D) (S T E U : List (List ℕ) → Type 0) (a m b : Option (List ℕ)) (fault : ScriptFault) (l : List (List ℕ)) (w : List ℕ)
+      → AnswersLines (Each old mid) l w → Appends a m w → ((k : List (List ℕ)) → S k → E (l ++ k)) → ((k : List (List ℕ)) → T k → U (l ++ k))
+      → WasCutShort (account_by desk mid new) S T m b fault → WasCutShort (account_by desk old new) E U a b fault
+  cut_after old mid new S T E U a m b fault l w p appended f g c = record {
+    lines = l ++ c.lines;
+    done = f c.lines c.done;
+    written = w ++ c.written;
+    missing = c.missing;
+    appended = Appends-trans a m b w c.written appended c.appended;
+    one = c.one;
+    answered = subst (AnswersLines (Each old new) (l ++ c.lines)) (sym (append_assoc w c.written c.missing))
+        (lines_then old mid new l c.lines w (c.written ++ c.missing) p c.answered);
+    whole = elim c.whole [
+      | inl is ↦ inl is
+      | inr so ↦ inr (
+        l ++ so.0,
+        g so.0 so.1,
+        both_said (Each old mid) (account_by desk mid new).first (account_by desk old new).first l so.0 w c.written
+            (λ xs ys first more. (more.0, more.1, each_then old mid more.0 l so.0 xs ys first more.2)) p so.2,
+      )
+    ];
+  }

@@ -23,6 +23,7 @@ use Rattle.fr_desks.specs.Sessions.{Session}
 use Rattle.fr_http.specs.Connection.{AppendsFront, InSound}
 use Rattle.fr_picture.specs.Pages.{IsPage}
 use Rattle.fr_picture.specs.declared.plan.Plan.{Plan}
+use Rattle.fr_cli.specs.Answering.{account_of}
 use Rattle.fr_cli.specs.Asking.{IsForReader, asked_with, query_of}
 use Rattle.fr_cli.specs.Deeds.{Asked, Deed, Did, Drawn, IsDeedOf, IsShown, LacksAnswer, Lines, Visits, WereLines, asks_by, session_of}
 use Rattle.fr_cli.specs.Deliveries.{request_with}
@@ -234,7 +235,7 @@ module _ {D : Type 0} {g : Ghosts D} (held : Image) (rest : Option (Leftover D g
 
     -- lines that were answered over the file
     answered : (db : Bor (List ℕ)) (last : Leftover D g) → rest ≡ Some last → (asked : Result ⊤ ScriptFault) → status ≡ status_of (of_script asked)
-        → HasAnswered (IsCleanLeft last) (Held held) (IsLeftWith last) s.input.old s.input.new s.out.old s.out.new asked → Leading (job.Ask db)
+        → HasAnswered (account_of (IsCleanLeft last) (Held held) (IsLeftWith last)) s.input.old s.input.new s.out.old s.out.new asked → Leading (job.Ask db)
     answered db last same (Ok x) ends has =
         let (lines, written, whole, short, appended, told) = has.all in
         let were : WereLines s status lines told.answers = record {

@@ -7,11 +7,11 @@ use Rattle.sqlite.specs.Files.{IsCleanLeft}
 use Rattle.sqlite.specs.declared.file.Leftover.{Leftover}
 use Rattle.sqlite_disk.specs.declared.Disk.{Ghosts}
 use Rattle.sqlite_wal.specs.Recovery.{Image}
-use Rattle.fr_base.specs.Book.{Book}
-use Rattle.fr_base.specs.Cluster.{Cluster}
+use Rattle.fr_base.specs.declared.answer.Answer.{Answer}
+use Rattle.fr_base.specs.declared.desk.Desk as Desk
 use Rattle.fr_desks.specs.FileDesk.{Held, IsLeftWith}
 use Rattle.fr_world.specs.Held.{Standing}
-use Rattle.fr_cli.specs.Answering.{AnswersLines, BeginWith, GoOnBehind, WasCutShort}
+use Rattle.fr_cli.specs.Answering.{Account, AnswersEach, AnswersLines, BeginWith, GoOnBehind, IsStill, WasCutShort, account_by, account_of}
 use Rattle.fr_cli.specs.Guarding.{script_fault_unwatched}
 use Rattle.fr_cli.specs.Incoming.{AreFirstOf, AreFirstOfAll, AreShort, EndsAsking, EndsLines, HasAnswered, WasAsked, HasHeard, HasLongLine, IsAsked, max_line}
 use Rattle.fr_cli.specs.Script.{HasNo, max_script, request_lines}
@@ -23,7 +23,7 @@ use Rattle.fr_cli.specs.declared.script_fault.ScriptFault.{ScriptFault}
 use Rattle.fr_cli.specs.declared.script_fault.ScriptFault.TheVariants.{NoMemory, ReadFailed, TooLong, TooManyReads, Unavailable, WriteFailed}
 use Rattle.fr_cli.specs.declared.watch.WatchFault.{WatchFault}
 use Rattle.fr_cli.specs.declared.watch.WatchFault.TheVariants as watch
-use Rattle.fr_cli.proofs.AnsweringLaws.{cut_after, cut_as, cut_here, cut_moved, lines_moved, lines_stay, lines_then, no_lines}
+use Rattle.fr_cli.proofs.AnsweringLaws.{Tells, cut_after, cut_as, cut_here, cut_told, cut_unasked, lines_as, lines_stay, lines_then, told_moved}
 use Rattle.fr_cli.proofs.EndedLines.{requests-append}
 use Rattle.fr_cli.proofs.LineLemmas.{request_lines-none}
 use Rattle.fr_cli.proofs.ErrandLaws.{done_over}
@@ -86,39 +86,42 @@ on_long bound input left taken c long = on_input (λ bytes. bound < length bytes
 
 -- ---- answers
 
--- whole lines more were answered
-pub heard_more : (clean first : Type 0) (old mid new : Standing) (front chunk w v : List ℕ) → (clean → first) → EndsLines front
-    → AnswersLines first old mid (request_lines front) w → AnswersLines clean mid new (request_lines chunk) v
-    → AnswersLines clean old new (request_lines (front ++ chunk)) (w ++ v)
-heard_more clean first old mid new front chunk w v falls ends p q =
-    subst (λ l. AnswersLines clean old new l (w ++ v)) (sym (ends chunk)) (lines_then clean first old mid new (request_lines front) (request_lines chunk) w v falls p q)
+module _ {D : Type 0} (desk : Desk.Ghosts D) where
+  abbrev Each : D → D → List (List ℕ) → List Answer → Type 0
+  Each = AnswersEach desk.clean desk.stands
 
--- all lines were answered, and more may be asked
-pub asked_on : (clean first : Type 0) (old mid new : Standing) (lines : List (List ℕ)) (a b : Option (List ℕ)) → (clean → first) → (clean → (c : Cluster) (b : Book) → mid c b → new c b)
-    → (written : List ℕ) × Appends a b written × AnswersLines first old mid lines written → WasAsked clean old new lines a b (Ok tt)
-asked_on clean first old mid new lines a b falls stays all = record {
-  all = (all.0, all.1, lines_stay clean first old mid new lines all.0 falls stays all.2);
-  early = tt;
-  faults = tt;
-}
+  -- whole lines more were answered
+  pub heard_more : (old mid new : D) (front chunk w v : List ℕ) → EndsLines front → AnswersLines (Each old mid) (request_lines front) w
+      → AnswersLines (Each mid new) (request_lines chunk) v → AnswersLines (Each old new) (request_lines (front ++ chunk)) (w ++ v)
+  heard_more old mid new front chunk w v ends p q =
+      subst (λ l. AnswersLines (Each old new) l (w ++ v)) (sym (ends chunk)) (lines_then desk old mid new (request_lines front) (request_lines chunk) w v p q)
 
--- all lines were answered, and the register has come to an end
-pub asked_last : (clean first : Type 0) (old mid new : Standing) (lines : List (List ℕ)) (a b : Option (List ℕ)) → (clean → first) → (clean → (c : Cluster) (b : Book) → mid c b → new c b)
-    → (written : List ℕ) × Appends a b written × AnswersLines first old mid lines written → WasAsked clean old new lines a b (Err Unavailable)
-asked_last clean first old mid new lines a b falls stays all =
-    let begin : BeginWith lines lines = ([], sym (append-nil lines)) in
-    record {
-      all = tt;
-      early = cut_here clean clean old new (BeginWith lines) (BeginWith lines) a b Unavailable lines all.0 (λ is. is) (lines_stay clean first old mid new lines all.0 falls stays all.2) all.1 begin begin;
-      faults = inr (inr refl);
-    }
+  -- all lines were answered, and more may be asked
+  pub asked_on : (old mid new : D) (lines : List (List ℕ)) (a b : Option (List ℕ)) → IsStill desk.clean desk.stands mid new
+      → (written : List ℕ) × Appends a b written × AnswersLines (Each old mid) lines written → WasAsked (account_by desk old new) lines a b (Ok tt)
+  asked_on old mid new lines a b still all = record {
+    all = (all.0, all.1, lines_stay desk old mid new lines all.0 still all.2);
+    early = tt;
+    faults = tt;
+  }
+
+  -- all lines were answered, and the register has come to an end
+  pub asked_last : (old mid new : D) (lines : List (List ℕ)) (a b : Option (List ℕ)) → IsStill desk.clean desk.stands mid new
+      → (written : List ℕ) × Appends a b written × AnswersLines (Each old mid) lines written → WasAsked (account_by desk old new) lines a b (Err Unavailable)
+  asked_last old mid new lines a b still all =
+      let begin : BeginWith lines lines = ([], sym (append-nil lines)) in
+      record {
+        all = tt;
+        early = cut_here desk old new (BeginWith lines) (BeginWith lines) a b Unavailable lines all.0 (lines_stay desk old mid new lines all.0 still all.2) all.1 begin begin;
+        faults = inr (inr refl);
+      }
 
 -- a fault came before all were
-pub asked_early : (clean : Type 0) (old new : Standing) (lines : List (List ℕ)) (a b : Option (List ℕ)) (fault : ScriptFault)
-    → WasCutShort clean old new (BeginWith lines) (GoOnBehind lines) a b fault → (fault ≡ NoMemory) ⊎ (fault ≡ WriteFailed) → WasAsked clean old new lines a b (Err fault)
-asked_early clean old new lines a b fault early of = record {
+pub asked_early : (account : Account) (lines : List (List ℕ)) (a b : Option (List ℕ)) (fault : ScriptFault)
+    → WasCutShort account (BeginWith lines) (GoOnBehind lines) a b fault → (fault ≡ NoMemory) ⊎ (fault ≡ WriteFailed) → WasAsked account lines a b (Err fault)
+asked_early account lines a b fault early of = record {
   all = tt;
-  early = cut_as clean old new (BeginWith lines) (GoOnBehind lines) (BeginWith lines) (BeginWith lines) a b fault (λ l so. so) (λ l so. (so.0 ∷ so.1, so.2)) early;
+  early = cut_as account (BeginWith lines) (GoOnBehind lines) (BeginWith lines) (BeginWith lines) a b fault (λ l so. so) (λ l so. (so.0 ∷ so.1, so.2)) early;
   faults = elim of [
     | inl none ↦ inl none
     | inr failed ↦ inr (inl failed)
@@ -158,12 +161,12 @@ pub long_by : (begun more : List ℕ) → max_line < length begun + length more 
 long_by begun more long = omega (arith, long, length-append begun more)
 
 -- a fault comes between lines
-pub heard_cut : (clean : Type 0) (old new : Standing) (bytes begun : List ℕ) (a b : Option (List ℕ)) (front written : List ℕ) (of : InputFault)
-    → AnswersLines clean old new (request_lines front) written → Appends a b written → AreFirstOfAll bytes (request_lines front) → (of ≡ Lengthy → HasLongLine bytes)
-    → HasHeard clean old new bytes begun a b (Err (script_fault_of of))
-heard_cut clean old new bytes begun a b front written of answered appended first long = record {
+pub heard_cut : {D : Type 0} (desk : Desk.Ghosts D) (old new : D) (bytes begun : List ℕ) (a b : Option (List ℕ)) (front written : List ℕ) (of : InputFault)
+    → AnswersLines (AnswersEach desk.clean desk.stands old new) (request_lines front) written → Appends a b written → AreFirstOfAll bytes (request_lines front)
+    → (of ≡ Lengthy → HasLongLine bytes) → HasHeard (account_by desk old new) bytes begun a b (Err (script_fault_of of))
+heard_cut desk old new bytes begun a b front written of answered appended first long = record {
   heard = tt;
-  early = cut_here clean clean old new (AreFirstOfAll bytes) (AreFirstOfAll bytes) a b (script_fault_of of) (request_lines front) written (λ is. is) answered appended first first;
+  early = cut_here desk old new (AreFirstOfAll bytes) (AreFirstOfAll bytes) a b (script_fault_of of) (request_lines front) written answered appended first first;
   too_long = λ e. long (is_lengthy of cc);
 }
 
@@ -174,17 +177,17 @@ pub split_then : (front begun piece more rest : List ℕ) → begun ++ piece ≡
 split_then front begun piece more rest e = append_assoc front begun piece ∙ ap (λ r. front ++ r) e ∙ sym (append_assoc front more rest)
 
 -- A fault comes between pieces.
-pub cut_between : (clean : Type 0) (old new : Standing) (input left a b : Option (List ℕ)) (front begun written : List ℕ) (fault : ScriptFault) (of : InputFault)
+pub cut_between : {D : Type 0} (desk : Desk.Ghosts D) (old new : D) (input left a b : Option (List ℕ)) (front begun written : List ℕ) (fault : ScriptFault) (of : InputFault)
     → fault ≡ script_fault_of of → Consumes input left (front ++ begun) → EndsLines front → Appends a b written
-    → AnswersLines clean old new (request_lines front) written → (fault ≡ TooLong → IfSome input (λ bytes. (max_script < length bytes) ⊎ HasLongLine bytes))
+    → AnswersLines (AnswersEach desk.clean desk.stands old new) (request_lines front) written → (fault ≡ TooLong → IfSome input (λ bytes. (max_script < length bytes) ⊎ HasLongLine bytes))
     → ((fault ≡ ReadFailed) ⊎ (fault ≡ TooManyReads) → HasNo 10 begun)
-    → HasAnswered clean old new input left a b (Err fault)
-cut_between clean old new input left a b front begun written fault of is taken ends appended answered long open_ended =
+    → HasAnswered (account_by desk old new) input left a b (Err fault)
+cut_between desk old new input left a b front begun written fault of is taken ends appended answered long open_ended =
     let first : IfSome input (AreFirstOf (request_lines front)) =
     on_input (AreFirstOf (request_lines front)) input left (front ++ begun) taken (first_whole front begun ends) in
     record {
       all = tt;
-      early = cut_here clean clean old new (λ lines. IfSome input (AreFirstOf lines)) (λ lines. IfSome input (AreFirstOf lines)) a b fault (request_lines front) written (λ is. is) answered appended first first;
+      early = cut_here desk old new (λ lines. IfSome input (AreFirstOf lines)) (λ lines. IfSome input (AreFirstOf lines)) a b fault (request_lines front) written answered appended first first;
       unread = λ e. (front, begun, written, taken, ends, open_ended e, appended, answered);
       too_long = λ e. long cc;
       faults = inr (inr (of, is));
@@ -220,17 +223,17 @@ not_long fault (inr (inl failed)) e = absurd cc
 not_long fault (inr (inr ended)) e = absurd cc
 
 -- A fault comes within a piece.
-pub cut_within : (clean first : Type 0) (old mid new : Standing) (input left a m b : Option (List ℕ)) (front bytes written : List ℕ) (fault : ScriptFault)
-    → (clean → first) → Consumes input left (front ++ bytes) → EndsLines front → Appends a m written → AnswersLines first old mid (request_lines front) written
-    → WasCutShort clean mid new (AreFirstOfAll bytes) (AreFirstOfAll bytes) m b fault → (fault ≡ TooLong → HasLongLine bytes) → (fault ≡ TooLong) ⊎ EndsAsking fault
-    → HasAnswered clean old new input left a b (Err fault)
-cut_within clean first old mid new input left a m b front bytes written fault falls taken ends appended answered short long of =
+pub cut_within : {D : Type 0} (desk : Desk.Ghosts D) (old mid new : D) (input left a m b : Option (List ℕ)) (front bytes written : List ℕ) (fault : ScriptFault)
+    → Consumes input left (front ++ bytes) → EndsLines front → Appends a m written → AnswersLines (AnswersEach desk.clean desk.stands old mid) (request_lines front) written
+    → WasCutShort (account_by desk mid new) (AreFirstOfAll bytes) (AreFirstOfAll bytes) m b fault → (fault ≡ TooLong → HasLongLine bytes) → (fault ≡ TooLong) ⊎ EndsAsking fault
+    → HasAnswered (account_by desk old new) input left a b (Err fault)
+cut_within desk old mid new input left a m b front bytes written fault taken ends appended answered short long of =
     let is_first : (k : List (List ℕ)) → AreFirstOfAll bytes k → IfSome input (AreFirstOf (request_lines front ++ k)) =
     λ k so. on_input (AreFirstOf (request_lines front ++ k)) input left (front ++ bytes) taken (first_then front bytes k ends so) in
     record {
       all = tt;
-      early = cut_after clean first old mid new (AreFirstOfAll bytes) (AreFirstOfAll bytes) (λ lines. IfSome input (AreFirstOf lines)) (λ lines. IfSome input (AreFirstOf lines)) a m b fault
-          (request_lines front) written falls answered appended is_first is_first short;
+      early = cut_after desk old mid new (AreFirstOfAll bytes) (AreFirstOfAll bytes) (λ lines. IfSome input (AreFirstOf lines)) (λ lines. IfSome input (AreFirstOf lines)) a m b fault
+          (request_lines front) written answered appended is_first is_first short;
       unread = λ e. absurd (of_line-read fault of e);
       too_long = λ e. on_input (λ all. (max_script < length all) ⊎ HasLongLine all) input left (front ++ bytes) taken (λ more. inr (long_within front bytes more (long cc)));
       faults = of_line fault of;
@@ -238,23 +241,23 @@ cut_within clean first old mid new input left a m b front bytes written fault fa
 
 -- Nothing was asked, and nothing was read: the register's files are not watched.
 pub asked_none : (clean : Type 0) (old : Standing) (input a : Option (List ℕ)) (why : WatchFault) (fault : ScriptFault) → fault ≡ script_fault_unwatched why
-    → HasAnswered clean old old input input a a (Err fault)
+    → HasAnswered (account_of clean old old) input input a a (Err fault)
 asked_none clean old input a why fault is =
     let first : IfSome input (AreFirstOf []) = on_input (AreFirstOf []) input input [] (Consumes-nil input) (λ more. (request_lines more, refl)) in
     record {
       all = tt;
-      early = cut_here clean clean old old (λ lines. IfSome input (AreFirstOf lines)) (λ lines. IfSome input (AreFirstOf lines)) a a fault [] [] (λ is. is) (no_lines clean old) (Appends-nil a) first first;
+      early = cut_unasked clean old (λ lines. IfSome input (AreFirstOf lines)) (λ lines. IfSome input (AreFirstOf lines)) a a fault (Appends-nil a) first first;
       unread = λ e. absurd (of_line-read fault (inr (ends_unwatched why fault is)) e);
       too_long = λ e. absurd (not_long fault (ends_unwatched why fault is) cc);
       faults = of_line fault (inr (ends_unwatched why fault is));
     }
 
 -- The input has ended, and what was begun are its last lines.
-pub at_end : (clean first : Type 0) (old mid new : Standing) (input left a m b : Option (List ℕ)) (front begun written : List ℕ) (done : Result ⊤ ScriptFault)
-    → (clean → first) → Consumes input left (front ++ begun) → IsAtEnd left → length (front ++ begun) ≤ max_script → EndsLines front → Appends a m written
-    → AnswersLines first old mid (request_lines front) written → AreShort (request_lines (front ++ begun)) → WasAsked clean mid new (request_lines begun) m b done
-    → HasAnswered clean old new input left a b done
-at_end clean first old mid new input left a m b front begun written (Ok x) falls taken end fits ends appended answered short has =
+pub at_end : {D : Type 0} (desk : Desk.Ghosts D) (old mid new : D) (input left a m b : Option (List ℕ)) (front begun written : List ℕ) (done : Result ⊤ ScriptFault)
+    → Consumes input left (front ++ begun) → IsAtEnd left → length (front ++ begun) ≤ max_script → EndsLines front → Appends a m written
+    → AnswersLines (AnswersEach desk.clean desk.stands old mid) (request_lines front) written → AreShort (request_lines (front ++ begun))
+    → WasAsked (account_by desk mid new) (request_lines begun) m b done → HasAnswered (account_by desk old new) input left a b done
+at_end desk old mid new input left a m b front begun written (Ok x) taken end fits ends appended answered short has =
     let (more, then, last) = has.all in
     record {
       all = (
@@ -263,21 +266,21 @@ at_end clean first old mid new input left a m b front begun written (Ok x) falls
         on_whole (λ bytes. (request_lines (front ++ begun) ≡ request_lines bytes) × (length bytes ≤ max_script)) input left (front ++ begun) taken end (refl, fits),
         short,
         Appends-trans a m b written more appended then,
-        heard_more clean first old mid new front begun written more falls ends answered last,
+        heard_more desk old mid new front begun written more ends answered last,
       );
       early = tt;
       unread = tt;
       too_long = λ e. absurd cc;
       faults = tt;
     }
-at_end clean first old mid new input left a m b front begun written (Err fault) falls taken end fits ends appended answered short has =
+at_end desk old mid new input left a m b front begun written (Err fault) taken end fits ends appended answered short has =
     let is_first : (k rest : List (List ℕ)) → request_lines begun ≡ k ++ rest → IfSome input (AreFirstOf (request_lines front ++ k)) =
     λ k rest split. on_whole (AreFirstOf (request_lines front ++ k)) input left (front ++ begun) taken end
     (rest, ends begun ∙ ap (λ l. request_lines front ++ l) split ∙ sym (append_assoc (request_lines front) k rest)) in
     record {
       all = tt;
-      early = cut_after clean first old mid new (BeginWith (request_lines begun)) (BeginWith (request_lines begun)) (λ lines. IfSome input (AreFirstOf lines)) (λ lines. IfSome input (AreFirstOf lines))
-          a m b fault (request_lines front) written falls answered appended (λ k so. is_first k so.0 so.1) (λ k so. is_first k so.0 so.1) has.early;
+      early = cut_after desk old mid new (BeginWith (request_lines begun)) (BeginWith (request_lines begun)) (λ lines. IfSome input (AreFirstOf lines)) (λ lines. IfSome input (AreFirstOf lines))
+          a m b fault (request_lines front) written answered appended (λ k so. is_first k so.0 so.1) (λ k so. is_first k so.0 so.1) has.early;
       unread = λ e. absurd (of_line-read fault (inr has.faults) e);
       too_long = λ e. absurd (not_long fault has.faults cc);
       faults = of_line fault (inr has.faults);
@@ -285,36 +288,34 @@ at_end clean first old mid new input left a m b front begun written (Err fault) 
 
 -- ---- over a file
 
+-- Something else is said of the lines.
+pub answered_told : (A B : Account) (input left a b : Option (List ℕ)) (asked : Result ⊤ ScriptFault) → Tells A B → HasAnswered A input left a b asked → HasAnswered B input left a b asked
+answered_told A B input left a b (Ok x) so has =
+    let (lines, written, all, short, appended, answered) = has.all in
+    record {
+      all = (lines, written, all, short, appended, lines_as A.all B.all lines written (so.all lines) answered);
+      early = tt;
+      unread = tt;
+      too_long = λ e. absurd cc;
+      faults = tt;
+    }
+answered_told A B input left a b (Err fault) so has = record {
+  all = tt;
+  early = cut_told A B _ _ a b fault so has.early;
+  unread = λ e.
+      let (front, begun, written, taken, ends, open_ended, appended, answered) = has.unread e in
+      (front, begun, written, taken, ends, open_ended, appended, lines_as A.all B.all (request_lines front) written (so.all (request_lines front)) answered);
+  too_long = has.too_long;
+  faults = has.faults;
+}
+
 module _ {D : Type 0} {g : Ghosts D} {file : Image} {rest : Option (Leftover D g)} where
   -- What was asked of a register over a file was asked of the file.
   asked_file : {last : Leftover D g} {clean : Type 0} {old new : Standing} → IsOver file rest last clean old new → {input left a b : Option (List ℕ)} (asked : Result ⊤ ScriptFault)
-      → HasAnswered clean old new input left a b asked → HasAnswered (IsCleanLeft last) (Held file) (IsLeftWith last) input left a b asked
-  asked_file {last} {clean} {old} {new} over {input} {left} {a} {b} (Ok x) has =
-      let (lines, written, all, short, appended, answered) = has.all in
-      record {
-        all = (lines, written, all, short, appended, lines_moved (IsCleanLeft last) clean (Held file) old new (IsLeftWith last) lines written over.closes over.finds over.leaves answered);
-        early = tt;
-        unread = tt;
-        too_long = λ e. absurd cc;
-        faults = tt;
-      }
-  asked_file {last} {clean} {old} {new} over {input} {left} {a} {b} (Err fault) has = record {
-    all = tt;
-    early = cut_moved (IsCleanLeft last) clean (Held file) old new (IsLeftWith last) _ _ a b fault over.closes over.finds over.leaves has.early;
-    unread = λ e.
-        let (front, begun, written, taken, ends, open_ended, appended, answered) = has.unread e in (
-          front,
-          begun,
-          written,
-          taken,
-          ends,
-          open_ended,
-          appended,
-          lines_moved (IsCleanLeft last) clean (Held file) old new (IsLeftWith last) (request_lines front) written over.closes over.finds over.leaves answered,
-        );
-    too_long = has.too_long;
-    faults = has.faults;
-  }
+      → HasAnswered (account_of clean old new) input left a b asked → HasAnswered (account_of (IsCleanLeft last) (Held file) (IsLeftWith last)) input left a b asked
+  asked_file {last} {clean} {old} {new} over {input} {left} {a} {b} asked =
+      answered_told (account_of clean old new) (account_of (IsCleanLeft last) (Held file) (IsLeftWith last)) input left a b asked
+      (told_moved (IsCleanLeft last) clean (Held file) old new (IsLeftWith last) over.closes over.finds over.leaves)
 
   -- So it is by an errand.
   pub asked_over : {R : Type 0} {is_clean : R → Type 0} {stands : R → Standing} {same kept : Type 0} {input left left' a b b' : Option (List ℕ)} {done : Result ⊤ Fault}

@@ -7,10 +7,12 @@ use Rattle.fr_base.specs.Book.{opening}
 use Rattle.fr_base.specs.Cluster.{ClusterFile, IsWellFormed}
 use Rattle.fr_text.specs.ClusterFile.{config_of}
 use Rattle.fr_world.specs.Held.{Standing}
-use Rattle.fr_cli.specs.Answering.{Anything, WasWritten}
+use Rattle.fr_base.specs.declared.desk.Desk as Desk
+use Rattle.fr_cli.specs.Answering.{Account, Anything, WasWritten, account_by, account_of}
 use Rattle.fr_cli.specs.Output.{IsAnsweredTo, IsCutShort, IsOutputTo, LacksMemory}
 use Rattle.fr_cli.specs.Runs.{IsRunOf}
 use Rattle.fr_cli.specs.Script.{max_script, parts_of, request_lines}
+use Rattle.fr_cli.proofs.AnsweringLaws.{Tells, cut_told, each_told, lines_as}
 use Rattle.fr_cli.proofs.OutputLaws.{answered_to}
 use Rattle.fr_cli.specs.declared.script_fault.ScriptFault.{ScriptFault}
 use Rattle.fr_cli.specs.declared.script_fault.ScriptFault.TheVariants.{NoMemory, WriteFailed}
@@ -20,10 +22,22 @@ on_script : (P : List ℕ → Type 0) (script : Option (List ℕ)) (bytes : List
 on_script P None bytes whole so = tt
 on_script P (Some s) bytes whole so = subst P whole so
 
+-- something else is said of the lines
+written_told : (A B : Account) (lines : List (List ℕ)) (a b : Option (List ℕ)) (done : Result ⊤ ScriptFault) → Tells A B → WasWritten A lines a b done → WasWritten B lines a b done
+written_told A B lines a b (Ok x) so was = record {
+  all = (was.all.0, was.all.1, lines_as A.all B.all lines was.all.0 (so.all lines) was.all.2);
+  early = tt;
+  faults = tt;
+}
+written_told A B lines a b (Err fault) so was = record { all = tt; early = cut_told A B _ _ a b fault so was.early; faults = was.faults }
+
 -- what was written to a writer was written to the same one
-pub written_at : {W : Type 0} (contents : W → Option (List ℕ)) (clean : Type 0) (old new : Standing) (lines : List (List ℕ)) (held same : W) (now : Option (List ℕ)) (done : Result ⊤ ScriptFault)
-    → held ≡ same → WasWritten clean old new lines (contents held) now done → WasWritten clean old new lines (contents same) now done
-written_at contents clean old new lines held same now done is was = subst (λ w. WasWritten clean old new lines (contents w) now done) is was
+pub written_at : {W D : Type 0} (contents : W → Option (List ℕ)) (desk : Desk.Ghosts D) (old new : D) (lines : List (List ℕ)) (held same : W) (now : Option (List ℕ)) (done : Result ⊤ ScriptFault)
+    → held ≡ same → WasWritten (account_by desk old new) lines (contents held) now done
+    → WasWritten (account_of (desk.clean new) (desk.stands old) (desk.stands new)) lines (contents same) now done
+written_at contents desk old new lines held same now done is was =
+    let account = account_of (desk.clean new) (desk.stands old) (desk.stands new) in
+    subst (λ w. WasWritten account lines (contents w) now done) is (written_told (account_by desk old new) account lines (contents held) now done (each_told desk old new) was)
 
 -- A script of these parts, whose cluster file is read so.
 pub record HasParts (script : List ℕ) (f : ClusterFile) (requests : List ℕ) : Type 0 where
@@ -79,7 +93,7 @@ no_write_failed e = absurd cc
 
 pub run_of : (clean : Type 0) (old new : Standing) (script left a b : Option (List ℕ)) (bytes requests : List ℕ) (f : ClusterFile) (done : Result ⊤ ScriptFault)
     → clean → IfSome script (λ all. bytes ≡ all) → IsAtEnd left → HasParts bytes f requests → old f.cluster (opening f)
-    → WasWritten clean old new (request_lines requests) a b done → IsRunOf script left a b done
+    → WasWritten (account_of clean old new) (request_lines requests) a b done → IsRunOf script left a b done
 run_of clean old new script left a b bytes requests f (Ok x) is whole end has stands w = record {
   output =
       let (written, appended, answered) = w.all in

@@ -1,7 +1,7 @@
 -- Answered lines: the bytes are the lines' answers, a line for each, and the lines a run from the sound book for which
--- the register stood; it now stands for the book after them. How they are cut short by a fault: the first lines were
+-- the register stood; it now stands for the book after them, and so it did behind each line. How they are cut short by a fault: the first lines were
 -- carried out, and but for the end of one answer all is written.
-use Rattle.std.specs.Prelude.{◌≡◌, ◌⊎◌, ℕ, List, ◌∷◌, ◌++◌, length, Option, Result, Err, OnOk, IfErr, IfOk, ⊤}
+use Rattle.std.specs.Prelude.{◌≡◌, ◌⊎◌, ℕ, List, [], ◌∷◌, ◌++◌, length, Option, Result, Err, OnOk, IfErr, IfOk, ⊤}
 use Rattle.std.specs.Io.KnownBytes.{Appends}
 use Rattle.std.specs.declared.io.Write as Write
 use Rattle.fr_base.specs.Book.{Book}
@@ -40,13 +40,46 @@ GivesAnswer line clean old new given = clean → IfOk given (AnswersLine old new
 abbrev pub Anything : Standing
 Anything c b = ⊤
 
--- These bytes are the lines' answers, a line for each. As long as the register was clean, the lines were answered so from each sound
--- book for which it stood, and now it stands for the book after them.
-pub record AnswersLines (clean : Type 0) (old new : Standing) (lines : List (List ℕ)) (written : List ℕ) : Type 0 where
+-- As long as the register was clean, the lines were answered so from each sound book for which it stood, and now it stands for the book
+-- after them.
+abbrev pub AnswersAll : Type 0 → Standing → Standing → List (List ℕ) → List Answer → Type 0
+AnswersAll clean old new lines answers = clean → InSound old (λ c b. (last : Book) × new c last × AreAnswered c b lines answers last)
+
+-- The register stands for what it stood for, and it was clean if it is.
+abbrev pub IsStill : {D : Type 0} → (D → Type 0) → (D → Standing) → D → D → Type 0
+IsStill clean stands old new = (clean new → clean old) × (clean new → (c : Cluster) (b : Book) → stands old c b → stands new c b)
+
+-- From the first register to the last the lines were answered so, one after another. Behind each there was a register, that stood for the
+-- book after it; and it was clean if the one behind the next line was.
+abbrev pub AnswersEach : {D : Type 0} → (D → Type 0) → (D → Standing) → D → D → List (List ℕ) → List Answer → Type 0
+AnswersEach clean stands old new [] [] = IsStill clean stands old new
+AnswersEach {D} clean stands old new (line ∷ lines) (answer ∷ answers) = (mid : D) × (clean mid → clean old)
+    × (clean mid → AnswersLine (stands old) (stands mid) line answer) × AnswersEach clean stands mid new lines answers
+AnswersEach clean stands old new [] (_ ∷ _) = ⊥
+AnswersEach clean stands old new (_ ∷ _) [] = ⊥
+
+-- What is said of lines and their answers: where these are all that were answered, and where they are the first of them.
+pub record Account : Type 1 where
+  pub all : List (List ℕ) → List Answer → Type 0
+  pub first : List (List ℕ) → List Answer → Type 0
+
+-- by what the register stood for, and stands for
+abbrev pub account_of : Type 0 → Standing → Standing → Account
+account_of clean old new = record { all = AnswersAll clean old new; first = AnswersAll clean old Anything }
+
+-- by the register behind each line
+abbrev pub account_by : {D : Type 0} → Desk.Ghosts D → D → D → Account
+account_by {D} desk old new = record {
+  all = AnswersEach desk.clean desk.stands old new;
+  first = λ lines answers. (mid : D) × (desk.clean new → desk.clean mid) × AnswersEach desk.clean desk.stands old mid lines answers;
+}
+
+-- These bytes are the lines' answers, a line for each. This is said of them.
+pub record AnswersLines (Are : List (List ℕ) → List Answer → Type 0) (lines : List (List ℕ)) (written : List ℕ) : Type 0 where
   pub answers : List Answer
   pub each : length answers ≡ length lines
   pub bytes : written ≡ text_of_answers answers
-  pub answered : clean → InSound old (λ c b. (last : Book) × new c last × AreAnswered c b lines answers last)
+  pub answered : Are lines answers
 
 -- These bytes are the end of one answer's line, or none.
 abbrev pub EndsAnswer : List ℕ → Type 0
@@ -54,15 +87,15 @@ EndsAnswer missing = (kept : List ℕ) × (answer : Answer) × (line_of answer �
 
 -- A fault came, and lines were answered before it. The register carried out some of which this is so; the end of one answer at most was
 -- not written. Unless it was the write that failed, all that was written are whole answers, to lines of which that is so.
-pub record WasCutShort (clean : Type 0) (old new : Standing) (Done Told : List (List ℕ) → Type 0) (a b : Option (List ℕ)) (fault : ScriptFault) : Type 0 where
+pub record WasCutShort (account : Account) (Done Told : List (List ℕ) → Type 0) (a b : Option (List ℕ)) (fault : ScriptFault) : Type 0 where
   pub lines : List (List ℕ)
   pub done : Done lines
   pub written : List ℕ
   pub missing : List ℕ
   pub appended : Appends a b written
   pub one : EndsAnswer missing
-  pub answered : AnswersLines clean old new lines (written ++ missing)
-  pub whole : (fault ≡ WriteFailed) ⊎ ((told : List (List ℕ)) × Told told × AnswersLines clean old Anything told written)
+  pub answered : AnswersLines account.all lines (written ++ missing)
+  pub whole : (fault ≡ WriteFailed) ⊎ ((told : List (List ℕ)) × Told told × AnswersLines account.first told written)
 
 -- The lines begin with these.
 abbrev pub BeginWith : List (List ℕ) → List (List ℕ) → Type 0
@@ -73,14 +106,14 @@ abbrev pub GoOnBehind : List (List ℕ) → List (List ℕ) → Type 0
 GoOnBehind lines front = (line : List ℕ) × (left : List (List ℕ)) × (lines ≡ front ++ line ∷ left)
 
 -- What was written of the lines' answers, by how that ended: all; or, where there was no memory for a line or a write failed, those before.
-pub record WasWritten (clean : Type 0) (old new : Standing) (lines : List (List ℕ)) (a b : Option (List ℕ)) (done : Result ⊤ ScriptFault) : Type 0 where
-  pub all : OnOk done ((written : List ℕ) × Appends a b written × AnswersLines clean old new lines written)
-  pub early : IfErr done (WasCutShort clean old new (BeginWith lines) (GoOnBehind lines) a b)
+pub record WasWritten (account : Account) (lines : List (List ℕ)) (a b : Option (List ℕ)) (done : Result ⊤ ScriptFault) : Type 0 where
+  pub all : OnOk done ((written : List ℕ) × Appends a b written × AnswersLines account.all lines written)
+  pub early : IfErr done (WasCutShort account (BeginWith lines) (GoOnBehind lines) a b)
   pub faults : IfErr done (λ fault. (fault ≡ NoMemory) ⊎ (fault ≡ WriteFailed))
 
 -- A register was asked what these lines ask, and the answers were written so to an output. The register was clean before if it is now, and
 -- the output has the same writer still.
 pub record HasWritten {D W : Type 0} (desk : Desk.Ghosts D) (writer : Write.Ghosts W) (lines : List ℕ) (old new : D) (held now : Output W) (done : Result ⊤ ScriptFault) : Type 0 where
-  pub written : WasWritten (desk.clean new) (desk.stands old) (desk.stands new) (request_lines lines) (writer.contents held.writer.now) (writer.contents now.writer.now) done
+  pub written : WasWritten (account_by desk old new) (request_lines lines) (writer.contents held.writer.now) (writer.contents now.writer.now) done
   pub falls : desk.clean new → desk.clean old
   pub same_writer : now.writer.ghost_name ≡ held.writer.ghost_name

@@ -10,6 +10,7 @@ use Rattle.fr_base.specs.Book.{Book}
 use Rattle.fr_base.specs.Cluster.{Cluster}
 use Rattle.fr_desks.specs.FileDesk.{Held, IsLeftWith}
 use Rattle.fr_world.specs.Held.{Standing}
+use Rattle.fr_cli.specs.Answering.{account_of}
 use Rattle.fr_cli.specs.Asking.{IsAnswer, IsForReader, Leads, Prints, asked_with, query_of}
 use Rattle.fr_cli.specs.Deliveries.{request_with}
 use Rattle.fr_cli.specs.Faults.{IsNotOpened}
@@ -45,7 +46,7 @@ tells (telling.Answer key delivery body) clean old new done =
 -- The requests of an input are answered.
 abbrev pub AnswersInput : Option (List ℕ) → Option (List ℕ) → Option (List ℕ) → Option (List ℕ) → Doing ⊤ Fault
 AnswersInput input left a b clean old new done = (asked : Result ⊤ ScriptFault) × (done ≡ of_script asked) × OnOk asked (IsAtEnd left)
-    × HasAnswered clean old new input left a b asked
+    × HasAnswered (account_of clean old new) input left a b asked
 
 -- Connections that come in are served. The line of a server that listens is printed, and the ends of those that failed are told.
 abbrev pub ServesConnections : Service → Comings → Option (List ℕ) → Option (List ℕ) → Option (List ℕ) → Option (List ℕ) → Doing ⊤ Fault

@@ -11,8 +11,7 @@ use Rattle.sqlite.specs.declared.file.Leftover.{Leftover}
 use Rattle.sqlite_disk.specs.declared.Disk.{Ghosts}
 use Rattle.sqlite_wal.specs.Recovery.{Image}
 use Rattle.fr_desks.specs.FileDesk.{Held, IsLeftWith}
-use Rattle.fr_world.specs.Held.{Standing}
-use Rattle.fr_cli.specs.Answering.{AnswersLines, BeginWith, WasCutShort}
+use Rattle.fr_cli.specs.Answering.{Account, AnswersLines, BeginWith, WasCutShort, account_by, account_of}
 use Rattle.fr_cli.specs.Faults.{IsNotOpened}
 use Rattle.fr_cli.specs.Opened.{IsLeftOf}
 use Rattle.fr_cli.specs.Performing.{of_script}
@@ -40,15 +39,15 @@ abbrev pub EndsAsking : ScriptFault → Type 0
 EndsAsking fault = (fault ≡ NoMemory) ⊎ ((fault ≡ WriteFailed) ⊎ (fault ≡ Unavailable))
 
 -- The lines were answered, and more may be asked; or a fault came, and the first of them were.
-pub record WasAsked (clean : Type 0) (old new : Standing) (lines : List (List ℕ)) (a b : Option (List ℕ)) (done : Result ⊤ ScriptFault) : Type 0 where
-  pub all : OnOk done ((written : List ℕ) × Appends a b written × AnswersLines clean old new lines written)
-  pub early : IfErr done (WasCutShort clean old new (BeginWith lines) (BeginWith lines) a b)
+pub record WasAsked (account : Account) (lines : List (List ℕ)) (a b : Option (List ℕ)) (done : Result ⊤ ScriptFault) : Type 0 where
+  pub all : OnOk done ((written : List ℕ) × Appends a b written × AnswersLines account.all lines written)
+  pub early : IfErr done (WasCutShort account (BeginWith lines) (BeginWith lines) a b)
   pub faults : IfErr done EndsAsking
 
 -- A register was asked what these lines ask, and the answers were written to an output; then more may be asked, or a fault came. The register
 -- was clean before if it is now, and the output has the same writer still.
 pub record HasAsked {D W : Type 0} (desk : Desk.Ghosts D) (writer : Write.Ghosts W) (lines : List ℕ) (old new : D) (held now : Output W) (done : Result ⊤ ScriptFault) : Type 0 where
-  pub asked : WasAsked (desk.clean new) (desk.stands old) (desk.stands new) (request_lines lines) (writer.contents held.writer.now) (writer.contents now.writer.now) done
+  pub asked : WasAsked (account_by desk old new) (request_lines lines) (writer.contents held.writer.now) (writer.contents now.writer.now) done
   pub falls : desk.clean new → desk.clean old
   pub same_writer : now.writer.ghost_name ≡ held.writer.ghost_name
 
@@ -66,24 +65,24 @@ HasLongLine bytes = (front : List ℕ) × (line : List ℕ) × (rest : List ℕ)
 
 -- Of these bytes the lines that have an end were answered, and the others begin the next line, which has no end yet; or a
 -- fault came.
-pub record HasHeard (clean : Type 0) (old new : Standing) (bytes begun : List ℕ) (a b : Option (List ℕ)) (done : Result ⊤ ScriptFault) : Type 0 where
+pub record HasHeard (account : Account) (bytes begun : List ℕ) (a b : Option (List ℕ)) (done : Result ⊤ ScriptFault) : Type 0 where
   pub heard : OnOk done ((front : List ℕ) × (written : List ℕ) × (bytes ≡ front ++ begun) × EndsLines front
-      × HasNo 10 begun × AreShort (request_lines front) × Appends a b written × AnswersLines clean old new (request_lines front) written)
-  pub early : IfErr done (WasCutShort clean old new (AreFirstOfAll bytes) (AreFirstOfAll bytes) a b)
+      × HasNo 10 begun × AreShort (request_lines front) × Appends a b written × AnswersLines account.all (request_lines front) written)
+  pub early : IfErr done (WasCutShort account (AreFirstOfAll bytes) (AreFirstOfAll bytes) a b)
   pub too_long : IsErrOf done TooLong → HasLongLine bytes
 
 -- What was taken of the input is whole lines, which were answered and no others, and behind them bytes with no line's end.
-abbrev pub AnswersEnded : Type 0 → Standing → Standing → Option (List ℕ) → Option (List ℕ) → Option (List ℕ) → Option (List ℕ) → Type 0
-AnswersEnded clean old new input left a b = (front : List ℕ) × (begun : List ℕ) × (written : List ℕ) × Consumes input left (front ++ begun)
-    × EndsLines front × HasNo 10 begun × Appends a b written × AnswersLines clean old new (request_lines front) written
+abbrev pub AnswersEnded : Account → Option (List ℕ) → Option (List ℕ) → Option (List ℕ) → Option (List ℕ) → Type 0
+AnswersEnded account input left a b = (front : List ℕ) × (begun : List ℕ) × (written : List ℕ) × Consumes input left (front ++ begun)
+    × EndsLines front × HasNo 10 begun × Appends a b written × AnswersLines account.all (request_lines front) written
 
 -- The input's requests were all answered, and neither it nor one of them is too long; or the first of them were, and a fault came. Where it
 -- was a fault of reading, each line whose end was taken was answered.
-pub record HasAnswered (clean : Type 0) (old new : Standing) (input left a b : Option (List ℕ)) (done : Result ⊤ ScriptFault) : Type 0 where
+pub record HasAnswered (account : Account) (input left a b : Option (List ℕ)) (done : Result ⊤ ScriptFault) : Type 0 where
   pub all : OnOk done ((lines : List (List ℕ)) × (written : List ℕ) × IfSome input (λ bytes. (lines ≡ request_lines bytes) × (length bytes ≤ max_script))
-      × AreShort lines × Appends a b written × AnswersLines clean old new lines written)
-  pub early : IfErr done (WasCutShort clean old new (λ lines. IfSome input (AreFirstOf lines)) (λ lines. IfSome input (AreFirstOf lines)) a b)
-  pub unread : IfErr done (λ fault. (fault ≡ ReadFailed) ⊎ (fault ≡ TooManyReads) → AnswersEnded clean old new input left a b)
+      × AreShort lines × Appends a b written × AnswersLines account.all lines written)
+  pub early : IfErr done (WasCutShort account (λ lines. IfSome input (AreFirstOf lines)) (λ lines. IfSome input (AreFirstOf lines)) a b)
+  pub unread : IfErr done (λ fault. (fault ≡ ReadFailed) ⊎ (fault ≡ TooManyReads) → AnswersEnded account input left a b)
   pub too_long : IsErrOf done TooLong → IfSome input (λ bytes. (max_script < length bytes) ⊎ HasLongLine bytes)
   pub faults : IfErr done (λ fault. (fault ≡ WriteFailed) ⊎ ((fault ≡ Unavailable) ⊎ ((of : InputFault) × (fault ≡ script_fault_of of))))
 
@@ -93,4 +92,4 @@ abbrev pub IsAsked : {D : Type 0} {g : Ghosts D} → Image → Option (Leftover 
 IsAsked {D} {g} file rest input left a b done =
     ((fault : Fault) × (done ≡ Err fault) × IsNotOpened file rest fault × Keeps input left × Keeps a b)
     ⊎ ((asked : Result ⊤ ScriptFault) × (last : Leftover D g) × IsLeftOf file rest last × (done ≡ of_script asked) × OnOk asked (IsAtEnd left)
-    × HasAnswered (IsCleanLeft last) (Held file) (IsLeftWith last) input left a b asked)
+    × HasAnswered (account_of (IsCleanLeft last) (Held file) (IsLeftWith last)) input left a b asked)

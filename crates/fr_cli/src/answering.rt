@@ -14,7 +14,7 @@ use std::alloc::Global;
 use std::io::Write;
 use std::str;
 
-/// Writes the answer to each request, before the next one is read.
+/// Writes the answer to each request, before the next one is read. Behind each there is a desk that stands for the book after it.
 pub fn write_answers<D: Desk, W: Write>(
     alloc: Global,
     desk: &mut D,

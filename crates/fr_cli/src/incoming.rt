@@ -1,6 +1,7 @@
 //! Requests that come in on a reader, each answered before the next one is awaited.
 ghost use Rattle.std.specs.Prelude.{◌≡◌, ◌⊎◌, ◌≤◌, ◌++◌, vec_len, IfErr, OnOk};
 ghost use Rattle.std.specs.Io.KnownBytes.{IsAtEnd};
+ghost use Rattle.fr_cli.specs.Answering.{account_by};
 ghost use Rattle.fr_cli.specs.Incoming.{EndsAsking, HasAnswered, HasAsked, HasHeard};
 ghost use Rattle.fr_cli.specs.Script.{HasNo};
 ghost use Rattle.fr_cli.specs.declared.input.InputFault.{InputFault};
@@ -22,6 +23,8 @@ pub const LINE_BYTES: usize = 1_048_576;
 /// script, [`SCRIPT_BYTES`] bytes and [`SCRIPT_READS`] reads, and [`LINE_BYTES`] for each line. A line that has no end
 /// when the bounds are met or a read fails is not answered.
 ///
+/// Behind each line that is answered there is a desk that stands for the book after it.
+///
 /// The answer to a line is written before more than what came with it is read. No clause speaks of that order, nor says when
 /// a read fails or the reads are too many.
 pub fn answer_input<D: Lasting, R: Read, W: Write>(
@@ -31,7 +34,7 @@ pub fn answer_input<D: Lasting, R: Read, W: Write>(
     writer: &mut W,
 ) -> Result<(), ScriptFault>
     ensures falls { D.clean desk.new → D.clean desk.old }
-    ensures answered { HasAnswered (D.clean desk.new) (D.stands desk.old) (D.stands desk.new)
+    ensures answered { HasAnswered (account_by D.Desk desk.old desk.new)
         (R.remaining reader.old) (R.remaining reader.new) (W.contents writer.old)
         (W.contents writer.new) result }
     ensures end { OnOk result (IsAtEnd (R.remaining reader.new)) }
@@ -48,7 +51,7 @@ fn answer_pieces<D: Lasting, R: Read, W: Write>(
     output: &mut Output<'_, W>,
 ) -> Result<(), ScriptFault>
     ensures falls { D.clean desk.new → D.clean desk.old }
-    ensures answered { HasAnswered (D.clean desk.new) (D.stands desk.old) (D.stands desk.new)
+    ensures answered { HasAnswered (account_by D.Desk desk.old desk.new)
         (R.remaining reader.old) (R.remaining reader.new) (W.contents output.old.writer.now)
         (W.contents output.new.writer.now) result }
     ensures end { OnOk result (IsAtEnd (R.remaining reader.new)) }
@@ -83,7 +86,7 @@ fn answer_piece<D: Lasting, W: Write>(
     requires short { vec_len begun.old ≤ LINE_BYTES }
     ensures short { OnOk result (vec_len begun.new ≤ LINE_BYTES) }
     ensures falls { D.clean desk.new → D.clean desk.old }
-    ensures heard { HasHeard (D.clean desk.new) (D.stands desk.old) (D.stands desk.new)
+    ensures heard { HasHeard (account_by D.Desk desk.old desk.new)
         (begun.old.items ++ piece.now) begun.new.items (W.contents output.old.writer.now)
         (W.contents output.new.writer.now) result }
     ensures faults { IfErr result (λ fault. (fault ≡ ScriptFault.TooLong) ⊎ EndsAsking fault) }

@@ -1,7 +1,7 @@
 -- The lines so far are answered by what was written, and the iterator has those that are left.
 use Rattle.std.proofs.Common.{◌≡◌, ◌++◌, ℕ, List}
 use Rattle.std.specs.Io.KnownBytes.{Appends}
-use Rattle.fr_cli.specs.Answering.{AnswersLines}
+use Rattle.fr_cli.specs.Answering.{AnswersEach, AnswersLines}
 use Rattle.fr_cli.specs.Script.{request_lines}
 use Rattle.fr_cli.proofs.answering.write_answers.Given as goal
 
@@ -15,5 +15,5 @@ invariant-loop-line g l = record {
   lines : request_lines l.fn.lines ≡ front ++ request_lines l.line-iterator.rest.now;
   written : List ℕ;
   appended : Appends (g.W.Write.contents l.fn.output.writer.now) (g.W.Write.contents l.output.writer.now) written;
-  answered : AnswersLines (g.D.Desk.clean l.desk) (g.D.Desk.stands l.fn.desk) (g.D.Desk.stands l.desk) front written;
+  answered : AnswersLines (AnswersEach g.D.Desk.clean g.D.Desk.stands l.fn.desk l.desk) front written;
 }

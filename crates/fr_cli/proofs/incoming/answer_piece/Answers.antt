@@ -1,6 +1,6 @@
 use Rattle.std.proofs.Common.{◌≡◌, ◌+◌, ◌<◌, ◌≤◌, ◌++◌, ◌∷◌, [], ℕ, List, None, Err, length, refl, sym, ap, ◌∙◌, subst, append_assoc, append-nil, arith, rules}
 use Rattle.std.proofs.KnownBytes.{Appends-nil, Appends-trans}
-use Rattle.fr_cli.specs.Answering.{AnswersLines}
+use Rattle.fr_cli.specs.Answering.{AnswersEach, AnswersLines}
 use Rattle.fr_cli.specs.Incoming.{AreFirstOfAll, AreShort, EndsLines, HasHeard, max_line}
 use Rattle.fr_cli.specs.Script.{HasNo, parts_around, request_lines}
 use Rattle.fr_cli.specs.ScriptFault.{script_fault_of}
@@ -23,8 +23,8 @@ loop-line-init g c = record {
   ends = ends-none;
   written = [];
   appended = Appends-nil (g.W.Write.contents c.args.output.now.writer.now);
-  answered = subst (λ l. AnswersLines (g.D.Desk.clean c.args.desk.now) (g.D.Desk.stands c.args.desk.now) (g.D.Desk.stands c.args.desk.now) l [])
-      (sym (request_lines-none [] refl)) (no_lines (g.D.Desk.clean c.args.desk.now) (g.D.Desk.stands c.args.desk.now));
+  answered = subst (λ l. AnswersLines (AnswersEach g.D.Desk.clean g.D.Desk.stands c.args.desk.now c.args.desk.now) l [])
+      (sym (request_lines-none [] refl)) (no_lines g.D.Desk c.args.desk.now);
 }
 
 pub returns-in_err-append-clause-heard : goal.returns-in_err-append-clause-heard
@@ -40,8 +40,8 @@ returns-in_err-append-clause-heard g c =
     let split : bytes ≡ l.front ++ ((begun ++ line) ++ 10 ∷ after) = l.split ∙ ap (λ r. l.front ++ (begun ++ r)) rest ∙ ap (λ r. l.front ++ r) (sym (append_assoc begun line (10 ∷ after))) in
     let clear : HasNo 10 (begun ++ line) = has_no-append 10 begun line l.open_ended (split_clear c.loop-line.rest.now line after c.in-Some.ensures) in
     let is : c.from_residual.result ≡ Err (script_fault_of c.in_err-append.field-0.0) = search rules in
-    subst (HasHeard _ _ _ bytes _ _ _) (sym is)
-    (heard_cut _ _ _ bytes _ _ _ l.front l.written c.in_err-append.field-0.0 l.answered l.appended first
+    subst (HasHeard _ bytes _ _ _) (sym is)
+    (heard_cut g.D.Desk _ _ bytes _ _ _ l.front l.written c.in_err-append.field-0.0 l.answered l.appended first
     (λ e.
     let was = c.in_err-append.was in
     let over = c.append.ensures.too_long.0 cc in
@@ -54,8 +54,8 @@ returns-in_err-extend_from_slice-clause-heard g c =
     let first : AreFirstOfAll bytes (request_lines l.front) =
     subst (λ all. AreFirstOfAll all (request_lines l.front)) (sym l.split) (first_whole l.front _ l.ends) in
     let is : c.from_residual-in_err-extend_from_slice.result ≡ Err NoMemory = search rules in
-    subst (HasHeard _ _ _ bytes _ _ _) (sym is)
-    (record { heard = tt; early = cut_here _ _ _ _ _ _ _ _ _ (request_lines l.front) l.written (λ is. is) l.answered l.appended first first; too_long = λ e. absurd cc })
+    subst (HasHeard _ bytes _ _ _) (sym is)
+    (record { heard = tt; early = cut_here g.D.Desk _ _ _ _ _ _ _ (request_lines l.front) l.written l.answered l.appended first first; too_long = λ e. absurd cc })
 
 pub returns-in_err-answer_requests-clause-heard : goal.returns-in_err-answer_requests-clause-heard
 returns-in_err-answer_requests-clause-heard g c =
@@ -72,10 +72,10 @@ returns-in_err-answer_requests-clause-heard g c =
     let split : bytes ≡ l.front ++ (chunk ++ after) = l.split ∙ ap (λ r. l.front ++ r) same in
     let whole : c.deref.result.now ≡ chunk = search rules in
     let is : c.from_residual-in_err-answer_requests.result ≡ Err _ = search rules in
-    subst (HasHeard _ _ _ bytes _ _ _) (sym is)
+    subst (HasHeard _ bytes _ _ _) (sym is)
     (record {
       heard = tt;
-      early = cut_after _ _ _ _ _ _ _ _ _ _ _ _ _ (request_lines l.front) l.written c.answer_requests.ensures.falls l.answered l.appended
+      early = cut_after g.D.Desk _ _ _ _ _ _ _ _ _ _ _ (request_lines l.front) l.written l.answered l.appended
           (λ k so. subst (λ all. AreFirstOfAll all (request_lines l.front ++ k)) (sym split) (first_then l.front (chunk ++ after) k l.ends (first_begin chunk after k so.0 ends (ap request_lines (sym whole) ∙ so.1))))
           (λ k so. subst (λ all. AreFirstOfAll all (request_lines l.front ++ k)) (sym split) (first_then l.front (chunk ++ after) k l.ends (first_begin chunk after k so.0 ends (ap request_lines (sym whole) ∙ so.1))))
           c.in_err-answer_requests.ensures.asked.early;
@@ -95,7 +95,7 @@ loop-line-preserved g c =
     ap (λ r. begun ++ r) rest ∙ sym (append_assoc begun line (10 ∷ after)) ∙ sym (append_assoc (begun ++ line) (10 ∷ []) after) in
     let (written, appended, answers) = c.in_ok-answer_requests.ensures.asked.all in
     let whole : c.deref.result.now ≡ chunk = search rules in
-    let answered = subst (λ b. AnswersLines (g.D.Desk.clean c.answer_requests.new.desk) (g.D.Desk.stands c.loop-line.desk) (g.D.Desk.stands c.answer_requests.new.desk) (request_lines b) written) whole answers in
+    let answered = subst (λ b. AnswersLines (AnswersEach g.D.Desk.clean g.D.Desk.stands c.loop-line.desk c.answer_requests.new.desk) (request_lines b) written) whole answers in
     let none : c.clear.new.self.items ≡ [] = search rules in
     let clear : HasNo 10 (begun ++ line) = has_no-append 10 begun line l.open_ended (split_clear c.loop-line.rest.now line after c.in-Some.ensures) in
     let fits : length (begun ++ line) ≤ max_line = search rules in
@@ -110,7 +110,7 @@ loop-line-preserved g c =
       short = short-then l.front chunk l.ends l.short (short_ended (begun ++ line) clear fits);
       written = l.written ++ written;
       appended = Appends-trans _ _ _ l.written written l.appended appended;
-      answered = heard_more _ _ _ _ _ l.front chunk l.written written c.answer_requests.ensures.falls l.ends l.answered answered;
+      answered = heard_more g.D.Desk _ _ _ l.front chunk l.written written l.ends l.answered answered;
     }
 
 pub returns-in_err-append-2-clause-heard : goal.returns-in_err-append-2-clause-heard
@@ -125,8 +125,8 @@ returns-in_err-append-2-clause-heard g c =
     let clear : HasNo 10 (begun ++ left) = has_no-append 10 begun left l.open_ended (no_feed left none) in
     let split : bytes ≡ l.front ++ ((begun ++ left) ++ []) = l.split ∙ ap (λ r. l.front ++ r) (sym (append-nil (begun ++ left))) in
     let is : c.from_residual-in_err-append-2.result ≡ Err (script_fault_of c.in_err-append-2.field-0.0) = search rules in
-    subst (HasHeard _ _ _ bytes _ _ _) (sym is)
-    (heard_cut _ _ _ bytes _ _ _ l.front l.written c.in_err-append-2.field-0.0 l.answered l.appended first
+    subst (HasHeard _ bytes _ _ _) (sym is)
+    (heard_cut g.D.Desk _ _ bytes _ _ _ l.front l.written c.in_err-append-2.field-0.0 l.answered l.appended first
     (λ e.
     let was = c.in_err-append-2.was in
     let over = c.append-2.ensures.too_long.0 cc in

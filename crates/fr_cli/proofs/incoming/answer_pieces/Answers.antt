@@ -1,7 +1,7 @@
 use Rattle.std.proofs.Common.{◌≡◌, ◌⊎◌, ◌++◌, ◌+◌, ◌<◌, ◌≤◌, [], ℕ, List, Err, length, refl, sym, ap, ◌∙◌, subst, append_assoc, append-nil, take, arith, rules, length-append, inl, inr}
 use Rattle.std.specs.Io.KnownBytes.{Consumes, IsAtEnd}
 use Rattle.std.proofs.KnownBytes.{Appends-nil, Appends-trans, Consumes-nil, Consumes-trans}
-use Rattle.fr_cli.specs.Answering.{AnswersLines}
+use Rattle.fr_cli.specs.Answering.{AnswersEach, AnswersLines, account_by}
 use Rattle.fr_cli.specs.Incoming.{AreShort, HasAnswered, WasAsked, HasLongLine, max_line}
 use Rattle.fr_cli.specs.Script.{HasNo, max_script, request_lines}
 use Rattle.fr_cli.specs.declared.input.InputFault.TheVariants.{ReadFailed, TooLong, TooManyReads}
@@ -14,8 +14,6 @@ use Rattle.fr_cli.proofs.incoming.answer_pieces.Goals.{in-Ok+in_ok-room-in-Ok+in
 
 pub loop-init : goal.loop-init
 loop-init g c =
-    let clean = g.D.Desk.clean c.args.desk.now in
-    let stands = g.D.Desk.stands c.args.desk.now in
     record {
       same = refl;
       falls = λ clean. clean;
@@ -28,7 +26,7 @@ loop-init g c =
       short = subst AreShort (sym (request_lines-none [] refl)) tt;
       written = [];
       appended = Appends-nil (g.W.Write.contents c.args.output.now.writer.now);
-      answered = subst (λ l. AnswersLines clean stands stands l []) (sym (request_lines-none [] refl)) (no_lines clean stands);
+      answered = subst (λ l. AnswersLines (AnswersEach g.D.Desk.clean g.D.Desk.stands c.args.desk.now c.args.desk.now) l []) (sym (request_lines-none [] refl)) (no_lines g.D.Desk c.args.desk.now);
     }
 
 pub returns-in-Ok-eq0-clause-answered : goal.returns-in-Ok-eq0-clause-answered
@@ -36,23 +34,21 @@ returns-in-Ok-eq0-clause-answered g c =
     let l = c.loop.invariant in
     let contents = g.W.Write.contents in
     let remaining = g.R.Read.remaining in
-    let clean = g.D.Desk.clean in
-    let stands = g.D.Desk.stands in
     let end : IsAtEnd (remaining c.read.new.self) = search rules in
     let none : take c.in-Ok-eq0.field-0 c.read.new.buf ≡ [] = search rules in
     let taken : Consumes (remaining c.args.reader.now) (remaining c.read.new.self) (l.front ++ c.loop.begun.items) =
     subst (Consumes _ _) (ap (λ r. (l.front ++ c.loop.begun.items) ++ r) none ∙ append-nil (l.front ++ c.loop.begun.items)) (Consumes-trans _ _ _ _ _ l.taken c.in-Ok-eq0.ensures.bytes.0) in
-    let has : WasAsked (clean c.answer_requests.new.desk) (stands c.loop.desk) (stands c.answer_requests.new.desk) (request_lines c.loop.begun.items)
+    let has : WasAsked (account_by g.D.Desk c.loop.desk c.answer_requests.new.desk) (request_lines c.loop.begun.items)
     (contents c.loop.output.writer.now) (contents c.answer_requests.new.output.writer.now) c.answer_requests.result =
-    subst (λ b. WasAsked (clean c.answer_requests.new.desk) (stands c.loop.desk) (stands c.answer_requests.new.desk) (request_lines b)
+    subst (λ b. WasAsked (account_by g.D.Desk c.loop.desk c.answer_requests.new.desk) (request_lines b)
     (contents c.loop.output.writer.now) (contents c.answer_requests.new.output.writer.now) c.answer_requests.result) c.deref.ensures.value c.answer_requests.ensures.asked in
     let short : AreShort (request_lines (l.front ++ c.loop.begun.items)) =
     short-then l.front c.loop.begun.items l.ends l.short (short_open c.loop.begun.items l.open_ended (subst (λ (n : ℕ). n ≤ max_line) c.loop.begun.ok.0 l.fits)) in
     let fits : length (l.front ++ c.loop.begun.items) ≤ max_script = omega (arith, l.room) in
-    at_end (clean c.answer_requests.new.desk) (clean c.loop.desk) (stands c.args.desk.now) (stands c.loop.desk) (stands c.answer_requests.new.desk)
+    at_end g.D.Desk c.args.desk.now c.loop.desk c.answer_requests.new.desk
     (remaining c.args.reader.now) (remaining c.read.new.self)
     (contents c.args.output.now.writer.now) (contents c.loop.output.writer.now) (contents c.answer_requests.new.output.writer.now)
-    l.front c.loop.begun.items l.written c.answer_requests.result c.answer_requests.ensures.falls taken end fits l.ends l.appended l.answered short has
+    l.front c.loop.begun.items l.written c.answer_requests.result taken end fits l.ends l.appended l.answered short has
 
 pub returns-in_err-room-in-Ok-clause-answered : goal.returns-in_err-room-in-Ok-clause-answered
 returns-in_err-room-in-Ok-clause-answered g c =
@@ -66,9 +62,9 @@ returns-in_err-room-in-Ok-clause-answered g c =
     Consumes-trans _ _ _ _ _ l.taken c.in-Ok.ensures.bytes.0 in
     let long : max_script < length ((l.front ++ c.loop.begun.items) ++ piece) =
     omega (arith, less, size, l.room, length-append (l.front ++ c.loop.begun.items) piece) in
-    subst (HasAnswered (g.D.Desk.clean c.loop.desk) (g.D.Desk.stands c.args.desk.now) (g.D.Desk.stands c.loop.desk) (remaining c.args.reader.now) (remaining c.read.new.self)
+    subst (HasAnswered (account_by g.D.Desk c.args.desk.now c.loop.desk) (remaining c.args.reader.now) (remaining c.read.new.self)
     (g.W.Write.contents c.args.output.now.writer.now) (g.W.Write.contents c.loop.output.writer.now)) (sym is)
-    (cut_between (g.D.Desk.clean c.loop.desk) (g.D.Desk.stands c.args.desk.now) (g.D.Desk.stands c.loop.desk) (remaining c.args.reader.now) (remaining c.read.new.self)
+    (cut_between g.D.Desk c.args.desk.now c.loop.desk (remaining c.args.reader.now) (remaining c.read.new.self)
     (g.W.Write.contents c.args.output.now.writer.now) (g.W.Write.contents c.loop.output.writer.now) l.front (c.loop.begun.items ++ piece) l.written fault.TooLong TooLong refl
     (subst (Consumes _ _) (append_assoc l.front c.loop.begun.items piece) taken) l.ends l.appended l.answered
     (λ is. on_input (λ bytes. (max_script < length bytes) ⊎ HasLongLine bytes) (remaining c.args.reader.now) (remaining c.read.new.self) ((l.front ++ c.loop.begun.items) ++ piece) taken
@@ -83,18 +79,16 @@ returns-in_err-answer_piece-in-Ok-clause-answered g c =
     let l = c.loop.invariant in
     let contents = g.W.Write.contents in
     let remaining = g.R.Read.remaining in
-    let clean = g.D.Desk.clean in
-    let stands = g.D.Desk.stands in
     let bytes = c.loop.begun.items ++ take c.in-Ok.n c.read.new.buf in
     let is : c.from_residual-in_err-answer_piece-in-Ok.result ≡ Err c.in_err-answer_piece-in-Ok.field-0.0 = search rules in
     let taken : Consumes (remaining c.args.reader.now) (remaining c.read.new.self) (l.front ++ bytes) =
     subst (Consumes _ _) (append_assoc l.front c.loop.begun.items (take c.in-Ok.n c.read.new.buf)) (Consumes-trans _ _ _ _ _ l.taken c.in-Ok.ensures.bytes.0) in
-    subst (HasAnswered (clean c.answer_piece.new.desk) (stands c.args.desk.now) (stands c.answer_piece.new.desk) (remaining c.args.reader.now) (remaining c.read.new.self)
+    subst (HasAnswered (account_by g.D.Desk c.args.desk.now c.answer_piece.new.desk) (remaining c.args.reader.now) (remaining c.read.new.self)
     (contents c.args.output.now.writer.now) (contents c.answer_piece.new.output.writer.now)) (sym is)
-    (cut_within (clean c.answer_piece.new.desk) (clean c.loop.desk) (stands c.args.desk.now) (stands c.loop.desk) (stands c.answer_piece.new.desk)
+    (cut_within g.D.Desk c.args.desk.now c.loop.desk c.answer_piece.new.desk
     (remaining c.args.reader.now) (remaining c.read.new.self)
     (contents c.args.output.now.writer.now) (contents c.loop.output.writer.now) (contents c.answer_piece.new.output.writer.now)
-    l.front bytes l.written c.in_err-answer_piece-in-Ok.field-0.0 c.answer_piece.ensures.falls taken l.ends l.appended l.answered
+    l.front bytes l.written c.in_err-answer_piece-in-Ok.field-0.0 taken l.ends l.appended l.answered
     c.in_err-answer_piece-in-Ok.ensures.heard.early (λ is. c.in_err-answer_piece-in-Ok.ensures.heard.too_long cc) c.in_err-answer_piece-in-Ok.ensures.faults)
 
 pub returns-in_err-try_again-in-Err-clause-answered : goal.returns-in_err-try_again-in-Err-clause-answered
@@ -103,9 +97,9 @@ returns-in_err-try_again-in-Err-clause-answered g c =
     let remaining = g.R.Read.remaining in
     let is : c.from_residual-in_err-try_again-in-Err.result ≡ Err fault.ReadFailed = search rules in
     let taken : Consumes (remaining c.args.reader.now) (remaining c.read.new.self) (l.front ++ c.loop.begun.items) = search rules in
-    subst (HasAnswered (g.D.Desk.clean c.loop.desk) (g.D.Desk.stands c.args.desk.now) (g.D.Desk.stands c.loop.desk) (remaining c.args.reader.now) (remaining c.read.new.self)
+    subst (HasAnswered (account_by g.D.Desk c.args.desk.now c.loop.desk) (remaining c.args.reader.now) (remaining c.read.new.self)
     (g.W.Write.contents c.args.output.now.writer.now) (g.W.Write.contents c.loop.output.writer.now)) (sym is)
-    (cut_between (g.D.Desk.clean c.loop.desk) (g.D.Desk.stands c.args.desk.now) (g.D.Desk.stands c.loop.desk) (remaining c.args.reader.now) (remaining c.read.new.self)
+    (cut_between g.D.Desk c.args.desk.now c.loop.desk (remaining c.args.reader.now) (remaining c.read.new.self)
     (g.W.Write.contents c.args.output.now.writer.now) (g.W.Write.contents c.loop.output.writer.now) l.front c.loop.begun.items l.written fault.ReadFailed ReadFailed refl
     taken l.ends l.appended l.answered (λ is. absurd cc) (λ is. l.open_ended))
 
@@ -133,7 +127,7 @@ loop-preserved g c =
             short = short-then l.front more l.ends l.short short;
             written = l.written ++ written;
             appended = Appends-trans _ _ _ l.written written l.appended appended;
-            answered = heard_more _ _ _ _ _ l.front more l.written written w.answer_piece.ensures.falls l.ends l.answered answered;
+            answered = heard_more g.D.Desk _ _ _ l.front more l.written written l.ends l.answered answered;
           }))))
       | in-Err+in_ok-try_again-in-Err w ↦
           let taken : Consumes (remaining c.args.reader.now) (remaining c.read.new.self) (l.front ++ c.loop.begun.items) = search rules in
@@ -156,6 +150,6 @@ loop-preserved g c =
 pub returns-clause-answered : goal.returns-clause-answered
 returns-clause-answered g c =
     let l = c.loop.invariant in
-    cut_between (g.D.Desk.clean c.loop.desk) (g.D.Desk.stands c.args.desk.now) (g.D.Desk.stands c.loop.desk) (g.R.Read.remaining c.args.reader.now) (g.R.Read.remaining c.loop.reader)
+    cut_between g.D.Desk c.args.desk.now c.loop.desk (g.R.Read.remaining c.args.reader.now) (g.R.Read.remaining c.loop.reader)
     (g.W.Write.contents c.args.output.now.writer.now) (g.W.Write.contents c.loop.output.writer.now) l.front c.loop.begun.items l.written fault.TooManyReads TooManyReads refl
     l.taken l.ends l.appended l.answered (λ is. absurd cc) (λ is. l.open_ended)

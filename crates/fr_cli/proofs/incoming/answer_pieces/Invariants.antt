@@ -1,7 +1,7 @@
 -- Of what was taken from the reader whole lines were answered, and the others are begun. What is begun has no line's end.
 use Rattle.std.proofs.Common.{◌≡◌, ◌≤◌, ◌+◌, ◌++◌, ℕ, List, length, vec_len}
 use Rattle.std.specs.Io.KnownBytes.{Appends, Consumes}
-use Rattle.fr_cli.specs.Answering.{AnswersLines}
+use Rattle.fr_cli.specs.Answering.{AnswersEach, AnswersLines}
 use Rattle.fr_cli.specs.Incoming.{AreShort, EndsLines, max_line}
 use Rattle.fr_cli.specs.Script.{HasNo, max_script, request_lines}
 use Rattle.fr_cli.proofs.incoming.answer_pieces.Given as goal
@@ -19,5 +19,5 @@ invariant-loop g l = record {
   short : AreShort (request_lines front);
   written : List ℕ;
   appended : Appends (g.W.Write.contents l.fn.output.writer.now) (g.W.Write.contents l.output.writer.now) written;
-  answered : AnswersLines (g.D.Desk.clean l.desk) (g.D.Desk.stands l.fn.desk) (g.D.Desk.stands l.desk) (request_lines front) written;
+  answered : AnswersLines (AnswersEach g.D.Desk.clean g.D.Desk.stands l.fn.desk l.desk) (request_lines front) written;
 }

@@ -1,13 +1,16 @@
 use Rattle.std.proofs.Common.{Err, refl}
 use Rattle.fr_office.specs.Crashed.{StandsKept}
-use Rattle.fr_cli.proofs.IncomingLaws.{asked_none}
+use Rattle.fr_cli.proofs.AnsweringLaws.{each_told}
+use Rattle.fr_cli.proofs.IncomingLaws.{answered_told, asked_none}
 use Rattle.fr_cli.proofs.asked_file.AskingErrand.carry_out.Goals as goal
 
 pub returns-in-Ok-clause-does : goal.returns-in-Ok-clause-does
-returns-in-Ok-clause-does g c = rw (c.into_office.ensures, ← c.in-Ok.ensures.ok) (
-  (c.answer_input-asked.result, c.of_script.ensures, c.answer_input-asked.ensures.end, c.answer_input-asked.ensures.answered),
-  (refl, refl),
-)
+returns-in-Ok-clause-does g c =
+    let answered = answered_told _ _ _ _ _ _ _ (each_told _ _ _) c.answer_input-asked.ensures.answered in
+    rw (c.into_office.ensures, ← c.in-Ok.ensures.ok) (
+      (c.answer_input-asked.result, c.of_script.ensures, c.answer_input-asked.ensures.end, answered),
+      (refl, refl),
+    )
 
 pub returns-in-Err-clause-does : goal.returns-in-Err-clause-does
 returns-in-Err-clause-does g c =
