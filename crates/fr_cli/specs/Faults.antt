@@ -123,4 +123,4 @@ module _ {D : Type 0} {g : Ghosts D} (held : Image) (rest : Option (Leftover D g
   abbrev pub IsNotDelivered : Readings → Delivery → Option (List ℕ) → Option (List ℕ) → Fault → Type 0
   IsNotDelivered read delivery input left fault = (IsUnread read delivery.file.now fault × (rest ≡ None))
       ⊎ ((body : List ℕ) × read.front max_rows delivery.file.now body
-        × IsNotGiven delivery.key.now (request_with delivery body) input left fault)
+      × IsNotGiven delivery.key.now (request_with delivery body) input left fault)
