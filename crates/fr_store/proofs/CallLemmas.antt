@@ -22,7 +22,7 @@ use Rattle.fr_tables.specs.Changes.{Changes, Makes, MakesCopies, Runs, Stays, ta
 use Rattle.fr_tables.proofs.FillLemmas.{survives_both}
 use Rattle.fr_tables.specs.declared.frame_key.FrameKey.{FrameKey}
 use Rattle.fr_tables.specs.Rows.{key_of}
-use Rattle.fr_store.specs.Applying.{CarriesOut, Edits, GoesOn, IsDone, StaysInside}
+use Rattle.fr_store.specs.Applying.{CarriesOut, Edits, GoesOn, IsDone, LeavesConfig, StaysInside}
 use Rattle.fr_store.specs.FrameEdits.{EditsFrame, FitsAt}
 use Rattle.fr_store.specs.Owning.{MakesFrameCopies, MakesOwn, is_own}
 use Rattle.fr_store.specs.Reading.{Stands}
@@ -138,4 +138,37 @@ own_then g change v s f what old mid new ran r own runs done there made = record
   stays = stays_then (seen g old) (seen g mid) (seen g new) r runs.survives own.stays (done_stays (seen g mid) (seen g new) ran r done (makes_stays change (seen g mid) (seen g new) ran runs.does));
   refused = done_refused ran r done;
   survives = survives_both (seen g old) (seen g mid) (seen g new) own.survives runs.survives;
+}
+
+-- ---- the config
+
+-- an edit after which the config stays
+pub edit_stays : {S X : Type 0} (g : Ghosts S) (edit : Edit) (old new : Transaction S) (ran : Result ⊤ StoreFault) (r : Result (Option X) StoreFault)
+    → LeavesConfig ran r → Edits g (CarriesOut edit) old new ran → Edits g (CarriesOut edit) old new r
+edit_stays {X = X} g edit old new (Ok x) r is h = subst (λ (r : Result (Option X) StoreFault). Edits g (CarriesOut edit) old new r) (sym is) (record {
+  same_reference = h.same_reference;
+  does = h.does;
+  stays = h.stays;
+  refused = tt;
+  survives = h.survives;
+})
+edit_stays {X = X} g edit old new (Err fault) r is h = subst (λ (r : Result (Option X) StoreFault). Edits g (CarriesOut edit) old new r) (sym is) (record {
+  same_reference = h.same_reference;
+  does = h.does;
+  stays = h.stays;
+  refused = h.refused;
+  survives = h.survives;
+})
+
+-- an edit of which the one statement ran, where the answer gives the config after it
+pub edit_made : {S X : Type 0} (g : Ghosts S) (change : Tables → Tables) (edit : Edit) (old new : Transaction S) {count : ℕ} {x : X}
+    → Runs {E = Error} g (Makes change) old new (Ok count)
+    → (Changes change (seen g old) (seen g new) → (c : Cluster) (b : Book) → Stands (seen g old) c b → Fits c.params b edit → Stands (seen g new) c (applied b edit))
+    → Edits g (CarriesOut edit) old new (Ok x)
+edit_made g change edit old new runs made = record {
+  same_reference = runs.same_reference;
+  does = λ clean inside c b stands fits. made (runs.does clean inside stands.has) c b stands fits;
+  stays = λ clean inside has. made_inside change (seen g old) (seen g new) inside (runs.does clean inside has);
+  refused = tt;
+  survives = runs.survives;
 }

@@ -61,6 +61,6 @@ no_other None f none = refl
 no_other (Some g) f none = absurd (none g refl)
 
 -- what is lent of the one file, if it is there, or else the other
-pub lent_now : (lent : Option (Bor ClusterFile)) (other : Bor ClusterFile) (o : Option ClusterFile) → option_copied lent ≡ o → (unwrap_or lent other).now ≡ unwrap_or o other.now
-lent_now None other o h = ap (λ o. unwrap_or o other.now) h
-lent_now (Some file) other o h = ap (λ o. unwrap_or o other.now) h
+pub lent_now : (lent : Option (Bor ClusterFile)) (other : Bor ClusterFile) (o : Option ClusterFile) (r : Bor ClusterFile) → r ≡ unwrap_or lent other → option_copied lent ≡ o → r.now ≡ unwrap_or o other.now
+lent_now None other o r is h = ap (λ (r : Bor ClusterFile). r.now) is ∙ ap (λ o. unwrap_or o other.now) h
+lent_now (Some file) other o r is h = ap (λ (r : Bor ClusterFile). r.now) is ∙ ap (λ o. unwrap_or o other.now) h

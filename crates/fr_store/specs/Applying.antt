@@ -1,7 +1,7 @@
 -- Edits: what edits of the register's rows make of the tables, and of the book for which these
 -- stand. What a crash leaves of edits. What a call says of itself that runs inside a transaction,
 -- or that commits edits.
-use Rattle.std.specs.Prelude.{◌≡◌, ℕ, List, [], ◌∷◌, Result, Ok, Err, MatchResult, OnOk, OnErr, IfErr, IsTrue, ⊤}
+use Rattle.std.specs.Prelude.{◌≡◌, ℕ, List, [], ◌∷◌, Option, None, Result, Ok, Err, MatchResult, OnOk, OnErr, IfErr, IsTrue, ⊤}
 use Rattle.sqlite.specs.declared.error.Error.{Error}
 use Rattle.sqlite.specs.declared.transaction.Transaction.{Transaction}
 use Rattle.sqlite.specs.Held.{state}
@@ -61,6 +61,10 @@ Within g does old new r = does (state g old.conn.now) (state g new.conn.now) r
 -- The statement ran, or it failed and the answer is `Unavailable`.
 abbrev pub IsDone : Result ℕ Error → Result ⊤ StoreFault → Type 0
 IsDone ran r = MatchResult ran (λ _. r ≡ Ok tt) (λ _. r ≡ Err Unavailable)
+
+-- The call ran and the config stays as it was, or it failed so.
+abbrev pub LeavesConfig : {X : Type 0} → Result ⊤ StoreFault → Result (Option X) StoreFault → Type 0
+LeavesConfig ran r = MatchResult ran (λ _. r ≡ Ok None) (λ fault. r ≡ Err fault)
 
 -- ---- edits
 

@@ -1,43 +1,63 @@
 //! Edits of the register's rows, all carried out in one transaction, or none.
 
-ghost use Rattle.std.specs.Prelude.{◌≡◌, false, OnErr, OnOk};
+ghost use Rattle.std.specs.Prelude.{◌≡◌, false, IfOk, OnErr, OnOk, unwrap_or};
 ghost use Rattle.sqlite.specs.Held.{state};
 ghost use Rattle.fr_store.specs.Applying.{CarriesOutAll, CommitsEdits, Edits, LeavesAfter, Within};
 ghost use Rattle.fr_store.specs.Joined.{after_edits};
 ghost use Rattle.fr_store.specs.Sparing.{ChangeNoFrame, SparesFrames};
 
 use crate::applying::edits::carry_out;
-use crate::applying::joining::config_after;
 use crate::fault::StoreFault;
 use crate::store::Store;
+use fr_base::Config;
 use fr_world::Edit;
 use sqlite::{Alter, Connection, Transaction};
 use std::alloc::Global;
 
-/// Carries the edits out, one after another.
-fn carry_out_all<S: Alter>(tx: &mut Transaction<'_, S>, edits: &[Edit]) -> Result<(), StoreFault>
+/// Carries the edits out, one after another. Gives the config after them, or None where that stays as
+/// it was.
+fn carry_out_all<S: Alter>(
+    tx: &mut Transaction<'_, S>,
+    alloc: Global,
+    config: &Config,
+    edits: &[Edit],
+) -> Result<Option<Config>, StoreFault>
     ensures carried { Edits S.Store (CarriesOutAll edits.now) tx.old tx.new result }
     ensures spared { ChangeNoFrame edits.now → Within S.Store SparesFrames tx.old tx.new result }
+    ensures after { IfOk result (λ after.
+        unwrap_or after config.now ≡ after_edits config.now edits.now) }
 {
+    let mut after: Option<Config> = None;
     for edit in edits {
-        carry_out(tx, edit)?;
+        let before = after.as_ref().unwrap_or(config);
+        if let Some(next) = carry_out(tx, alloc, before, edit)? {
+            after = Some(next);
+        }
     }
-    Ok(())
+    Ok(after)
 }
 
-/// Carries all edits out in one transaction.
-fn in_one_transaction<S: Alter>(conn: &mut Connection<S>, edits: &[Edit]) -> Result<(), StoreFault>
+/// Carries all edits out in one transaction. Gives the config after them, or None where that stays as
+/// it was. Where an edit fails, or memory for the config is refused, the transaction is given up.
+fn in_one_transaction<S: Alter>(
+    conn: &mut Connection<S>,
+    alloc: Global,
+    config: &Config,
+    edits: &[Edit],
+) -> Result<Option<Config>, StoreFault>
     requires { conn.old.in_transaction ≡ false }
     ensures edited { CommitsEdits edits.now (state S.Store conn.old) (state S.Store conn.new)
         result }
     ensures autocommit { conn.new.in_transaction ≡ false }
+    ensures after { IfOk result (λ after.
+        unwrap_or after config.now ≡ after_edits config.now edits.now) }
 {
     // Gives the proof that all changes so far are committed.
     let _committed = conn.is_autocommit();
     let mut tx = conn.transaction();
-    carry_out_all(&mut tx, edits)?;
+    let after = carry_out_all(&mut tx, alloc, config, edits)?;
     tx.commit()?;
-    Ok(())
+    Ok(after)
 }
 
 impl<S: Alter> Store<S> {
@@ -60,9 +80,8 @@ impl<S: Alter> Store<S> {
         if !self.conn.is_autocommit() {
             return Err(StoreFault::Unavailable);
         }
-        // Memory for the suppliers that join is taken before anything is written.
-        let after = config_after(alloc, &self.config, edits)?;
-        in_one_transaction(&mut self.conn, edits)?;
+        // The config changes only where all edits were committed.
+        let after = in_one_transaction(&mut self.conn, alloc, &self.config, edits)?;
         if let Some(config) = after {
             self.config = config;
         }

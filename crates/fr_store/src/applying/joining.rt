@@ -1,79 +1,61 @@
-//! The config after edits. A supplier may have joined, or have another key.
+//! A supplier joins, or has another key: in the tables, and in the config.
 
-ghost use Rattle.std.specs.Prelude.{◌≡◌, IfErr, IfOk, unwrap_or};
+ghost use Rattle.std.specs.Prelude.{◌≡◌, IfOk, unwrap_or};
 ghost use Rattle.fr_base.specs.Joining.{joined};
 ghost use Rattle.fr_base.specs.KeyChanges.{with_key};
-ghost use Rattle.fr_store.specs.Joined.{after_edit, after_edits};
-ghost use Rattle.fr_store.specs.declared.fault.StoreFault.TheVariants.{Unavailable};
+ghost use Rattle.fr_world.specs.declared.edit.Edit.TheVariants.{NewSupplier, SetKey};
+ghost use Rattle.fr_store.specs.Applying.{CarriesOut, Edits, Within};
+ghost use Rattle.fr_store.specs.Sparing.{SparesFrames};
 
 use crate::fault::StoreFault;
 use fr_base::{Config, Key, Name, Supplier};
-use fr_world::Edit;
+use fr_tables::tables::suppliers;
+use sqlite::{Alter, Transaction};
 use std::alloc::Global;
 
-/// The config with the suppliers that join by the edits and the keys that they give. None where no
-/// supplier joins or has another key. `Unavailable` where the config refuses one, or memory is
-/// refused.
-pub fn config_after(
+/// Adds the supplier, and gives the config that lists it too. `Unavailable` also where the config
+/// does not admit it.
+pub fn add_supplier<S: Alter>(
+    tx: &mut Transaction<'_, S>,
     alloc: Global,
     config: &Config,
-    edits: &[Edit],
+    name: &Name,
+    key: &Key,
 ) -> Result<Option<Config>, StoreFault>
+    ensures carried { Edits S.Store (CarriesOut (NewSupplier name.now key.now)) tx.old tx.new
+        result }
+    ensures spared { Within S.Store SparesFrames tx.old tx.new result }
     ensures after { IfOk result (λ after.
-        unwrap_or after config.now ≡ after_edits config.now edits.now) }
-    ensures refused { IfErr result (λ fault. fault ≡ Unavailable) }
+        unwrap_or after config.now ≡ joined config.now name.now key.now) }
 {
-    let mut after: Option<Config> = None;
-    for edit in edits {
-        let before = after.as_ref().unwrap_or(config);
-        if let Some(next) = after_one(alloc, before, edit)? {
-            after = Some(next);
-        }
-    }
-    Ok(after)
-}
-
-// The config after the edit. None where the config stays as it was.
-fn after_one(alloc: Global, config: &Config, edit: &Edit) -> Result<Option<Config>, StoreFault>
-    ensures after { IfOk result (λ after.
-        unwrap_or after config.now ≡ after_edit config.now edit.now) }
-    ensures refused { IfErr result (λ fault. fault ≡ Unavailable) }
-{
-    match edit {
-        Edit::NewSupplier { supplier, key } => {
-            let after = with_one(alloc, config, *supplier, *key)?;
-            Ok(Some(after))
-        }
-        Edit::SetKey { supplier, key } => {
-            let after = with_other_key(alloc, config, *supplier, *key)?;
-            Ok(Some(after))
-        }
-        _ => Ok(None),
-    }
-}
-
-// The config with one more supplier.
-fn with_one(alloc: Global, config: &Config, name: Name, key: Key) -> Result<Config, StoreFault>
-    ensures with { IfOk result (λ new. new ≡ joined config.now name key) }
-    ensures refused { IfErr result (λ fault. fault ≡ Unavailable) }
-{
-    let supplier = Supplier { name, key };
-    config
+    suppliers::insert(tx, name, key)?;
+    let supplier = Supplier {
+        name: *name,
+        key: *key,
+    };
+    let after = config
         .joined(alloc, supplier)
-        .map_err(|_| StoreFault::Unavailable)
+        .map_err(|_| StoreFault::Unavailable)?;
+    Ok(Some(after))
 }
 
-// The config with this key of the supplier.
-fn with_other_key(
+/// Gives the supplier another key, and the config that lists it with that. `Unavailable` also where
+/// the config does not admit the key.
+pub fn set_key<S: Alter>(
+    tx: &mut Transaction<'_, S>,
     alloc: Global,
     config: &Config,
-    supplier: Name,
-    key: Key,
-) -> Result<Config, StoreFault>
-    ensures with { IfOk result (λ new. new ≡ with_key config.now supplier key) }
-    ensures refused { IfErr result (λ fault. fault ≡ Unavailable) }
+    name: &Name,
+    key: &Key,
+) -> Result<Option<Config>, StoreFault>
+    ensures carried { Edits S.Store (CarriesOut (SetKey name.now key.now)) tx.old tx.new result }
+    ensures spared { Within S.Store SparesFrames tx.old tx.new result }
+    ensures after { IfOk result (λ after.
+        unwrap_or after config.now ≡ with_key config.now name.now key.now) }
 {
-    config
-        .with_key(alloc, supplier, key)
-        .map_err(|_| StoreFault::Unavailable)
+    suppliers::set_key(tx, name, key)?;
+    let after = config
+        .with_key(alloc, *name, *key)
+        .map_err(|_| StoreFault::Unavailable)?;
+    Ok(Some(after))
 }

@@ -28,7 +28,7 @@ returns-in_err-commit-clause-edited g c =
       refused = search rules;
       survives = subst (λ h. Survives old (state g.S.Store h) (LeavesAll c.args.edits.now old)) same
           (crash_leaves g.S.Store c.args.conn.now c.transaction-tx.result.conn.now c.transaction-tx.ensures.begun c.args.edits.now mid (state g.S.Store end)
-          (λ clean cluster b stands fit. c.in_ok-carry_out_all.ensures.carried.does clean inside cluster b stands fit) c.carry_out_all.ensures.carried.survives c.commit.ensures.survives);
+          (λ clean cluster b stands fit. c.in_ok-after.ensures.carried.does clean inside cluster b stands fit) c.carry_out_all.ensures.carried.survives c.commit.ensures.survives);
     }
 
 pub returns-clause-edited : goal.returns-clause-edited
@@ -42,14 +42,14 @@ returns-clause-edited g c =
       stands = λ clean cluster b stands fit.
           let late : HasCleanDisk (state g.S.Store end) = search rules in
           let clean_mid : HasCleanDisk mid = omega (arith, c.commit.ensures.survives.clean) in
-          let carried = c.in_ok-carry_out_all.ensures.carried.does clean_mid inside cluster b (begun_stands g.S.Store c.args.conn.now c.transaction-tx.result.conn.now c.transaction-tx.ensures.begun cluster b stands) fit in
+          let carried = c.in_ok-after.ensures.carried.does clean_mid inside cluster b (begun_stands g.S.Store c.args.conn.now c.transaction-tx.result.conn.now c.transaction-tx.ensures.begun cluster b stands) fit in
           subst (λ h. Stands (state g.S.Store h) cluster (all_applied b c.args.edits.now)) same
           (still_stands mid (state g.S.Store end) cluster (all_applied b c.args.edits.now) (c.in_ok-commit.ensures.ok late).1.now_is carried);
       spared = λ clean has none.
           let late : HasCleanDisk (state g.S.Store end) = search rules in
           let clean_mid : HasCleanDisk mid = omega (arith, c.commit.ensures.survives.clean) in
           let first = begun_now g.S.Store c.args.conn.now c.transaction-tx.result.conn.now c.transaction-tx.ensures.begun in
-          let spared = c.in_ok-carry_out_all.ensures.spared none clean_mid inside (subst HasTables (sym first) has) in
+          let spared = c.in_ok-after.ensures.spared none clean_mid inside (subst HasTables (sym first) has) in
           let from = subst (λ (d : Database). HasSameFrames (tables_in d.trees) (tables_of mid)) first spared in
           subst (λ h. HasSameFrames (tables_of old) (tables_of (state g.S.Store h))) same
           (subst (λ (d : Database). HasSameFrames (tables_of old) (tables_in d.trees)) (sym (c.in_ok-commit.ensures.ok late).1.now_is) from);
@@ -59,5 +59,5 @@ returns-clause-edited g c =
       refused = search rules;
       survives = subst (λ h. Survives old (state g.S.Store h) (LeavesAll c.args.edits.now old)) same
           (crash_leaves g.S.Store c.args.conn.now c.transaction-tx.result.conn.now c.transaction-tx.ensures.begun c.args.edits.now mid (state g.S.Store end)
-          (λ clean cluster b stands fit. c.in_ok-carry_out_all.ensures.carried.does clean inside cluster b stands fit) c.carry_out_all.ensures.carried.survives c.commit.ensures.survives);
+          (λ clean cluster b stands fit. c.in_ok-after.ensures.carried.does clean inside cluster b stands fit) c.carry_out_all.ensures.carried.survives c.commit.ensures.survives);
     }
