@@ -1,10 +1,8 @@
 -- A command that passed its check has a placement that fits the cluster, or a signal that has a length; and who changes a frame is who
 -- asks.
-use Rattle.std.proofs.Common.{◌≡◌, Ok, IfOk, IsTrue, refl, subst}
+use Rattle.std.proofs.Common.{◌≡◌, Ok, IfOk, refl, subst}
 use Rattle.std.specs.Prelude.{⊤}
-use Rattle.fr_base.specs.Book.{Book}
 use Rattle.fr_base.specs.Checks.{asking, channel, check, key, name, parent_name, placement, query, signal, slot}
-use Rattle.fr_base.specs.Step.{knows}
 use Rattle.fr_base.specs.declared.actor.Actor.{Actor}
 use Rattle.fr_base.specs.declared.actor.Actor.TheVariants.{Integrator, Supplier}
 use Rattle.fr_base.specs.declared.name.Name.{Name}
@@ -22,7 +20,7 @@ use Rattle.fr_base.specs.declared.request.FrameChange.TheVariants.{Add, Drop, Pl
 use Rattle.fr_base.proofs.SoundChecks.{HasForm, IsFormed, IsFormedChange, IsFormedFrame, check-form}
 use Rattle.fr_world.specs.Decisions.{IsChecked}
 use Rattle.fr_base.proofs.SoundRefusing.{gives_bind, gives_each, gives_when}
-use Rattle.fr_office.specs.Decided.{IsCheckedCommand, IsOfKnown, IsOwnChange, IsOwnCommand}
+use Rattle.fr_office.specs.Decided.{IsCheckedCommand, IsOwnCommand}
 
 -- a change of the right form is checked
 frame-checked : (p : Params) (f : Name) (change : FrameChange) → IsFormedFrame p f change → IsChecked p (Frame f change)
@@ -131,9 +129,3 @@ check-own p actor (request.Query asked) = gives_when _ _ _ _ (λ _. gives_each _
 
 pub command-own : (p : Params) (actor : Actor) (request : Request) (command : Command) → check p actor request ≡ Ok (checked.Command command) → IsOwnCommand actor command
 command-own p actor request command said = subst (λ r. IfOk r (IsOwn actor)) said (check-own p actor request)
-
--- a supplier that is known changes its own frames
-pub of-known : (b : Book) (actor : Actor) (s : Name) (change : Change) → IsOwnChange actor s change → IsTrue (knows b actor) → IsOfKnown b s change
-of-known b actor s (Grant k c n) own known = tt
-of-known b actor s (Revoke k c) own known = tt
-of-known b actor s (Frame f change) own known = subst (λ a. IsTrue (knows b a)) own known

@@ -1,6 +1,6 @@
 -- Pages that were the register's before an edit are the register's after it: those that it leaves alone, and the one that was amended.
-use Rattle.std.proofs.Common.{◌≡◌, Bool, true, false, not, ◌&&◌, cond, map, List, [], ◌∷◌, ◌++◌, filter, Option, Some, None, Result, Ok, Err, refl, sym, ap, subst, ◌∙◌, inl, inr, true≢false}
-use Rattle.std.specs.Prelude.{◌||◌, All, OnOk, is_err}
+use Rattle.std.proofs.Common.{◌≡◌, Bool, true, false, not, ◌&&◌, cond, map, List, [], ◌∷◌, ◌++◌, filter, Option, Some, None, Result, Ok, Err, refl, sym, ap, subst, ◌∙◌, inl, inr, true≢false, append-nil}
+use Rattle.std.specs.Prelude.{◌||◌, All, IfSome, OnOk, is_err}
 use Rattle.std.specs.List.{list_any}
 use Rattle.std.specs.Ordering.{eq_by_cmp}
 use Rattle.std.proofs.lemmas.Bool.{cases_Bool}
@@ -31,7 +31,7 @@ use Rattle.fr_world.specs.declared.edit.Edit.TheVariants.{NewVariant, SetRelease
 use Rattle.fr_world.proofs.AgreeLaws.{edits-agree, others-stay}
 use Rattle.fr_world.proofs.PageLaws.{rows-registers}
 use Rattle.fr_office.specs.KeptPages.{Spares, touches}
-use Rattle.fr_office.specs.Decided.{LeadsTo, MayTake, TakesEach}
+use Rattle.fr_office.specs.Decided.{LeadsTo, MayTake, TakesAll, TakesEach}
 use Rattle.fr_world.specs.Held.{IsFresh}
 use Rattle.fr_office.proofs.PageBack.{same-page, same-rows}
 
@@ -237,3 +237,12 @@ may_take v rows (KeepImport s label w body count) takes = tt
 pub lead-taken : (v : Name) (rows last : OwnRows) (edits more : List Edit) → Leads v rows edits last → ((rows : OwnRows) → TakesEach v rows more) → TakesEach v rows (edits ++ more)
 lead-taken v rows last [] more leads next = next rows
 lead-taken v rows last (edit ∷ edits) more leads next = (may_take v rows edit leads.0, lead-taken v (edited rows edit) last edits more leads.2 next)
+
+-- edits that lead a page on are all taken
+pub leads-taken : (page : PageData) (last : OwnRows) (edits : List Edit) → Leads page.variant (own_rows_of page) edits last → TakesAll page edits
+leads-taken page last edits leads = subst (TakesEach page.variant (own_rows_of page)) (append-nil edits) (lead-taken page.variant (own_rows_of page) last edits [] leads (λ rows. tt))
+
+-- and so they are where the page is lent
+pub lent-takes : (lent : Option PageData) (page : PageData) (last : OwnRows) (edits given : List Edit) → lent ≡ Some page → given ≡ edits
+    → Leads page.variant (own_rows_of page) edits last → IfSome lent (λ page. TakesAll page given)
+lent-takes lent page last edits given is same leads = rw (is, same) (leads-taken page last edits leads)

@@ -1,5 +1,5 @@
 -- What a replacement comes to, by its supplier's page, the length of its file and its rows.
-use Rattle.std.proofs.Common.{◌≡◌, ◌≤◌, ℕ, Bool, true, false, List, [], ◌∷◌, length, nat_lt, append-nil, Option, Some, None, Result, Ok, Err, refl, sym, ap, subst, ◌∙◌, inl, inr}
+use Rattle.std.proofs.Common.{◌≡◌, ◌≤◌, ℕ, Bool, true, false, List, [], ◌∷◌, length, nat_lt, Option, Some, None, Result, Ok, Err, refl, sym, ap, subst, ◌∙◌, inl, inr}
 use Rattle.std.specs.List.{AllByRecursion, list_any}
 use Rattle.std.specs.Prelude.{⊤, IfSome, MatchResult, is_err, option_map}
 use Rattle.fr_base.specs.Refusing.{◌>>=◌, ◌>>◌, ◌or◌, refuse◌when◌}
@@ -31,9 +31,9 @@ use Rattle.fr_world.proofs.ReplacementsDecide.{replacement-decides}
 use Rattle.fr_world.proofs.RowsDecide.{rows-checked}
 use Rattle.fr_world.proofs.RowsLead.{leads-last}
 use Rattle.fr_office.specs.Carried.{IsRefused}
-use Rattle.fr_office.specs.Decided.{LeadsTo, Opens, TakesEach, open_page}
+use Rattle.fr_office.specs.Decided.{LeadsTo, Opens, open_page}
 use Rattle.fr_office.specs.Replacements.{GivesReplaced, GivesReplacement, replaced_outcome, replacement_room}
-use Rattle.fr_office.proofs.FreshLaws.{lead-taken}
+use Rattle.fr_office.proofs.FreshLaws.{leads-taken}
 use Rattle.fr_office.proofs.RowsLaws.{opened-there, some_has}
 
 -- what a proof about the length of the file opens
@@ -144,7 +144,7 @@ module _ (r : Replacement) (page : PageData) (reads : List RowRead) (read : read
 -- the edits lead to the draft's page
 pub replaced_leads : (page new : PageData) (edits : List Edit) → Leads page.variant (own_rows_of page) edits (own_rows_of new) → IsOfSame page new → list_any releases edits ≡ false → LeadsTo page edits new
 replaced_leads page new edits leads same still = record {
-  takes = subst (TakesEach page.variant (own_rows_of page)) (append-nil edits) (lead-taken page.variant (own_rows_of page) (own_rows_of new) edits [] leads (λ rows. tt));
+  takes = leads-taken page (own_rows_of new) edits leads;
   still = still;
   rows = leads-last page.variant (own_rows_of page) (own_rows_of new) edits leads;
   supplier = same.supplier;

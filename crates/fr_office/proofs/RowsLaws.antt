@@ -23,8 +23,7 @@ use Rattle.fr_world.proofs.BookFits.{decision-fits}
 use Rattle.fr_world.proofs.FitsLaws.{none_there}
 use Rattle.fr_world.proofs.StepLaws.{grant-decides, revoke-decides, supplier-decides}
 use Rattle.fr_office.specs.Carried.{Does}
-use Rattle.fr_office.specs.Decided.{IsBeside, Opens, open_page, is_taken}
-use Rattle.fr_office.specs.declared.commands.rows.BesidePage.{BesidePage}
+use Rattle.fr_office.specs.Decided.{IsGrant, IsOfFrame, IsRevoke, Opens, open_page}
 use Rattle.fr_world.specs.Held.{Applies, Standing, Tells, held_in, page_of}
 use Rattle.fr_office.proofs.CommandLaws.{Known, carried}
 
@@ -105,6 +104,12 @@ module _ (old new : Standing) (s v : Name) (lent : Option PageData) (lends : (c 
 
 -- ---- what the register's step is
 
+-- whether somebody holds what is to be granted in the variant
+abbrev is_taken : Book → Name → Change → Bool
+is_taken b v (Grant slot channel node) = held_in b v (slot, channel)
+is_taken b v (Revoke slot channel) = false
+is_taken b v (Frame f of_frame) = false
+
 -- whether slot and channel are held in a variant that is there
 held-there : (b : Book) (v : Name) (x : Variant) (at : ℕ × Channel) → get b.variants v ≡ Some x → held_in b v at ≡ contains x.grants at
 held-there b v x at found = rw found refl
@@ -160,26 +165,29 @@ unheld b v x (Grant k channel n) found free = none_there (get x.grants (k, chann
 unheld b v x (Revoke k channel) found free = tt
 unheld b v x (Frame f what) found free = tt
 
--- ---- what is known beside the page
+-- ---- what was asked beside the page: whether it is taken
 
-module _ (old mid : Standing) (s v : Name) where
-  -- what is held is not known
-  pub beside_lacked : (change : Change) (said : Result BesidePage Refusal) (r : Result Bool Refusal) (e : Refusal) (says : Cluster → Book → Bool → Type 0) → said ≡ Err e → r ≡ Err e
-      → Tells old mid r says → Tells old mid said (λ c b. IsBeside b s v change)
-  beside_lacked change said (Ok x) e says is lacks told c b stood = cc
-  beside_lacked change (Ok x) (Err f) e says is lacks told c b stood = cc
-  beside_lacked change (Err h) (Err f) e says is lacks told c b stood =
-      let t = told c b stood in
-      let same : h ≡ f = cc in
-      (t.0, same ∙ t.1)
+-- whether slot and channel are held
+pub grant-asked : (old mid : Standing) (v : Name) (change : Change) (slot : ℕ) (channel : Channel) → IsGrant slot channel change → (taken : Bool)
+    → Tells old mid (Ok taken) (λ c b is. is ≡ held_in b v (slot, channel)) → (c : Cluster) (b : Book) → old c b → mid c b × (taken ≡ is_taken b v change)
+grant-asked old mid v change slot channel grants taken told c b stood =
+    let t = told c b stood in
+    (t.0, t.1 ∙ ap (is_taken b v) (sym grants.1))
 
-  -- what a grant would have
-  pub beside_grant : (slot : ℕ) (channel : Channel) (node : Name) (taken : Bool) → Tells old mid (Ok taken) (λ c b is. is ≡ held_in b v (slot, channel))
-      → (there : Bool) → ((c : Cluster) (b : Book) → mid c b → contains b.suppliers s ≡ there)
-      → Tells old mid (Ok (record { is_there = there; is_taken = taken })) (λ c b. IsBeside b s v (Grant slot channel node))
-  beside_grant slot channel node taken told there known c b stood =
-      let t = told c b stood in
-      (t.0, (sym (known c b t.0), t.1))
+-- the end of a grant needs nothing
+pub revoke-asked : (old : Standing) (v : Name) (change : Change) → IsRevoke change → (c : Cluster) (b : Book) → old c b → old c b × (false ≡ is_taken b v change)
+revoke-asked old v change revokes c b stood = (stood, ap (is_taken b v) (sym revokes.2))
+
+-- a frame needs nothing
+pub frame-asked : (old : Standing) (v : Name) (change : Change) → IsOfFrame change → (c : Cluster) (b : Book) → old c b → old c b × (false ≡ is_taken b v change)
+frame-asked old v change frame c b stood = (stood, ap (is_taken b v) (sym frame.2))
+
+-- what has no placement and no signal is checked
+pub grant-checked : (p : Params) (change : Change) (slot : ℕ) (channel : Channel) → IsGrant slot channel change → IsChecked p change
+grant-checked p change slot channel grants = subst (IsChecked p) (sym grants.1) tt
+
+pub revoke-checked : (p : Params) (change : Change) → IsRevoke change → IsChecked p change
+revoke-checked p change revokes = subst (IsChecked p) (sym revokes.2) tt
 
 -- ---- the records, by what was asked of them
 
@@ -187,13 +195,13 @@ module _ (old mid : Standing) (s v : Name) (change : Change) where
   abbrev does : Cluster → Book → Result Book Refusal
   does c b = change_rows c.params b s v change
 
-  module _ (beside : BesidePage) (told : Tells old mid (Ok beside) (λ c b. IsBeside b s v change)) (next : Standing) where
+  module _ (taken : Bool) (asked : (c : Cluster) (b : Book) → old c b → mid c b × (taken ≡ is_taken b v change)) (next : Standing) where
     -- there is no page that is open
     pub rows_stopped : (lent : Option PageData) (r : Result ⊤ Refusal) (e : Refusal) → r ≡ Err e → Opens lent s v mid next (Err e) → Does old next r does
     unfolding ◌>>=◌
     rows_stopped lent (Ok x) e said stopped c b stood sound = cc
     rows_stopped lent (Err f) e said stopped c b stood sound =
-        let t = stopped c b (told c b stood).0 sound in
+        let t = stopped c b (asked c b stood).0 sound in
         let same : e ≡ f = cc in (
           t.0,
           elim t.1 [
@@ -205,32 +213,35 @@ module _ (old mid : Standing) (s v : Name) (change : Change) where
     module _ (lent : Option PageData) (page : PageData) (is : lent ≡ Some page) (opens : Opens lent s v mid next (Ok tt)) where
       page_open : (c : Cluster) (b : Book) → old c b → IsSound c b → next c b × (open_page c.params b s v ≡ Ok page)
       page_open c b stood sound =
-          let t = opens c b (told c b stood).0 sound in
+          let t = opens c b (asked c b stood).0 sound in
           (t.0, some_has (λ page. open_page c.params b s v ≡ Ok page) lent page is t.1)
 
-      -- what is made of it, where the supplier is there
-      by_page : (c : Cluster) (b : Book) → old c b → (sound : IsSound c b) → does c b ≡ ((refuse NoSupplier when not beside.is_there) >> made_of c b s v change sound page)
+      -- what is made of it, whether the supplier is there or not
+      by_page : (c : Cluster) (b : Book) → old c b → (sound : IsSound c b) → (there : Bool) → contains b.suppliers s ≡ there
+          → does c b ≡ ((refuse NoSupplier when not there) >> made_of c b s v change sound page)
       unfolding ◌>>=◌
-      by_page c b stood sound =
+      by_page c b stood sound there is =
           rows-told c b s v change sound ∙ ap (λ o. o >>= made_of_known c b s v change sound) (page_open c b stood sound).1
-          ∙ ap (λ t. (refuse NoSupplier when not t) >> made_of c b s v change sound page) (sym (told c b stood).1.0)
+          ∙ ap (λ t. (refuse NoSupplier when not t) >> made_of c b s v change sound page) is
 
       -- the supplier is not there
-      pub rows_unnamed : not beside.is_there ≡ true → Does old next (Err NoSupplier) does
+      pub rows_unnamed : ((c : Cluster) (b : Book) → next c b → contains b.suppliers s ≡ false) → Does old next (Err NoSupplier) does
       unfolding ◌>>◌ refuse◌when◌
       rows_unnamed unknown c b stood sound =
-          ((page_open c b stood sound).0, inr (by_page c b stood sound ∙ ap (λ t. (refuse NoSupplier when t) >> made_of c b s v change sound page) unknown))
+          let stands = (page_open c b stood sound).0 in
+          (stands, inr (by_page c b stood sound false (unknown c b stands)))
 
-      module _ (there : not beside.is_there ≡ false) where
+      module _ (known : (c : Cluster) (b : Book) → old c b → next c b → contains b.suppliers s ≡ true) where
         -- what is decided on it decides, but that it may be taken
         pub page_told : (decided : Result (List Edit) Refusal) → decision page change ≡ decided →
-            Known old next (λ c b. does c b ≡ (decided >>= λ edits. (refuse Taken when beside.is_taken) >> Ok (all_applied b edits)))
+            Known old next (λ c b. does c b ≡ (decided >>= λ edits. (refuse Taken when taken) >> Ok (all_applied b edits)))
         unfolding ◌>>◌ refuse◌when◌
-        page_told decided decides c b stood sound = (
-          (page_open c b stood sound).0,
-          by_page c b stood sound ∙ ap (λ t. (refuse NoSupplier when t) >> made_of c b s v change sound page) there
-              ∙ (λ i. decides i >>= λ edits. (refuse Taken when sym (told c b stood).1.1 i) >> Ok (all_applied b edits)),
-        )
+        page_told decided decides c b stood sound =
+            let stands = (page_open c b stood sound).0 in (
+              stands,
+              by_page c b stood sound true (known c b stood stands)
+                  ∙ (λ i. decides i >>= λ edits. (refuse Taken when sym (asked c b stood).1 i) >> Ok (all_applied b edits)),
+            )
 
         -- the page refuses it, or is not known to allow it
         pub rows_refused : (r : Result ⊤ Refusal) (e : Refusal) → r ≡ Err e → (e ≡ Unavailable) ⊎ (decision page change ≡ Err e) → Does old next r does
@@ -247,20 +258,20 @@ module _ (old mid : Standing) (s v : Name) (change : Change) where
 
         module _ (edits : List Edit) (decides : decision page change ≡ Ok edits) where
           -- it is taken
-          pub rows_taken : beside.is_taken ≡ true → Does old next (Err Taken) does
+          pub rows_taken : taken ≡ true → Does old next (Err Taken) does
           unfolding ◌>>=◌ ◌>>◌ refuse◌when◌
           rows_taken held c b stood sound =
               let t = page_told (Ok edits) decides c b stood sound in
               (t.0, inr (t.1 ∙ ap (λ t. (refuse Taken when t) >> Ok (all_applied b edits)) held))
 
           -- the edits are made
-          pub rows_made : beside.is_taken ≡ false → IsChecked page.params change → (new : Standing) (r : Result ⊤ Refusal) → Applies next new r edits → Does old new r does
+          pub rows_made : taken ≡ false → IsChecked page.params change → (new : Standing) (r : Result ⊤ Refusal) → Applies next new r edits → Does old new r does
           unfolding ◌>>=◌ ◌>>◌ refuse◌when◌
           rows_made free checked new r = carried old next new does edits r (λ c b stood sound.
               let t = page_told (Ok edits) decides c b stood sound in
               let o = opened-there c.params b s v page (page_open c b stood sound).1 in
               let of_cluster : IsChecked c.params change = subst (λ (q : PageData). IsChecked q.params change) (sym o.2) checked in
               let fits : AllFit c.params b edits =
-              decision-fits c b s v o.0 change edits sound o.1 of_cluster (unheld b v o.0 change o.1 (sym (told c b stood).1.1 ∙ free))
+              decision-fits c b s v o.0 change edits sound o.1 of_cluster (unheld b v o.0 change o.1 (sym (asked c b stood).1 ∙ free))
               (ap (λ q. decision q change) o.2 ∙ decides) in
               (t.0, (fits, t.1 ∙ ap (λ t. (refuse Taken when t) >> Ok (all_applied b edits)) free)))

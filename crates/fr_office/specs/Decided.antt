@@ -1,17 +1,15 @@
--- Decided: what is asked of all rows beside a supplier's page. Before the page decides, the variant
--- is open, and a supplier that the integrator names is there. After it, nobody holds a slot and
--- channel that are to be granted. A supplier that changes a frame asks for itself. Which edits a
--- page takes.
-use Rattle.std.specs.Prelude.{◌≡◌, ◌⊎◌, Bool, false, List, [], ◌∷◌, Option, Result, Ok, Err, IfSome, IsTrue, MatchResult, ⊤}
+-- Decided: the page on which a supplier's rows change, where its variant is open. Which kind of
+-- change it is; a supplier that changes a frame asks for itself. Which edits a page takes.
+use Rattle.std.specs.Prelude.{◌≡◌, ◌⊎◌, ℕ, false, List, [], ◌∷◌, Option, Result, Ok, Err, IfSome, MatchResult, ⊤}
 use Rattle.std.specs.List.{list_any}
 use Rattle.fr_base.specs.Refusing.{◌>>=◌, ◌>>◌, ◌or◌, refuse◌when◌}
-use Rattle.fr_base.specs.Tables.{contains}
 use Rattle.fr_base.specs.Book.{Book}
 use Rattle.fr_base.specs.Cluster.{Cluster}
 use Rattle.fr_base.specs.Sound.{IsSound}
 use Rattle.fr_base.specs.Step.{OwnRows}
 use Rattle.fr_base.specs.declared.actor.Actor.{Actor}
 use Rattle.fr_base.specs.declared.actor.Actor.TheVariants.{Supplier}
+use Rattle.fr_base.specs.declared.channel.Channel.{Channel}
 use Rattle.fr_base.specs.declared.name.Name.{Name}
 use Rattle.fr_base.specs.declared.params.Params.{Params}
 use Rattle.fr_base.specs.declared.refusal.Refusal.{Refusal}
@@ -20,8 +18,8 @@ use Rattle.fr_base.specs.declared.request.Command.{Command}
 use Rattle.fr_base.specs.declared.request.Command.TheVariants.{Rows}
 use Rattle.fr_base.specs.declared.request.Change.{Change}
 use Rattle.fr_base.specs.declared.request.Change.TheVariants.{Grant, Revoke, Frame}
-use Rattle.fr_office.specs.declared.commands.rows.BesidePage.{BesidePage}
-use Rattle.fr_world.specs.Held.{Standing, page_of, held_in}
+use Rattle.fr_base.specs.declared.request.FrameChange.{FrameChange}
+use Rattle.fr_world.specs.Held.{Standing, page_of}
 use Rattle.fr_world.specs.Decisions.{IsChecked}
 use Rattle.fr_world.specs.Edits.{Takes, all_edited, edited, releases}
 use Rattle.fr_world.specs.Pages.{PageData, own_rows_of}
@@ -34,16 +32,6 @@ open_page p b s v = do
   page ← page_of p b s v or NoVariant
   refuse Released when page.released
   Ok page
-
--- whether somebody holds what is to be granted in the variant
-abbrev pub is_taken : Book → Name → Change → Bool
-is_taken b v (Grant slot channel node) = held_in b v (slot, channel)
-is_taken b v (Revoke slot channel) = false
-is_taken b v (Frame f change) = false
-
--- what is known of the change beside its supplier's page
-abbrev pub IsBeside : Book → Name → Name → Change → BesidePage → Type 0
-IsBeside b s v change beside = (beside.is_there ≡ contains b.suppliers s) × (beside.is_taken ≡ is_taken b v change)
 
 -- The supplier's page of the variant is the one that is lent, and the variant is open; else the
 -- refusal is the definition's, or Unavailable. The records stand for the same book as before.
@@ -74,10 +62,17 @@ pub record LeadsTo (page : PageData) (edits : List Edit) (new : PageData) : Type
   pub variant : new.variant ≡ page.variant
   pub released : new.released ≡ page.released
 
--- A supplier that changes a frame is there; a supplier that is granted something need not be.
-abbrev pub IsOfKnown : Book → Name → Change → Type 0
-IsOfKnown b s (Frame f change) = IsTrue (contains b.suppliers s)
-IsOfKnown b s _ = ⊤
+-- The change grants the slot on the channel.
+abbrev pub IsGrant : ℕ → Channel → Change → Type 0
+IsGrant slot channel change = (node : Name) × (change ≡ Grant slot channel node)
+
+-- The change takes a grant back.
+abbrev pub IsRevoke : Change → Type 0
+IsRevoke change = (slot : ℕ) × (channel : Channel) × (change ≡ Revoke slot channel)
+
+-- The change is of a frame.
+abbrev pub IsOfFrame : Change → Type 0
+IsOfFrame change = (f : Name) × (of_frame : FrameChange) × (change ≡ Frame f of_frame)
 
 -- The supplier that changes a frame is the sender.
 abbrev pub IsOwnChange : Actor → Name → Change → Type 0

@@ -5,14 +5,14 @@ ghost use Rattle.fr_office.specs.Answering.{Answers, AnswersAsk, CarriesAct, Has
 
 use crate::commands::common::change_common;
 use crate::commands::nodes::add_node;
-use crate::commands::rows::change_rows;
+use crate::commands::rows::{change_frame, grant, revoke};
 use crate::commands::suppliers::{add_supplier, set_key};
 use crate::imports::import;
 use crate::lender::Lender;
 use crate::queries::reply;
 use crate::replacing::replace;
 use crate::trials::try_file;
-use fr_base::{Actor, Answer, Ask, Checked, Command, Config, Refusal, check};
+use fr_base::{Actor, Answer, Ask, Change, Checked, Command, Config, Refusal, check};
 use fr_world::Records;
 use std::alloc::Global;
 
@@ -82,7 +82,13 @@ fn act<R: Lender>(
             Command::AddNode { supplier, node } => {
                 done(add_node(alloc, records, *supplier, *node))
             }
-            Command::Rows(rows) => done(change_rows(alloc, records, rows)),
+            Command::Rows(rows) => match &rows.change {
+                Change::Grant { slot, channel, .. } => {
+                    done(grant(alloc, records, rows, *slot, *channel))
+                }
+                Change::Revoke { .. } => done(revoke(alloc, records, rows)),
+                Change::Frame { .. } => done(change_frame(alloc, records, rows)),
+            },
         },
         Checked::Import(new) => import(alloc, records, new),
         Checked::Replace(new) => replace(alloc, records, new),

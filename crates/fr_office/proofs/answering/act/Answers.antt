@@ -1,20 +1,31 @@
-use Rattle.std.proofs.Common.{◌≡◌, ◌∙◌, ap, refl, subst, sym}
+use Rattle.std.proofs.Common.{◌≡◌, ◌∙◌, IsTrue, ap, refl, subst, sym}
 use Rattle.fr_base.specs.declared.actor.Actor.TheVariants.{Supplier}
 use Rattle.fr_base.specs.declared.request.Checked.{Checked}
 use Rattle.fr_base.specs.declared.request.Checked.TheVariants as checked
 use Rattle.fr_base.specs.declared.request.Command.TheVariants as command
-use Rattle.fr_base.specs.Step.{perform}
+use Rattle.fr_base.specs.Step.{knows, perform}
 use Rattle.fr_office.specs.Answering.{CarriesAct, HasPassed}
+use Rattle.fr_office.specs.Decided.{IsOwnChange}
 use Rattle.fr_office.proofs.CallLaws.{command_carried, only_read}
 use Rattle.fr_office.proofs.StepLaws.{import_acts, query_acts, replacement_acts, trial_acts}
-use Rattle.fr_office.proofs.CheckedLaws.{of-known}
 use Rattle.fr_office.proofs.CrashLaws.{act_import, act_replace}
 use Rattle.fr_office.proofs.answering.act.Goals as goal
 
-pub change_rows-requires : goal.change_rows-requires
-change_rows-requires g c =
+pub grant-requires : goal.grant-requires
+grant-requires g c = record { grants = (c.in-Grant.node, c.in-Grant.is) }
+
+pub revoke-requires : goal.revoke-requires
+revoke-requires g c = record { revokes = (c.in-Revoke.slot, c.in-Revoke.channel, c.in-Revoke.is) }
+
+pub change_frame-requires : goal.change_frame-requires
+change_frame-requires g c =
     let fits = subst (λ (valid : Checked). HasPassed (g.R.Records.params c.args.records.now) c.args.actor.now valid) (c.in-Command.is ∙ ap checked.Command c.in-Rows.is) c.requires.passed in
-    record { checked = fits.0; known = λ cl b stood. of-known b c.args.actor.now c.in-Rows.rows.supplier c.in-Rows.rows.change fits.1 (c.requires.known cl b stood) }
+    let own = subst (IsOwnChange c.args.actor.now c.in-Rows.rows.supplier) c.in-Frame.is fits.1 in
+    record {
+      frame = (c.in-Frame.frame, c.in-Frame.change, c.in-Frame.is);
+      checked = fits.0;
+      known = λ cl b stood. subst (λ actor. IsTrue (knows b actor)) own (c.requires.known cl b stood);
+    }
 
 pub returns-in-Common : goal.returns-in-Common
 unfolding perform
@@ -48,13 +59,29 @@ returns-in-AddNode g c =
     subst (λ (valid : Checked). CarriesAct g.R.Records c.args.actor.now valid old new c.done-in-AddNode.result) (sym (c.in-Command.is ∙ ap checked.Command c.in-AddNode.is))
     (command_carried g.R.Records c.args.actor.now (command.AddNode c.in-AddNode.supplier c.in-AddNode.node) _ old new c.add_node.result c.done-in-AddNode.result c.done-in-AddNode.ensures c.add_node.ensures (λ cl b. refl))
 
-pub returns-in-Rows : goal.returns-in-Rows
+pub returns-in-Grant : goal.returns-in-Grant
 unfolding perform
-returns-in-Rows g c =
+returns-in-Grant g c =
     let old = c.args.records.now in
-    let new = c.change_rows.new.records in
-    subst (λ (valid : Checked). CarriesAct g.R.Records c.args.actor.now valid old new c.done-in-Rows.result) (sym (c.in-Command.is ∙ ap checked.Command c.in-Rows.is))
-    (command_carried g.R.Records c.args.actor.now (command.Rows c.in-Rows.rows) _ old new c.change_rows.result c.done-in-Rows.result c.done-in-Rows.ensures c.change_rows.ensures (λ cl b. refl))
+    let new = c.grant.new.records in
+    subst (λ (valid : Checked). CarriesAct g.R.Records c.args.actor.now valid old new c.done-in-Grant.result) (sym (c.in-Command.is ∙ ap checked.Command c.in-Rows.is))
+    (command_carried g.R.Records c.args.actor.now (command.Rows c.in-Rows.rows) _ old new c.grant.result c.done-in-Grant.result c.done-in-Grant.ensures c.grant.ensures (λ cl b. refl))
+
+pub returns-in-Revoke : goal.returns-in-Revoke
+unfolding perform
+returns-in-Revoke g c =
+    let old = c.args.records.now in
+    let new = c.revoke.new.records in
+    subst (λ (valid : Checked). CarriesAct g.R.Records c.args.actor.now valid old new c.done-in-Revoke.result) (sym (c.in-Command.is ∙ ap checked.Command c.in-Rows.is))
+    (command_carried g.R.Records c.args.actor.now (command.Rows c.in-Rows.rows) _ old new c.revoke.result c.done-in-Revoke.result c.done-in-Revoke.ensures c.revoke.ensures (λ cl b. refl))
+
+pub returns-in-Frame : goal.returns-in-Frame
+unfolding perform
+returns-in-Frame g c =
+    let old = c.args.records.now in
+    let new = c.change_frame.new.records in
+    subst (λ (valid : Checked). CarriesAct g.R.Records c.args.actor.now valid old new c.done-in-Frame.result) (sym (c.in-Command.is ∙ ap checked.Command c.in-Rows.is))
+    (command_carried g.R.Records c.args.actor.now (command.Rows c.in-Rows.rows) _ old new c.change_frame.result c.done-in-Frame.result c.done-in-Frame.ensures c.change_frame.ensures (λ cl b. refl))
 
 pub reply-requires : goal.reply-requires
 reply-requires g c = subst (λ (valid : Checked). HasPassed (g.R.Records.params c.args.records.now) c.args.actor.now valid) c.in-Query.is c.requires.passed
