@@ -3,9 +3,9 @@
 
 A supplier has 4, 64 or 256 frames of 8 placements. A placement is taken back and made again, and the schedule is asked for, on
 a page that is kept. Counted are the instructions of the run less those of a run without these requests, each function with
-what it calls. For a change: all of it; the request's text read; the page taken out and given back; the decision, with the page
-amended; the statements; their commit; the answer's text; and all of it as a multiple of statements and commit. For a schedule:
-all of it, the request's text, the rows, the answer's text, and all of it as a multiple of the answer's text. It is no test."""
+what it calls. For a change: all of it; the request's text read; the page lent; the decision, with the page amended; the
+statements; their commit; the answer's text; and all of it as a multiple of statements and commit. For a schedule: all of it, the
+request's text, the rows, the answer's text, and all of it as a multiple of the answer's text. It is no test."""
 import argparse
 import os
 import re
@@ -41,20 +41,21 @@ def counts(program, lines, room):
 def each(program, before, more, room):
     """So for one of the requests."""
     with_them, without = counts(program, [*before, *more], room), counts(program, before, room)
-    return lambda *names: sum(with_them.get(name, 0) - without.get(name, 0) for name in names) / len(more)
+    # A function that was renamed, or that the compiler put into its callers, would else count as nothing.
+    return lambda name: (with_them[name] - without.get(name, 0)) / len(more)
 
 
 def of_change(of):
-    every, commit = of("fr_cli::script::answer_requests"), of("sqlite::connection::Connection::commit")
-    applied = of("fr_office::warm::WarmRecords::apply")
-    page = of("fr_office::pages::Pages::take", "fr_office::pages::Pages::keep")
-    decision = of("fr_world::decision::decide", "fr_world::page::Page::amend")
+    every, commit = of("fr_cli::perform::perform"), of("sqlite::connection::Connection::commit")
+    applied = of("fr_store::store_records::StoreRecords::apply")
+    page = of("fr_office::warm::WarmLender::lend")
+    decision = of("fr_world::decision::decide") + of("fr_world::page::Page::amend")
     text, answer = of("fr_text::request_text::read_command"), of("fr_text::answer_text::write_answer")
     return [every, text, page, decision, applied - commit, commit, answer, every / applied]
 
 
 def of_schedule(of):
-    every, answer = of("fr_cli::script::answer_requests"), of("fr_text::answer_text::write_answer")
+    every, answer = of("fr_cli::perform::perform"), of("fr_text::answer_text::write_answer")
     return [every, of("fr_text::request_text::read_command"), of("fr_office::queries::show"), answer, every / answer]
 
 
