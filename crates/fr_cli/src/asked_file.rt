@@ -25,9 +25,9 @@ impl<I: Read, O: Write> Errand for Asking<'_, I, O> {
 
     type Fault = Fault;
 
-    ghost does = { λ it then clean old new done.
+    ghost does = { λ it then desks desk old new done.
         AnswersInput (I.remaining it.input.now) (I.remaining then.input.now)
-        (O.contents it.out.now) (O.contents then.out.now) clean old new done
+        (O.contents it.out.now) (O.contents then.out.now) desks desk old new done
         × ((then.input.ghost_name ≡ it.input.ghost_name)
         × (then.out.ghost_name ≡ it.out.ghost_name)) };
 

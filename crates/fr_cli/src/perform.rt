@@ -27,7 +27,8 @@ use crate::serving::{Service, serve};
 use crate::telling::Telling;
 use crate::text_files::TextFiles;
 use crate::words::{Job, WordFault};
-use fr_desks::{Left, file_desk};
+use fr_base::Desk;
+use fr_desks::{FileDesk, Left, file_desk};
 use fr_text::Output;
 use sqlite::Start;
 use std::alloc::Global;
@@ -48,7 +49,7 @@ pub fn perform<S: Start, F: TextFiles, R: Read, O: Write, E: Write, L: Listener>
     err: &mut E,
     listener: &mut L,
 ) -> (u8, Left<S>)
-    ensures { IsPerformed (image_at S.Start) result.1
+    ensures { IsPerformed ⟦<FileDesk<S> as Desk>⟧ (image_at S.Start) result.1
         (readings F.TextFiles F.Reader.Read files.old files.new)
         (comings L.Listener L.Reader.Source L.Writer.Sink listener.old listener.new) job.now record {
           input = record { old = R.remaining input.old; new = R.remaining input.new };
