@@ -122,12 +122,6 @@ told_moved whole clean held old new leaves closes finds left = record {
   first = λ l answers so is c b there sound. so (closes is) c b (finds (closes is) c b there) sound;
 }
 
--- Where the register was not asked, no line was answered, and a fault came.
-pub cut_unasked : (clean : Type 0) (s : Standing) (D T : List (List ℕ) → Type 0) (a b : Option (List ℕ)) (fault : ScriptFault) → Appends a b [] → D [] → T []
-    → WasCutShort (account_of clean s s) D T a b fault
-cut_unasked clean s D T a b fault = cut_at (account_of clean s s) D T a b fault [] []
-    (none_said (AnswersAll clean s s) (λ is c b stands sound. (b, stands, refl))) (none_said _ (λ is c b stands sound. (b, tt, refl)))
-
 -- ---- one line behind another
 
 module _ {D : Type 0} (desk : Desk.Ghosts D) where
@@ -161,14 +155,14 @@ module _ {D : Type 0} (desk : Desk.Ghosts D) where
   each_still old mid new (line ∷ l) [] so still = absurd so
   each_still old mid new (line ∷ l) (x ∷ xs) so still = (so.0, so.1, so.2, each_still so.0 mid new l xs so.3 still)
 
-  each_falls : (old new : D) (l : List (List ℕ)) (xs : List Answer) → Each old new l xs → desk.clean new → desk.clean old
+  pub each_falls : (old new : D) (l : List (List ℕ)) (xs : List Answer) → Each old new l xs → desk.clean new → desk.clean old
   each_falls old new [] [] so is = so.0 is
   each_falls old new [] (x ∷ xs) so is = absurd so
   each_falls old new (line ∷ l) [] so is = absurd so
   each_falls old new (line ∷ l) (x ∷ xs) so is = so.1 (each_falls so.0 new l xs so.3 is)
 
   -- from what the first register stood for to what the last stands for
-  each_all : (old new : D) (l : List (List ℕ)) (xs : List Answer) → Each old new l xs → AnswersAll (desk.clean new) (desk.stands old) (desk.stands new) l xs
+  pub each_all : (old new : D) (l : List (List ℕ)) (xs : List Answer) → Each old new l xs → AnswersAll (desk.clean new) (desk.stands old) (desk.stands new) l xs
   each_all old new [] [] so = λ is c b there sound. (b, so.1 is c b there, refl)
   each_all old new [] (x ∷ xs) so = absurd so
   each_all old new (line ∷ l) [] so = absurd so
@@ -185,6 +179,13 @@ module _ {D : Type 0} (desk : Desk.Ghosts D) where
         let (last, after, are) = each_all old so.0 l answers so.2 (so.1 is) c b there sound in
         (last, tt, are);
   }
+
+  -- No line was answered, and a fault came.
+  pub cut_unasked : (old : D) (S T : List (List ℕ) → Type 0) (a b : Option (List ℕ)) (fault : ScriptFault) → Appends a b [] → S [] → T []
+      → WasCutShort (account_by desk old old) S T a b fault
+  cut_unasked old S T a b fault =
+      let still : Still old old = (λ is. is, λ is c b there. there) in
+      cut_at (account_by desk old old) S T a b fault [] [] (none_said (Each old old) still) (none_said (account_by desk old old).first (old, (λ is. is), still))
 
   -- ---- lines, and then more
 
@@ -245,4 +246,22 @@ module _ {D : Type 0} (desk : Desk.Ghosts D) where
             (λ xs ys first more. (more.0, more.1, each_then old mid more.0 l so.0 xs ys first more.2)) p so.2,
       )
     ];
+  }
+
+module _ {D E : Type 0} (desk : Desk.Ghosts E) (of : D → E) where
+  -- what is known of the register that another one guards
+  abbrev guard : Desk.Ghosts D
+  guard = record { stands = λ d. desk.stands (of d); clean = λ d. desk.clean (of d) }
+
+  each_guarded : (old new : D) (l : List (List ℕ)) (xs : List Answer) → Each guard old new l xs → Each desk (of old) (of new) l xs
+  each_guarded old new [] [] so = so
+  each_guarded old new [] (x ∷ xs) so = absurd so
+  each_guarded old new (line ∷ l) [] so = absurd so
+  each_guarded old new (line ∷ l) (x ∷ xs) so = (of so.0, so.1, so.2, each_guarded so.0 new l xs so.3)
+
+  -- What is said by the guard behind each line is said by the register that it guards.
+  pub told_guarded : (old new : D) → Tells (account_by guard old new) (account_by desk (of old) (of new))
+  told_guarded old new = record {
+    all = each_guarded old new;
+    first = λ l answers so. (of so.0, so.1, each_guarded old so.0 l answers so.2);
   }

@@ -3,6 +3,7 @@ use Rattle.std.proofs.Common.{◌≡◌, ◌∙◌, List, None, ℕ, Ok, Err, On
 use Rattle.std.specs.Prelude.{◌⊎◌, IfErr, ⊤}
 use Rattle.fr_base.specs.Book.{Book}
 use Rattle.fr_base.specs.Cluster.{Cluster}
+use Rattle.fr_base.specs.declared.desk.Desk as Desk
 use Rattle.fr_base.specs.declared.actor.Actor.{Actor}
 use Rattle.fr_base.specs.declared.answer.Answer.{Answer}
 use Rattle.fr_base.specs.declared.refusal.Refusal.{Refusal}
@@ -29,7 +30,8 @@ use Rattle.fr_cli.specs.declared.query.Inquiry.{Inquiry}
 use Rattle.fr_cli.specs.RegisterFiles.{IsAnswerOfFile, IsAnswerToGiven, LeadsInFile, StaysInFile}
 use Rattle.fr_cli.proofs.ErrandLaws.{done_over, leads_over}
 use Rattle.fr_cli.specs.Deliveries.{request_with}
-use Rattle.fr_cli.specs.Errands.{IsDoneOver, IsOver, tells}
+use Rattle.fr_cli.specs.Errands.{IsDoneOver, tells}
+use Rattle.fr_cli.specs.Opened.{IsOver}
 use Rattle.fr_cli.specs.declared.delivery.Delivery.{Delivery}
 use Rattle.fr_cli.specs.declared.telling.Telling.TheVariants as telling
 use Rattle.std.specs.Borrow.{Bor}
@@ -92,24 +94,24 @@ module _ {D : Type 0} {g : Ghosts D} {held : Image} {rest : Option (Leftover D g
     pub stays_file : Stays clean old new → StaysInFile held rest
     stays_file is = (last, over.left, λ kept c b there sound. let up = over.closes kept in over.leaves c b (is up c b (over.finds up c b there) sound))
 
-  module _ {R : Type 0} {is_clean : R → Type 0} {stands : R → Standing} {same : Type 0} {done : Result (Vec ℕ) Failure} where
+  module _ {R : Type 0} {desk : Desk.Ghosts R} {same : Type 0} {done : Result (Vec ℕ) Failure} where
     -- so what is printed for a reader is said of the file
-    pub reported_over : (query : Inquiry) → IsDoneOver held rest is_clean stands (λ fault of. of ≡ failure.Fault fault) same (tells (telling.Report query)) done
+    pub reported_over : (query : Inquiry) → IsDoneOver held rest desk (λ fault of. of ≡ failure.Fault fault) same (tells (telling.Report query)) done
         → Says (IsNotReported held rest) (IsForReader (IsAnswerOfFile held rest (query_of query))) done
     reported_over query is =
         done_over failure.Fault (Says (IsNotReported held rest) (IsForReader (IsAnswerOfFile held rest (query_of query)))) (tells (telling.Report query)) is (λ fault not kept. inl not)
-        (λ last clean old new over did.
+        (λ last old new over did.
         prints_says _ _ _ _ (λ answer told. (told.0, asks_file over (query_of query) told.0 told.1, told.2)) (inr (refl, stays_file over did.1)) did.0)
 
     -- so what is printed of the answer to a delivery, by who has the key that is given
     pub given_over : (delivery : Delivery) (input left : Option (List ℕ)) (key body : Bor (List ℕ)) → IsKeyGiven delivery.key.now input left key.now
-        → IsDoneOver held rest is_clean stands (λ fault of. of ≡ failure.Fault fault) same (tells (telling.Answer key delivery body)) done
+        → IsDoneOver held rest desk (λ fault of. of ≡ failure.Fault fault) same (tells (telling.Answer key delivery body)) done
         → Says (IsNotGiven held rest delivery.key.now (request_with delivery body.now) input left) (IsAnswerToGiven held rest delivery.key.now (request_with delivery body.now) input left) done
     given_over delivery input left key body given is =
         let asks = asked_with key.now (request_with delivery body.now) in
         done_over failure.Fault (Says (IsNotGiven held rest delivery.key.now (request_with delivery body.now) input left) (IsAnswerToGiven held rest delivery.key.now (request_with delivery body.now) input left))
         (tells (telling.Answer key delivery body)) is (λ fault not kept. inl (key.now, given, inl not))
-        (λ last clean old new over did. prints_says _ _ _ _ (λ answer told. (key.now, given, asks_file over asks answer told))
+        (λ last old new over did. prints_says _ _ _ _ (λ answer told. (key.now, given, asks_file over asks answer told))
         (inl (key.now, given, inr (refl, leads_file over asks did.1))) did.0)
 
 -- the same was asked by the same

@@ -2,6 +2,7 @@
 use Rattle.std.proofs.Common.{◌≡◌, ◌⊎◌, ◌∙◌, inl, inr, ℕ, List, [], append-nil, length, Some, None, Ok, Err, Result, Option, refl, subst, sym, ap}
 use Rattle.std.specs.Borrow.{Bor}
 use Rattle.std.specs.Global.{Vec}
+use Rattle.std.specs.Io.KnownBytes.{Keeps}
 use Rattle.std.specs.Prelude.{IfSome, OnOk, ⊤}
 use Rattle.sqlite.specs.Files.{IsCleanLeft}
 use Rattle.sqlite.specs.declared.file.Leftover.{Leftover}
@@ -14,6 +15,7 @@ use Rattle.fr_base.specs.Sound.{IsSound}
 use Rattle.fr_base.specs.declared.actor.Actor.{Actor}
 use Rattle.fr_base.specs.declared.answer.Answer.{Answer}
 use Rattle.fr_base.specs.declared.answer.Answer.TheVariants as answer
+use Rattle.fr_base.specs.declared.desk.Desk as Desk
 use Rattle.fr_base.specs.declared.refusal.Refusal.{Refusal}
 use Rattle.fr_base.specs.declared.request.Ask.{Ask}
 use Rattle.fr_base.proofs.SoundLaws.{opening-sound}
@@ -23,7 +25,7 @@ use Rattle.fr_desks.specs.Sessions.{Session}
 use Rattle.fr_http.specs.Connection.{AppendsFront, InSound}
 use Rattle.fr_picture.specs.Pages.{IsPage}
 use Rattle.fr_picture.specs.declared.plan.Plan.{Plan}
-use Rattle.fr_cli.specs.Answering.{account_of}
+use Rattle.fr_cli.specs.Answering.{Account}
 use Rattle.fr_cli.specs.Asking.{IsForReader, asked_with, query_of}
 use Rattle.fr_cli.specs.Deeds.{Asked, Deed, Did, Drawn, IsDeedOf, IsShown, LacksAnswer, Lines, Visits, WereLines, asks_by, session_of}
 use Rattle.fr_cli.specs.Deliveries.{request_with}
@@ -40,7 +42,7 @@ use Rattle.fr_cli.specs.RegisterFiles.{IsAnswerOfFile, IsDeliveryToFile, IsReadO
 use Rattle.fr_cli.specs.Script.{request_lines}
 use Rattle.fr_cli.specs.ScriptRun.{AreAnswered, Replied, asks_in, with_ask}
 use Rattle.fr_cli.specs.Series.{AsksRegister, Follows, IsNextOf, LeadsBy, WasNotOpened, end_of}
-use Rattle.fr_cli.specs.Serving.{ServesAll}
+use Rattle.fr_cli.specs.Serving.{IsServed, ServesAll}
 use Rattle.fr_cli.specs.Texts.{IsClusterAt, Readings}
 use Rattle.fr_cli.specs.Visits.{Comings, Visit}
 use Rattle.fr_cli.specs.declared.delivery.Delivery.{Delivery}
@@ -85,7 +87,7 @@ unanswered_did : (c : Cluster) (b last : Book) (asks : Cluster → Book → Resu
 unanswered_did c b last asks (inl same) = (session_of [], inl (same, refl))
 unanswered_did c b last asks (inr (answer, replied)) = (session_of (with_ask (asks c b) answer []), inr (answer, (replied, refl)))
 
-module _ {D : Type 0} {g : Ghosts D} (held : Image) (rest : Option (Leftover D g)) where
+module _ {D R : Type 0} {g : Ghosts D} (desk : Desk.Ghosts R) (held : Image) (rest : Option (Leftover D g)) where
   -- Files are left, and the deed leads to what they hold next.
   abbrev LeadsOn : Deed → Type 0
   LeadsOn deed = (left : Leftover D g) × (rest ≡ Some left)
@@ -165,8 +167,12 @@ module _ {D : Type 0} {g : Ghosts D} (held : Image) (rest : Option (Leftover D g
         × ((next : Image) → IsCleanLeft left → IsNextOf left next → LeadsBy held (record { deed = deed; end = end_of left }) next))
 
     -- as one that did not open the file
+    not_opened : (fault : Fault) → (rest ≡ None) ⊎ IsNotOpened held rest fault → Shows (Err (failure.Fault fault)) s status → comings.none
+        → WasNotOpened held rest comings s status
+    not_opened fault why shown none = (fault, why, shown, none, λ left next. holds_on held next rest fault why left)
+
     refused : (j : Job) (fault : Fault) → (rest ≡ None) ⊎ IsNotOpened held rest fault → Shows (Err (failure.Fault fault)) s status → comings.none → Leading j
-    refused j fault why shown none = inl (fault, why, shown, none, λ left next. holds_on held next rest fault why left)
+    refused j fault why shown none = inl (not_opened fault why shown none)
 
     -- with this deed
     led : (j : Job) (deed : Deed) → IsDeedOf read comings s status j deed → LeadsOn deed → Leading j
@@ -233,10 +239,11 @@ module _ {D : Type 0} {g : Ghosts D} (held : Image) (rest : Option (Leftover D g
     deliver db delivery (Err (failure.Refused line)) none shown (a, was, kind, said) = delivered db delivery (Err (failure.Refused line)) a shown (a, refl, kind, said) was
     deliver db delivery (Err (failure.Fault fault)) none shown may = not_delivered db delivery fault none shown may
 
-    -- lines that were answered over the file
-    answered : (db : Bor (List ℕ)) (last : Leftover D g) → rest ≡ Some last → (asked : Result ⊤ ScriptFault) → status ≡ status_of (of_script asked)
-        → HasAnswered (account_of (IsCleanLeft last) (Held held) (IsLeftWith last)) s.input.old s.input.new s.out.old s.out.new asked → Leading (job.Ask db)
-    answered db last same (Ok x) ends has =
+    -- lines that were answered, whatever is said of them
+    pub answered_lines : {account : Account} (asked : Result ⊤ ScriptFault) → status ≡ status_of (of_script asked)
+        → HasAnswered account s.input.old s.input.new s.out.old s.out.new asked
+        → (lines : List (List ℕ)) × (answers : List Answer) × WereLines s status lines answers × account.all lines answers
+    answered_lines (Ok x) ends has =
         let (lines, written, whole, short, appended, told) = has.all in
         let were : WereLines s status lines told.answers = record {
           first = some_map _ _ s.input.old (λ bytes so. all_first lines bytes so.0) whole;
@@ -248,8 +255,8 @@ module _ {D : Type 0} {g : Ghosts D} (held : Image) (rest : Option (Leftover D g
           bytes = append-nil written ∙ told.bytes;
           all = λ done. (refl, some_map _ _ s.input.old (λ bytes so. so.0) whole);
         } in
-        led (job.Ask db) (Lines lines told.answers) were (lines_lead last same lines told.answers told.answered)
-    answered db last same (Err fault) ends has =
+        (lines, told.answers, were, told.answered)
+    answered_lines (Err fault) ends has =
         let cut = has.early in
         let were : WereLines s status cut.lines cut.answered.answers = record {
           first = cut.done;
@@ -261,29 +268,45 @@ module _ {D : Type 0} {g : Ghosts D} (held : Image) (rest : Option (Leftover D g
           bytes = cut.answered.bytes;
           all = λ done. absurd (not_done status ends done);
         } in
-        led (job.Ask db) (Lines cut.lines cut.answered.answers) were (lines_lead last same cut.lines cut.answered.answers cut.answered.answered)
+        (cut.lines, cut.answered.answers, were, cut.answered.answered)
 
-    ask : (db : Bor (List ℕ)) (done : Result ⊤ Fault) → comings.none → IsAsked held rest s.input.old s.input.new s.out.old s.out.new done → Ends done s status
+    -- where the file was not opened, to answer lines
+    pub not_asked : (done : Result ⊤ Fault) (fault : Fault) → comings.none → done ≡ Err fault → IsNotOpened held rest fault → Keeps s.out.old s.out.new → Ends done s status
+        → WasNotOpened held rest comings s status
+    not_asked done fault none failed not silent ends =
+        let (ended, told) = subst (λ (d : Result ⊤ Fault). Ends d s status) failed ends in not_opened fault (inr not) (ended, silent, told) none
+
+    ask : (db : Bor (List ℕ)) (done : Result ⊤ Fault) → comings.none → IsAsked desk held rest s.input.old s.input.new s.out.old s.out.new done → Ends done s status
         → Leading (job.Ask db)
-    ask db done none (inl (fault, failed, not, kept, silent)) ends =
-        let (ended, told) = subst (λ (d : Result ⊤ Fault). Ends d s status) failed ends in refused (job.Ask db) fault (inr not) (ended, silent, told) none
-    ask db done none (inr (asked, last, is_left, same, at_end, has)) ends = answered db last is_left.0 asked (ends.0 ∙ ap status_of same) has
+    unfolding IsAsked
+    ask db done none (inl (fault, failed, not, kept, silent)) ends = inl (not_asked done fault none failed not silent ends)
+    ask db done none (inr (asked, last, old, new, over, same, at_end, has)) ends =
+        let (lines, answers, were, all) = answered_lines asked (ends.0 ∙ ap status_of same) has in
+        led (job.Ask db) (Lines lines answers) were (lines_lead last over.left.0 lines answers all.0)
 
     -- as many connections as were to be, where all were served
-    all_served : (count : ℕ) (visits : List Visit) (done : Result ⊤ Fault) → status ≡ status_of done → OnOk done (length visits ≡ count) → status ≡ 0 → length visits ≡ count
+    pub all_served : (count : ℕ) (visits : List Visit) (done : Result ⊤ Fault) → status ≡ status_of done → OnOk done (length visits ≡ count) → status ≡ 0 → length visits ≡ count
     all_served count visits (Ok x) ends all zero = all
     all_served count visits (Err fault) ends all zero = absurd (not_done status ends zero)
 
-    serve : (db : Bor (List ℕ)) (port count seconds : ℕ) → Serves held rest read comings port count seconds s status → Leading (job.Serve db port count seconds)
-    serve db port count seconds (done, told, ends, announced, inl (fault, failed, not, stayed, silent, kept), tells) =
+    -- where the file was not opened, to serve connections
+    pub not_served : (done : Result ⊤ Fault) (told : Option (List ℕ)) (fault : Fault) → status ≡ status_of done → done ≡ Err fault → IsNotOpened held rest fault → comings.none
+        → Keeps s.out.old s.out.new → Keeps s.err.old told → Tells told s.err.new done → WasNotOpened held rest comings s status
+    not_served done told fault ends failed not stayed silent kept tells =
         let (written, begins, appended) = subst (λ (d : Result ⊤ Fault). Tells told s.err.new d) failed tells in
         let front : AppendsFront s.err.old s.err.new (word_line (fault_word fault)) = (written, begins, appends-kept s.err.old told s.err.new written kept appended) in
-        refused (job.Serve db port count seconds) fault (inr not) (ends ∙ ap status_of failed, silent, front) stayed
-    serve db port count seconds (done, told, ends, announced, inr (last, is_left, has), tells) =
-        led (job.Serve db port count seconds) (Visits has.visits) (has.came_in, all_served count has.visits done ends has.all) (visits_lead last is_left.0 has.visits has.served)
+        not_opened fault (inr not) (ends ∙ ap status_of failed, silent, front) stayed
+
+    serve : (db : Bor (List ℕ)) (port count seconds : ℕ) → Serves desk held rest read comings port count seconds s status → Leading (job.Serve db port count seconds)
+    unfolding IsServed
+    serve db port count seconds (done, told, ends, announced, inl (fault, failed, not, stayed, silent, kept), tells) =
+        inl (not_served done told fault ends failed not stayed silent kept tells)
+    serve db port count seconds (done, told, ends, announced, inr (last, old, new, over, has), tells) =
+        led (job.Serve db port count seconds) (Visits has.visits) (has.came_in, all_served count has.visits done ends has.all) (visits_lead last over.left.0 has.visits has.served.0)
 
     -- so a job that asks the register of a file
-    pub job_leads : (j : Job) → IsPerformed held rest read comings j s status → AsksRegister j → Leading j
+    pub job_leads : (j : Job) → IsPerformed desk held rest read comings j s status → AsksRegister j → Leading j
+    unfolding IsPerformed
     job_leads job.Run did asks = absurd asks
     job_leads (job.Create db config) did asks = absurd asks
     job_leads (job.Migrate db) did asks = absurd asks
@@ -296,11 +319,12 @@ module _ {D : Type 0} {g : Ghosts D} (held : Image) (rest : Option (Leftover D g
     job_leads (job.Explain word) did asks = absurd asks
 
 -- a register's file that was made
-pub made_is_held : {D : Type 0} {g : Ghosts D} (held next : Image) (rest : Leftover D g) (read : Readings) (comings : Comings) (db config : Bor (List ℕ)) (s : Streams)
-    → IsPerformed held (Some rest) read comings (job.Create db config) s 0 → IsCleanLeft rest → IsNextOf rest next
+pub made_is_held : {D R : Type 0} {g : Ghosts D} (desk : Desk.Ghosts R) (held next : Image) (rest : Leftover D g) (read : Readings) (comings : Comings) (db config : Bor (List ℕ)) (s : Streams)
+    → IsPerformed desk held (Some rest) read comings (job.Create db config) s 0 → IsCleanLeft rest → IsNextOf rest next
     → (f : ClusterFile) × IsClusterAt read config.now f × Held next f.cluster (opening f) × IsSound f.cluster (opening f)
-made_is_held {D} {g} held next rest read comings db config s ((Ok x, fault, (f, at, formed, (files, same, holds, bare)), silent, ends), quiet) is opened =
+unfolding IsPerformed
+made_is_held {D} {R} {g} desk held next rest read comings db config s ((Ok x, fault, (f, at, formed, (files, same, holds, bare)), silent, ends), quiet) is opened =
     let these : rest ≡ left.Files files = cc in
     let (book, only, still) = next_holds {g = g} (left.Files files) next f.cluster (opening f) (subst IsCleanLeft these is) (subst (λ l. IsNextOf l next) these opened) holds in
     (f, at, subst (λ b. Held next f.cluster b) only still, opening-sound f formed)
-made_is_held held next rest read comings db config s ((Err fault, of, made, silent, ends), quiet) is opened = absurd (not_done 0 ends.0 refl)
+made_is_held desk held next rest read comings db config s ((Err fault, of, made, silent, ends), quiet) is opened = absurd (not_done 0 ends.0 refl)

@@ -6,11 +6,13 @@ use Rattle.sqlite_disk.specs.declared.Disk.{Ghosts}
 use Rattle.sqlite_wal.specs.Recovery.{Image}
 use Rattle.fr_base.specs.Book.{Book}
 use Rattle.fr_base.specs.Cluster.{Cluster}
+use Rattle.fr_base.specs.declared.desk.Desk as Desk
 use Rattle.fr_desks.specs.FileDesk.{FindsHeld, FindsRegister, Held, IsLeftWith}
 use Rattle.fr_http.specs.Connection.{InSound}
 use Rattle.fr_world.specs.Held.{Standing}
-use Rattle.fr_cli.specs.Errands.{Doing, IsDoneOver, IsOver}
+use Rattle.fr_cli.specs.Errands.{Doing, IsDoneOver}
 use Rattle.fr_cli.specs.Faults.{IsNotOpened}
+use Rattle.fr_cli.specs.Opened.{IsOver}
 use Rattle.fr_cli.specs.declared.fault.Fault.{Fault}
 
 -- Such a register was opened, asked and closed.
@@ -23,13 +25,13 @@ over closes falls finds reads leaves = record {
   leaves = leaves;
 }
 
-module _ {D : Type 0} {g : Ghosts D} {held : Image} {rest : Option (Leftover D g)} {R X Y : Type 0} {is_clean : R → Type 0} {stands : R → Standing} {same : Type 0} where
+module _ {D : Type 0} {g : Ghosts D} {held : Image} {rest : Option (Leftover D g)} {R X Y : Type 0} {desk : Desk.Ghosts R} {same : Type 0} where
   -- It is said where the file was not opened, and where it was done with a register over it.
-  pub done_over : (into : Fault → Y) (P : Result X Y → Type 0) (does : Doing X Y) {done : Result X Y} → IsDoneOver held rest is_clean stands (λ fault of. of ≡ into fault) same does done
+  pub done_over : (into : Fault → Y) (P : Result X Y → Type 0) (does : Doing X Y) {done : Result X Y} → IsDoneOver held rest desk (λ fault of. of ≡ into fault) same does done
       → ((fault : Fault) → IsNotOpened held rest fault → same → P (Err (into fault)))
-      → ((last : Leftover D g) (clean : Type 0) (old new : Standing) → IsOver held rest last clean old new → does clean old new done → P done) → P done
+      → ((last : Leftover D g) (old new : R) → IsOver held rest last (desk.clean new) (desk.stands old) (desk.stands new) → does R desk old new done → P done) → P done
   done_over into P does (inl (fault, not, of, is, gives, kept)) refused did = subst P (sym is) (subst (λ of. P (Err of)) (sym gives) (refused fault not kept))
-  done_over into P does (inr (last, old, new, over, so)) refused did = did last _ _ _ over so
+  done_over into P does (inr (last, old, new, over, so)) refused did = did last old new over so
 
 -- What leads from a book to one after it, over a file, leads so in the file.
 pub leads_over : {D : Type 0} {g : Ghosts D} {held : Image} {rest : Option (Leftover D g)} {left : Leftover D g} {clean : Type 0} {old new : Standing} (leads : Cluster → Book → Book → Type 0)

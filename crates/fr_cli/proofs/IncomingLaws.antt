@@ -10,10 +10,9 @@ use Rattle.sqlite_wal.specs.Recovery.{Image}
 use Rattle.fr_base.specs.declared.answer.Answer.{Answer}
 use Rattle.fr_base.specs.declared.desk.Desk as Desk
 use Rattle.fr_desks.specs.FileDesk.{Held, IsLeftWith}
-use Rattle.fr_world.specs.Held.{Standing}
-use Rattle.fr_cli.specs.Answering.{Account, AnswersEach, AnswersLines, BeginWith, GoOnBehind, IsStill, WasCutShort, account_by, account_of}
+use Rattle.fr_cli.specs.Answering.{Account, AnswersEach, AnswersLines, BeginWith, GoOnBehind, IsStill, WasCutShort, account_by}
 use Rattle.fr_cli.specs.Guarding.{script_fault_unwatched}
-use Rattle.fr_cli.specs.Incoming.{AreFirstOf, AreFirstOfAll, AreShort, EndsAsking, EndsLines, HasAnswered, WasAsked, HasHeard, HasLongLine, IsAsked, max_line}
+use Rattle.fr_cli.specs.Incoming.{AreFirstOf, AreFirstOfAll, AreShort, EndsAsking, EndsLines, HasAnswered, WasAsked, HasHeard, HasLongLine, IsAsked, account_over, max_line}
 use Rattle.fr_cli.specs.Script.{HasNo, max_script, request_lines}
 use Rattle.fr_cli.specs.ScriptFault.{script_fault_of}
 use Rattle.fr_cli.specs.declared.fault.Fault.{Fault}
@@ -23,11 +22,12 @@ use Rattle.fr_cli.specs.declared.script_fault.ScriptFault.{ScriptFault}
 use Rattle.fr_cli.specs.declared.script_fault.ScriptFault.TheVariants.{NoMemory, ReadFailed, TooLong, TooManyReads, Unavailable, WriteFailed}
 use Rattle.fr_cli.specs.declared.watch.WatchFault.{WatchFault}
 use Rattle.fr_cli.specs.declared.watch.WatchFault.TheVariants as watch
-use Rattle.fr_cli.proofs.AnsweringLaws.{Tells, cut_after, cut_as, cut_here, cut_told, cut_unasked, lines_as, lines_stay, lines_then, told_moved}
+use Rattle.fr_cli.proofs.AnsweringLaws.{Tells, cut_after, cut_as, cut_here, cut_told, cut_unasked, each_told, lines_as, lines_stay, lines_then, told_moved}
 use Rattle.fr_cli.proofs.EndedLines.{requests-append}
 use Rattle.fr_cli.proofs.LineLemmas.{request_lines-none}
 use Rattle.fr_cli.proofs.ErrandLaws.{done_over}
-use Rattle.fr_cli.specs.Errands.{AnswersInput, IsDoneOver, IsOver}
+use Rattle.fr_cli.specs.Errands.{AnswersInput, IsDoneOver}
+use Rattle.fr_cli.specs.Opened.{IsOver}
 
 -- ---- ends of lines
 
@@ -240,13 +240,13 @@ cut_within desk old mid new input left a m b front bytes written fault taken end
     }
 
 -- Nothing was asked, and nothing was read: the register's files are not watched.
-pub asked_none : (clean : Type 0) (old : Standing) (input a : Option (List ℕ)) (why : WatchFault) (fault : ScriptFault) → fault ≡ script_fault_unwatched why
-    → HasAnswered (account_of clean old old) input input a a (Err fault)
-asked_none clean old input a why fault is =
+pub asked_none : {D : Type 0} (desk : Desk.Ghosts D) (old : D) (input a : Option (List ℕ)) (why : WatchFault) (fault : ScriptFault) → fault ≡ script_fault_unwatched why
+    → HasAnswered (account_by desk old old) input input a a (Err fault)
+asked_none desk old input a why fault is =
     let first : IfSome input (AreFirstOf []) = on_input (AreFirstOf []) input input [] (Consumes-nil input) (λ more. (request_lines more, refl)) in
     record {
       all = tt;
-      early = cut_unasked clean old (λ lines. IfSome input (AreFirstOf lines)) (λ lines. IfSome input (AreFirstOf lines)) a a fault (Appends-nil a) first first;
+      early = cut_unasked desk old (λ lines. IfSome input (AreFirstOf lines)) (λ lines. IfSome input (AreFirstOf lines)) a a fault (Appends-nil a) first first;
       unread = λ e. absurd (of_line-read fault (inr (ends_unwatched why fault is)) e);
       too_long = λ e. absurd (not_long fault (ends_unwatched why fault is) cc);
       faults = of_line fault (inr (ends_unwatched why fault is));
@@ -309,22 +309,29 @@ answered_told A B input left a b (Err fault) so has = record {
   faults = has.faults;
 }
 
-module _ {D : Type 0} {g : Ghosts D} {file : Image} {rest : Option (Leftover D g)} where
-  -- What was asked of a register over a file was asked of the file.
-  asked_file : {last : Leftover D g} {clean : Type 0} {old new : Standing} → IsOver file rest last clean old new → {input left a b : Option (List ℕ)} (asked : Result ⊤ ScriptFault)
-      → HasAnswered (account_of clean old new) input left a b asked → HasAnswered (account_of (IsCleanLeft last) (Held file) (IsLeftWith last)) input left a b asked
-  asked_file {last} {clean} {old} {new} over {input} {left} {a} {b} asked =
-      answered_told (account_of clean old new) (account_of (IsCleanLeft last) (Held file) (IsLeftWith last)) input left a b asked
-      (told_moved (IsCleanLeft last) clean (Held file) old new (IsLeftWith last) over.closes over.finds over.leaves)
+module _ {D R : Type 0} {g : Ghosts D} {desk : Desk.Ghosts R} {file : Image} {rest : Option (Leftover D g)} where
+  -- What is said by the register behind each line is said of the file too.
+  told_over : {last : Leftover D g} {old new : R} → IsOver file rest last (desk.clean new) (desk.stands old) (desk.stands new)
+      → Tells (account_by desk old new) (account_over desk file last old new)
+  told_over {last} {old} {new} over =
+      let each = each_told desk old new in
+      let moved = told_moved (IsCleanLeft last) (desk.clean new) (Held file) (desk.stands old) (desk.stands new) (IsLeftWith last) over.closes over.finds over.leaves in
+      record {
+        all = λ l answers so. (moved.all l answers (each.all l answers so), so);
+        first = λ l answers so. (moved.first l answers (each.first l answers so), so);
+      }
 
-  -- So it is by an errand.
-  pub asked_over : {R : Type 0} {is_clean : R → Type 0} {stands : R → Standing} {same kept : Type 0} {input left left' a b b' : Option (List ℕ)} {done : Result ⊤ Fault}
+  -- What an errand asked was asked over the file.
+  pub asked_over : {same kept : Type 0} {input left left' a b b' : Option (List ℕ)} {done : Result ⊤ Fault}
       → left' ≡ left → b' ≡ b → (same → (left ≡ input) × (b ≡ a))
-      → IsDoneOver file rest is_clean stands (λ fault of. of ≡ fault) same (λ clean old new done. AnswersInput input left a b clean old new done × kept) done
-      → IsAsked file rest input left' a b' done
+      → IsDoneOver file rest desk (λ fault of. of ≡ fault) same (λ R desk old new done. AnswersInput input left a b R desk old new done × kept) done
+      → IsAsked desk file rest input left' a b' done
+  unfolding IsAsked
   asked_over {kept = kept} {input} {left} {left'} {a} {b} {b'} {done} is_left is_b quiet is =
-      subst (λ l. IsAsked file rest input l a b' done) (sym is_left) (subst (λ o. IsAsked file rest input left a o done) (sym is_b)
-      (done_over (λ fault. fault) (IsAsked file rest input left a b) (λ clean old new done. AnswersInput input left a b clean old new done × kept) is
+      subst (λ l. IsAsked desk file rest input l a b' done) (sym is_left) (subst (λ o. IsAsked desk file rest input left a o done) (sym is_b)
+      (done_over (λ fault. fault) (IsAsked desk file rest input left a b) (λ R desk old new done. AnswersInput input left a b R desk old new done × kept) is
       (λ fault not same.
       let (unread, quiet) = quiet same in inl (fault, refl, not, subst (Keeps input) (sym unread) (Keeps-refl input), subst (Keeps a) (sym quiet) (Keeps-refl a)))
-      (λ last clean old new over did. let (asked, is, end, has) = did.0 in inr (asked, last, over.left, is, end, asked_file over asked has))))
+      (λ last old new over did.
+      let (asked, is, end, has) = did.0 in
+      inr (asked, last, old, new, over, is, end, answered_told (account_by desk old new) (account_over desk file last old new) input left a b asked (told_over over) has))))

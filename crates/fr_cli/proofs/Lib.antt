@@ -31,3 +31,5 @@ mod CheckingLaws
 mod HoldingLaws
 mod DeedLaws
 mod SeriesLaws
+mod StopLaws
+mod JobLaws

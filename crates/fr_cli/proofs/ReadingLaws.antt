@@ -3,6 +3,7 @@ use Rattle.std.proofs.Common.{◌≡◌, List, ℕ, Option, Ok, Err, Result, inl
 use Rattle.std.specs.Global.{Vec}
 use Rattle.fr_base.specs.declared.actor.Actor.{Actor}
 use Rattle.fr_base.specs.declared.answer.Answer.TheVariants as answer
+use Rattle.fr_base.specs.declared.desk.Desk as Desk
 use Rattle.fr_base.specs.declared.refusal.Refusal.{Refusal}
 use Rattle.fr_world.specs.Held.{Standing}
 use Rattle.sqlite.specs.declared.file.Leftover.{Leftover}
@@ -13,7 +14,8 @@ use Rattle.fr_cli.specs.Reading.{IsRead, PrintsRead, Reading, Stays}
 use Rattle.fr_cli.specs.RegisterFiles.{IsReadOfFile}
 use Rattle.fr_cli.proofs.AskingLaws.{stays_file}
 use Rattle.fr_cli.proofs.ErrandLaws.{done_over}
-use Rattle.fr_cli.specs.Errands.{IsDoneOver, IsOver, tells}
+use Rattle.fr_cli.specs.Errands.{IsDoneOver, tells}
+use Rattle.fr_cli.specs.Opened.{IsOver}
 use Rattle.fr_cli.specs.Faults.{IsNotReported}
 use Rattle.fr_cli.specs.Picturing.{plans_for}
 use Rattle.fr_cli.specs.Queries.{reader_named}
@@ -62,10 +64,10 @@ module _ {D : Type 0} {g : Ghosts D} {held : Image} {rest : Option (Leftover D g
   )
 
   -- so the page that is printed is that of the file
-  pub pictured_over : {R : Type 0} {is_clean : R → Type 0} {stands : R → Standing} {same : Type 0} {done : Result (Vec ℕ) Failure} (variant : Bor (List ℕ)) (supplier : Option (Bor (List ℕ)))
-      → IsDoneOver held rest is_clean stands (λ fault of. of ≡ failure.Fault fault) same (tells (telling.Picture variant supplier)) done
+  pub pictured_over : {R : Type 0} {desk : Desk.Ghosts R} {same : Type 0} {done : Result (Vec ℕ) Failure} (variant : Bor (List ℕ)) (supplier : Option (Bor (List ℕ)))
+      → IsDoneOver held rest desk (λ fault of. of ≡ failure.Fault fault) same (tells (telling.Picture variant supplier)) done
       → PrintsRead (IsNotReported held rest) (IsReadOfFile held rest (plans_for (reader_named supplier) variant.now)) IsPage done
   pictured_over variant supplier is =
       let may = plans_for (reader_named supplier) variant.now in
       done_over failure.Fault (PrintsRead (IsNotReported held rest) (IsReadOfFile held rest may) IsPage) (tells (telling.Picture variant supplier)) is (λ fault not kept. inl not)
-      (λ last clean old new over did. reading_says _ _ _ IsPage _ (reads_file over may) (inr (refl, stays_file over did.1)) did.0)
+      (λ last old new over did. reading_says _ _ _ IsPage _ (reads_file over may) (inr (refl, stays_file over did.1)) did.0)

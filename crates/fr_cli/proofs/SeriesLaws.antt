@@ -97,11 +97,11 @@ jobs_are_kept held last (turn ∷ turns) (image, leads, led) c b there sound =
 
 pub all_jobs_are_kept : AllJobsAreKept
 all_jobs_are_kept held last [] led c b there sound = ∣ jobs_are_kept held last [] led c b there sound ∣₁
-all_jobs_are_kept held last (Some turn ∷ jobs) (image, leads, led) c b there sound =
-    let (done, book, next, did, follows, holds) = leads c b there sound in
+all_jobs_are_kept held last (Some turn ∷ jobs) (image, leads, led) c b there sound = ∥∥₁_elim (leads c b there sound) (hlevel) (λ by.
+    let (done, book, next, did, follows, holds) = by in
     let (more, adds, second) = one_more turn.end c book next follows in
     let start = still_sound c book next more (still_sound c b book done sound (did_run c b book turn.deed done did)) second in
     ∥∥₁_map (all_jobs_are_kept image last jobs led c next holds start)
-    (all_behind (λ end x. (x ≡ end) × Held last c x) turn (turns_of jobs) c b book next done more sound did adds second)
+    (all_behind (λ end x. (x ≡ end) × Held last c x) turn (turns_of jobs) c b book next done more sound did adds second))
 all_jobs_are_kept held last (None ∷ jobs) (image, holds, led) c b there sound =
     ∥∥₁_elim (holds c b there) (hlevel) (λ now. all_jobs_are_kept image last jobs led c b now sound)

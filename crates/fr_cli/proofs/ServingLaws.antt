@@ -3,13 +3,12 @@ use Rattle.std.proofs.Common.{◌≡◌, ◌≤◌, length, inl, inr, ℕ, List,
 use Rattle.std.specs.Prelude.{⊤}
 use Rattle.std.specs.Io.KnownBytes.{Appends, Keeps}
 use Rattle.std.proofs.KnownBytes.{Appends-nil, Keeps-trans, Keeps-refl}
-use Rattle.sqlite.specs.Files.{IsCleanLeft}
 use Rattle.sqlite.specs.declared.file.Leftover.{Leftover}
 use Rattle.sqlite_disk.specs.declared.Disk.{Ghosts}
 use Rattle.sqlite_wal.specs.Recovery.{Image}
 use Rattle.fr_base.specs.Book.{Book}
 use Rattle.fr_base.specs.Cluster.{Cluster}
-use Rattle.fr_desks.specs.FileDesk.{Held, IsLeftWith}
+use Rattle.fr_base.specs.declared.desk.Desk as Desk
 use Rattle.fr_http.specs.Connection.{IsConnection}
 use Rattle.fr_http.specs.declared.fault.LinkFault.{LinkFault}
 use Rattle.fr_http.specs.declared.serve.Served.{Served}
@@ -17,7 +16,7 @@ use Rattle.fr_http.proofs.ExchangeLaws.{exchanges-sound}
 use Rattle.fr_world.specs.Held.{Standing}
 use Rattle.fr_cli.specs.Guarding.{fault_unwatched}
 use Rattle.fr_cli.specs.Performing.{listening}
-use Rattle.fr_cli.specs.Serving.{HasServed, IsServed, IsServedOver, ServesAll, ServesEach, ServesOne, StopsServing, TellsEach, TellsEnd}
+use Rattle.fr_cli.specs.Serving.{HasServed, IsServed, IsServedOver, ServesAll, ServesEach, ServesOne, ServesOver, StopsServing, TellsEach, TellsEnd}
 use Rattle.fr_cli.specs.Visits.{Comings, Visit}
 use Rattle.fr_cli.specs.declared.fault.Fault.{Fault}
 use Rattle.fr_cli.specs.declared.fault.Fault.TheVariants.{CannotListen}
@@ -26,7 +25,8 @@ use Rattle.fr_cli.specs.declared.watch.WatchFault.{WatchFault}
 use Rattle.fr_cli.specs.declared.watch.WatchFault.TheVariants as watch
 use Rattle.fr_cli.proofs.AskingLaws.{err_follows}
 use Rattle.fr_cli.proofs.ErrandLaws.{done_over}
-use Rattle.fr_cli.specs.Errands.{IsDoneOver, IsOver, ServesConnections}
+use Rattle.fr_cli.specs.Errands.{IsDoneOver, ServesConnections}
+use Rattle.fr_cli.specs.Opened.{IsOver}
 
 -- ---- one exchange
 
@@ -71,7 +71,7 @@ module _ {D : Type 0} (clean : D → Type 0) (stands : D → Standing) where
   each_then old mid new (first ∷ visits) visit falls so one = (so.0, so.1, so.2, each_then so.0 mid new visits visit falls so.3 one)
 
   -- The first register was clean if the last is.
-  each_falls : (old new : D) (visits : List Visit) → ServesEach clean stands old new visits → clean new → clean old
+  pub each_falls : (old new : D) (visits : List Visit) → ServesEach clean stands old new visits → clean new → clean old
   each_falls old new [] so is = subst clean so is
   each_falls old new (visit ∷ visits) so is = so.1 (each_falls so.0 new visits so.3 is)
 
@@ -80,6 +80,12 @@ module _ {D : Type 0} (clean : D → Type 0) (stands : D → Standing) where
   each_all old new [] so = subst (λ d. ServesAll (clean new) (stands d) (stands new) []) so (serves_none (clean new) (stands new))
   each_all old new (visit ∷ visits) so = serves_first (clean new) (clean so.0) (stands old) (stands so.0) (stands new) visit visits
       (each_falls so.0 new visits so.3) so.2 (each_all so.0 new visits so.3)
+
+-- What the guard of a register served was served by the register that it guards.
+pub each_guarded : {D E : Type 0} (clean : E → Type 0) (stands : E → Standing) (of : D → E) (old new : D) (visits : List Visit)
+    → ServesEach (λ d. clean (of d)) (λ d. stands (of d)) old new visits → ServesEach clean stands (of old) (of new) visits
+each_guarded clean stands of old new [] so = ap of so
+each_guarded clean stands of old new (visit ∷ visits) so = (of so.0, so.1, so.2, each_guarded clean stands of so.0 new visits so.3)
 
 -- ---- what was told
 
@@ -134,11 +140,6 @@ served_early WereServed count said deaf CameIn a done fault none is stops came =
   first = inl refl;
 })
 
--- So it is of a register that was not asked.
-pub unserved : (clean : Type 0) (s : Standing) (count : ℕ) (said deaf : Type 0) (CameIn : List Visit → Type 0) (a : Option (List ℕ)) (done : Result ⊤ Fault) (fault : Fault)
-    → done ≡ Err fault → StopsServing deaf [] fault → CameIn [] → HasServed (ServesAll clean s s) count said deaf CameIn a a done
-unserved clean s count said deaf CameIn a done fault = served_early (ServesAll clean s s) count said deaf CameIn a done fault (serves_none clean s)
-
 -- For this no connection is served: its files are not watched.
 pub stops_unwatched : (deaf : Type 0) (why : WatchFault) (fault : Fault) → fault ≡ fault_unwatched why → StopsServing deaf [] fault
 stops_unwatched deaf watch.NoMemory fault is = inr (inr (refl, inl is))
@@ -179,38 +180,44 @@ served_said WereServed count said deaf deafer CameIn CameTo a b done is came sto
 
 -- ---- over a file
 
-module _ {D : Type 0} {g : Ghosts D} where
-  -- What was served by a register over a file was served from the file.
-  pub served_file : (file : Image) (rest : Option (Leftover D g)) (left : Leftover D g) (clean : Type 0) (old new : Standing) (port count : ℕ) (stayed deaf : Type 0)
-      (CameIn : List Visit → Type 0) (out out' a b : Option (List ℕ)) (done : Result ⊤ Fault) → IsOver file rest left clean old new
-      → HasServed (ServesAll clean old new) count (Appends out out' (listening port)) deaf CameIn a b done → IsServed file rest port count stayed deaf CameIn out out' a b done
-  served_file file rest left clean old new port count stayed deaf CameIn out out' a b done over has = inr (
-    left,
-    over.left,
-    served_as (ServesAll clean old new) (ServesAll (IsCleanLeft left) (Held file) (IsLeftWith left)) count (Appends out out' (listening port)) deaf CameIn a b done
-        (λ visits served kept c book there sound.
+module _ {D R : Type 0} {g : Ghosts D} (desk : Desk.Ghosts R) where
+  -- What was served by a register over a file was served from the file too.
+  serves_over : (file : Image) (rest : Option (Leftover D g)) (last : Leftover D g) (old new : R) → IsOver file rest last (desk.clean new) (desk.stands old) (desk.stands new)
+      → (visits : List Visit) → ServesEach desk.clean desk.stands old new visits → ServesOver desk file last old new visits
+  serves_over file rest last old new over visits served = (
+    λ kept c book there sound.
         let up = over.closes kept in
-        let (xs, last, each, so, after) = served up c book (over.finds up c book there) sound in
-        (xs, last, each, so, over.leaves c last after)) has,
+        let (xs, end, each, so, after) = each_all desk.clean desk.stands old new visits served up c book (over.finds up c book there) sound in
+        (xs, end, each, so, over.leaves c end after),
+    served,
   )
 
+module _ {D R : Type 0} {g : Ghosts D} {desk : Desk.Ghosts R} where
   -- So it is by an errand.
-  pub served_over : {R L : Type 0} {is_clean : R → Type 0} {stands : R → Standing} {same kept : Type 0} {file : Image} {rest : Option (Leftover D g)} (service : Service) (came : L → Comings)
+  pub served_over : {L : Type 0} {same kept : Type 0} {file : Image} {rest : Option (Leftover D g)} (service : Service) (came : L → Comings)
       {l l' : L} {out out' o a b b' : Option (List ℕ)} {done : Result ⊤ Fault} → l' ≡ l → o ≡ out' → b' ≡ b → (same → (came l).none × (out' ≡ out) × (b ≡ a))
-      → IsDoneOver file rest is_clean stands (λ fault of. of ≡ fault) same (λ clean old new done. ServesConnections service (came l) out out' a b clean old new done × kept) done
-      → IsServedOver file rest service (came l') out o a b' done
+      → IsDoneOver file rest desk (λ fault of. of ≡ fault) same (λ R desk old new done. ServesConnections service (came l) out out' a b R desk old new done × kept) done
+      → IsServedOver desk file rest service (came l') out o a b' done
+  unfolding IsServed
   served_over {kept = kept} {file} {rest} service came {l} {l'} {out} {out'} {o} {a} {b} {b'} {done} is_l is_o is_b quiet is =
-      subst (λ l. IsServedOver file rest service (came l) out o a b' done) (sym is_l) (subst (λ o. IsServedOver file rest service (came l) out o a b' done) (sym is_o)
-      (subst (λ b. IsServedOver file rest service (came l) out out' a b done) (sym is_b)
-      (done_over (λ fault. fault) (IsServedOver file rest service (came l) out out' a b) (λ clean old new done. ServesConnections service (came l) out out' a b clean old new done × kept) is
+      subst (λ l. IsServedOver desk file rest service (came l) out o a b' done) (sym is_l) (subst (λ o. IsServedOver desk file rest service (came l) out o a b' done) (sym is_o)
+      (subst (λ b. IsServedOver desk file rest service (came l) out out' a b done) (sym is_b)
+      (done_over (λ fault. fault) (IsServedOver desk file rest service (came l) out out' a b)
+      (λ R desk old new done. ServesConnections service (came l) out out' a b R desk old new done × kept) is
       (λ fault not same.
       let (none, unsaid, untold) = quiet same in
       let said : Keeps out out' = subst (Keeps out) (sym unsaid) (Keeps-refl out) in (
         (([], (listening service.port, refl), subst (λ o. Appends out o []) (sym unsaid) (Appends-nil out)), tt, inl said),
         inl (fault, refl, not, none, said, subst (Keeps a) (sym untold) (Keeps-refl a)),
       ))
-      (λ last clean old new over did. (
+      (λ last old new over did. (
         did.0.0,
-        served_file file rest last clean old new service.port service.count (came l).none ((came l).deaf service.port)
-            ((came l).at service.port service.seconds) out out' a b done over did.0.1,
+        inr (
+          last,
+          old,
+          new,
+          over,
+          served_as (ServesEach desk.clean desk.stands old new) (ServesOver desk file last old new) service.count (Appends out out' (listening service.port))
+              ((came l).deaf service.port) ((came l).at service.port service.seconds) a b done (serves_over desk file rest last old new over) did.0.1,
+        ),
       )))))

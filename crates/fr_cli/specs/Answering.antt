@@ -49,8 +49,8 @@ AnswersAll clean old new lines answers = clean → InSound old (λ c b. (last : 
 abbrev pub IsStill : {D : Type 0} → (D → Type 0) → (D → Standing) → D → D → Type 0
 IsStill clean stands old new = (clean new → clean old) × (clean new → (c : Cluster) (b : Book) → stands old c b → stands new c b)
 
--- From the first register to the last the lines were answered so, one after another. Behind each there was a register, that stood for the
--- book after it; and it was clean if the one behind the next line was.
+-- From the first register to the last the lines were answered so, one after another. As long as the last register is clean, there was a register
+-- behind each line. From a sound book on it stood for the book after that line. It was clean if the next one was.
 abbrev pub AnswersEach : {D : Type 0} → (D → Type 0) → (D → Standing) → D → D → List (List ℕ) → List Answer → Type 0
 AnswersEach clean stands old new [] [] = IsStill clean stands old new
 AnswersEach {D} clean stands old new (line ∷ lines) (answer ∷ answers) = (mid : D) × (clean mid → clean old)
@@ -72,6 +72,13 @@ abbrev pub account_by : {D : Type 0} → Desk.Ghosts D → D → D → Account
 account_by {D} desk old new = record {
   all = AnswersEach desk.clean desk.stands old new;
   first = λ lines answers. (mid : D) × (desk.clean new → desk.clean mid) × AnswersEach desk.clean desk.stands old mid lines answers;
+}
+
+-- Both of these are said.
+abbrev pub both : Account → Account → Account
+both one other = record {
+  all = λ lines answers. one.all lines answers × other.all lines answers;
+  first = λ lines answers. one.first lines answers × other.first lines answers;
 }
 
 -- These bytes are the lines' answers, a line for each. This is said of them.

@@ -11,9 +11,9 @@ use Rattle.sqlite.specs.declared.file.Leftover.{Leftover}
 use Rattle.sqlite_disk.specs.declared.Disk.{Ghosts}
 use Rattle.sqlite_wal.specs.Recovery.{Image}
 use Rattle.fr_desks.specs.FileDesk.{Held, IsLeftWith}
-use Rattle.fr_cli.specs.Answering.{Account, AnswersLines, BeginWith, WasCutShort, account_by, account_of}
+use Rattle.fr_cli.specs.Answering.{Account, AnswersLines, BeginWith, WasCutShort, account_by, account_of, both}
 use Rattle.fr_cli.specs.Faults.{IsNotOpened}
-use Rattle.fr_cli.specs.Opened.{IsLeftOf}
+use Rattle.fr_cli.specs.Opened.{IsOver}
 use Rattle.fr_cli.specs.Performing.{of_script}
 use Rattle.fr_cli.specs.Script.{HasNo, max_script, request_lines}
 use Rattle.fr_cli.specs.ScriptFault.{script_fault_of}
@@ -86,10 +86,16 @@ pub record HasAnswered (account : Account) (input left a b : Option (List ℕ)) 
   pub too_long : IsErrOf done TooLong → IfSome input (λ bytes. (max_script < length bytes) ⊎ HasLongLine bytes)
   pub faults : IfErr done (λ fault. (fault ≡ WriteFailed) ⊎ ((fault ≡ Unavailable) ⊎ ((of : InputFault) × (fault ≡ script_fault_of of))))
 
+-- What is said of lines that were answered over a file. As long as nobody else wrote to it, they were answered from the book that it held, and what is
+-- left holds the book after them. And there was a register behind each line, from the first one to the last.
+abbrev pub account_over : {D R : Type 0} {g : Ghosts D} → Desk.Ghosts R → Image → Leftover D g → R → R → Account
+account_over desk file last old new = both (account_of (IsCleanLeft last) (Held file) (IsLeftWith last)) (account_by desk old new)
+
 -- The register was not opened, and nothing was read or written; or its file, which held a register, was opened and closed, and the
--- input's requests were answered: as long as nobody else wrote to the file, from the book that it held, and what is left holds the book after them.
-abbrev pub IsAsked : {D : Type 0} {g : Ghosts D} → Image → Option (Leftover D g) → Option (List ℕ) → Option (List ℕ) → Option (List ℕ) → Option (List ℕ) → Result ⊤ Fault → Type 0
-IsAsked {D} {g} file rest input left a b done =
+-- input's requests were answered: as long as nobody else wrote to the file, from the book that it held, and what is left holds the book after them. From
+-- the register that was opened over the file to the one that was closed there was one behind each line.
+unfoldable pub IsAsked : {D R : Type 0} {g : Ghosts D} → Desk.Ghosts R → Image → Option (Leftover D g) → Option (List ℕ) → Option (List ℕ) → Option (List ℕ) → Option (List ℕ) → Result ⊤ Fault → Type 0
+IsAsked {D} {R} {g} desk file rest input left a b done =
     ((fault : Fault) × (done ≡ Err fault) × IsNotOpened file rest fault × Keeps input left × Keeps a b)
-    ⊎ ((asked : Result ⊤ ScriptFault) × (last : Leftover D g) × IsLeftOf file rest last × (done ≡ of_script asked) × OnOk asked (IsAtEnd left)
-    × HasAnswered (account_of (IsCleanLeft last) (Held file) (IsLeftWith last)) input left a b asked)
+    ⊎ ((asked : Result ⊤ ScriptFault) × (last : Leftover D g) × (old : R) × (new : R) × IsOver file rest last (desk.clean new) (desk.stands old) (desk.stands new)
+    × (done ≡ of_script asked) × OnOk asked (IsAtEnd left) × HasAnswered (account_over desk file last old new) input left a b asked)

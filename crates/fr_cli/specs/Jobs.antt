@@ -2,6 +2,7 @@
 use Rattle.std.specs.Prelude.{◌≡◌, ◌≢◌, ℕ, List, codes, IfErr, Option, None, Result, ⊤}
 use Rattle.std.specs.Global.{Vec}
 use Rattle.std.specs.Io.KnownBytes.{Keeps}
+use Rattle.fr_base.specs.declared.desk.Desk as Desk
 use Rattle.fr_picture.specs.Pages.{IsPage}
 use Rattle.sqlite.specs.declared.file.Leftover.{Leftover}
 use Rattle.sqlite_disk.specs.declared.Disk.{Ghosts}
@@ -46,8 +47,9 @@ Ends done s status = (status ≡ status_of done) × Tells s.err.old s.err.new do
 abbrev pub Shows : Result (Vec ℕ) Failure → Streams → ℕ → Type 0
 Shows done s status = IsTold done s.out.old s.out.new s.err.old s.err.new status
 
--- Of a job's register file, what it held and what is left of it; what was read of text files; and the connections that came in.
-module _ {D : Type 0} {g : Ghosts D} (held : Image) (rest : Option (Leftover D g)) (read : Readings) (comings : Comings) where
+-- What is said of a register that is open; what a job's register file held, and what is left of it; what was read of text files; and the connections
+-- that came in.
+module _ {D R : Type 0} {g : Ghosts D} (desk : Desk.Ghosts R) (held : Image) (rest : Option (Leftover D g)) (read : Readings) (comings : Comings) where
   -- a register file was made of the cluster file at this path
   abbrev pub Creates : List ℕ → Streams → ℕ → Type 0
   Creates config s status = (done : Result ⊤ Fault) × IfErr done (IsNotCreated held rest read config) × IsCreated held rest read config done
@@ -62,7 +64,7 @@ module _ {D : Type 0} {g : Ghosts D} (held : Image) (rest : Option (Leftover D g
   abbrev pub Serves : ℕ → ℕ → ℕ → Streams → ℕ → Type 0
   Serves port count seconds s status = (done : Result ⊤ Fault) × (told : Option (List ℕ)) × (status ≡ status_of done)
       × IsAnnounced (comings.heard port) port s.out.old s.out.new done
-      × IsServed held rest port count comings.none (comings.deaf port) (comings.at port seconds) s.out.old s.out.new s.err.old told done
+      × IsServed desk held rest port count comings.none (comings.deaf port) (comings.at port seconds) s.out.old s.out.new s.err.old told done
       × Tells told s.err.new done
 
   -- Standard input stays, and no connection came in.
@@ -70,13 +72,13 @@ module _ {D : Type 0} {g : Ghosts D} (held : Image) (rest : Option (Leftover D g
   Quiet s = Keeps s.input.old s.input.new × comings.none
 
   -- What the job does.
-  abbrev pub IsPerformed : Job → Streams → ℕ → Type 0
+  unfoldable pub IsPerformed : Job → Streams → ℕ → Type 0
   IsPerformed job.Run s status = (done : Result ⊤ ScriptFault) × IsRunOf s.input.old s.input.new s.out.old s.out.new done
       × Ends (of_script done) s status × read.none × comings.none × (rest ≡ None)
   IsPerformed (job.Create db config) s status = Creates config.now s status × Quiet s
   IsPerformed (job.Migrate db) s status = Migrates s status × read.none × Quiet s
   IsPerformed (job.Serve db port count seconds) s status = Serves port count seconds s status × read.none × Keeps s.input.old s.input.new
-  IsPerformed (job.Ask db) s status = (done : Result ⊤ Fault) × IsAsked held rest s.input.old s.input.new s.out.old s.out.new done
+  IsPerformed (job.Ask db) s status = (done : Result ⊤ Fault) × IsAsked desk held rest s.input.old s.input.new s.out.old s.out.new done
       × Ends done s status × read.none × comings.none
   IsPerformed (job.Report db query) s status = (done : Result (Vec ℕ) Failure) × Shows done s status
       × Says (IsNotReported held rest) (IsForReader (IsAnswerOfFile held rest (query_of query))) done × read.none × Quiet s

@@ -26,6 +26,7 @@ pub mod Incoming
 pub mod Guarding
 pub mod Visits
 pub mod Serving
+pub mod Stops
 pub mod Errands
 pub mod Runs
 pub mod Checking

@@ -2,7 +2,7 @@
 -- they are or as a crash leaves them; or, where they failed to close, as where the disk fails from some call on, what an open after a
 -- crash finds in their store. What such jobs ask of the register, and are answered, is a run of it, with one request more at most at
 -- the end of each whose files failed to close; and all of it is as promised. A job that did not open the file asks nothing, and what it leaves
--- holds next what the file held.
+-- holds next what the file held. A job that was stopped behind an answer did the front of its deed.
 use Rattle.std.specs.Prelude.{◌≡◌, ◌≢◌, ◌⊎◌, ℕ, List, [], ◌∷◌, ◌++◌, Option, Some, None, Err, ⊤}
 use Rattle.std.specs.Borrow.{Bor}
 use Rattle.std.specs.declared.io.Read as Read
@@ -17,6 +17,7 @@ use Rattle.fr_base.specs.Book.{Book, opening}
 use Rattle.fr_base.specs.Cluster.{Cluster, ClusterFile}
 use Rattle.fr_base.specs.Sound.{IsSound}
 use Rattle.fr_base.specs.Step.{step}
+use Rattle.fr_base.specs.declared.desk.Desk as Desk
 use Rattle.fr_base.specs.declared.request.Ask.{Ask}
 use Rattle.fr_desks.specs.FileDesk.{Held, IsLeftBy}
 use Rattle.fr_desks.specs.Sessions.{Session}
@@ -74,6 +75,11 @@ abbrev pub LeadsBy : Image → Turn → Image → Type 0
 LeadsBy held turn last = (c : Cluster) (b : Book) → Held held c b → IsSound c b
     → (done : Session) × (book next : Book) × Did c b turn.deed done book × Follows turn.end c book next × Held last c next
 
+-- The same, but of the requests and the books it is only known that there are such.
+abbrev pub LeadsSomehow : Image → Turn → Image → Type 0
+LeadsSomehow held turn last = (c : Cluster) (b : Book) → Held held c b → IsSound c b
+    → ∥ ((done : Session) × (book next : Book) × Did c b turn.deed done book × Follows turn.end c book next × Held last c next) ∥₁
+
 -- The job opens a register's file, to ask the register.
 abbrev pub AsksRegister : Job → Type 0
 AsksRegister (job.Serve db port count seconds) = ⊤
@@ -100,15 +106,15 @@ WasNotOpened {D} {g} held rest comings s status =
     (fault : Fault) × ((rest ≡ None) ⊎ IsNotOpened held rest fault) × Shows (Err (failure.Fault fault)) s status × comings.none
     × ((left : Leftover D g) (next : Image) → rest ≡ Some left → IsClear left fault → IsCleanLeft left → IsNextOf left next → HoldsOn held next)
 
--- While a job was done, these files of text became those, and this listener that one. What is said of a job that was done, and left
--- this of its file.
-module _ {D F R L I O : Type 0} (g : Ghosts D) (texts : TextFiles.Ghosts F R) (reader : Read.Ghosts R)
+-- While a job was done, these files of text became those, and this listener that one. What is said of a register that is open; and of a job that was
+-- done, and left this of its file.
+module _ {D K F R L I O : Type 0} (g : Ghosts D) (desk : Desk.Ghosts K) (texts : TextFiles.Ghosts F R) (reader : Read.Ghosts R)
     (listener : Listener.Ghosts L I O) (from : SourceGhosts I) (to : SinkGhosts O) where
   -- Where a register's file was made, it was of the cluster file that was read at the path, and holds next the book of its new register, which is
   -- sound.
   abbrev pub MadeIsHeld : Type 0
   MadeIsHeld = (held next : Image) (left : Leftover D g) (before after : F) (old new : L) (db config : Bor (List ℕ)) (s : Streams)
-      → IsPerformed held (Some left) (readings texts reader before after) (comings listener from to old new) (job.Create db config) s 0
+      → IsPerformed desk held (Some left) (readings texts reader before after) (comings listener from to old new) (job.Create db config) s 0
       → IsCleanLeft left → IsNextOf left next
       → (f : ClusterFile) × IsClusterAt (readings texts reader before after) config.now f × Held next f.cluster (opening f) × IsSound f.cluster (opening f)
 
@@ -116,7 +122,7 @@ module _ {D F R L I O : Type 0} (g : Ghosts D) (texts : TextFiles.Ghosts F R) (r
   -- that did not open the file, and asked nothing.
   abbrev pub JobLeads : Type 0
   JobLeads = (held : Image) (rest : Option (Leftover D g)) (before after : F) (old new : L) (job : Job) (s : Streams) (status : ℕ)
-      → IsPerformed held rest (readings texts reader before after) (comings listener from to old new) job s status → AsksRegister job
+      → IsPerformed desk held rest (readings texts reader before after) (comings listener from to old new) job s status → AsksRegister job
       → WasNotOpened held rest (comings listener from to old new) s status
       ⊎ ((left : Leftover D g) × (rest ≡ Some left)
       × (deed : Deed) × IsDeedOf (readings texts reader before after) (comings listener from to old new) s status job deed
@@ -158,13 +164,13 @@ JobsAreKept = (held last : Image) (turns : List Turn) → AllLeadBy held turns l
     → (all : Session) × (book : Book) × AreAllBy c b turns all book
     × WereAnswered (λ x. (x ≡ book) × Held last c x) c b all.asks all.answers
 
--- ---- one after another, and some that did not open the file
+-- ---- one after another, and some that were stopped, or did not open the file
 
--- One after another jobs lead from what the file held at first to what it holds at last: each by its turn; or one that did not open the
--- file by none, and each book that the file held it holds next.
+-- One after another jobs lead from what the file held at first to what it holds at last: each by its turn. That of a job that was stopped behind an
+-- answer is the front of its deed, left unclosed. A job that did not open the file leads by none: each book that the file held it holds next.
 abbrev pub AllLeadOn : Image → List (Option Turn) → Image → Type 0
 AllLeadOn held [] last = last ≡ held
-AllLeadOn held (Some turn ∷ jobs) last = (next : Image) × LeadsBy held turn next × AllLeadOn next jobs last
+AllLeadOn held (Some turn ∷ jobs) last = (next : Image) × LeadsSomehow held turn next × AllLeadOn next jobs last
 AllLeadOn held (None ∷ jobs) last = (next : Image) × HoldsOn held next × AllLeadOn next jobs last
 
 -- the turns of jobs
@@ -173,8 +179,8 @@ turns_of [] = []
 turns_of (Some turn ∷ jobs) = turn ∷ turns_of jobs
 turns_of (None ∷ jobs) = turns_of jobs
 
--- From a sound book that the file held at first, it holds at last the one after all requests of the turns, whatever jobs came between
--- them that did not open it; and all was answered as promised.
+-- From a sound book that the file held at first, it holds at last the one after all requests of the turns, whatever jobs were stopped, and whatever jobs
+-- came between them that did not open it; and all was answered as promised.
 abbrev pub AllJobsAreKept : Type 0
 AllJobsAreKept = (held last : Image) (jobs : List (Option Turn)) → AllLeadOn held jobs last
     → (c : Cluster) (b : Book) → Held held c b → IsSound c b

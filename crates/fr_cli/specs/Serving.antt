@@ -10,6 +10,7 @@ use Rattle.sqlite.specs.declared.file.Leftover.{Leftover}
 use Rattle.sqlite_disk.specs.declared.Disk.{Ghosts}
 use Rattle.sqlite_wal.specs.Recovery.{Image}
 use Rattle.fr_base.specs.Book.{Book}
+use Rattle.fr_base.specs.declared.desk.Desk as Desk
 use Rattle.fr_desks.specs.FileDesk.{Held, IsLeftWith}
 use Rattle.fr_http.specs.Connection.{AppendsFront, InSound}
 use Rattle.fr_http.specs.Exchanges.{AreExchanged, Exchange, IsExchange}
@@ -19,7 +20,7 @@ use Rattle.fr_world.specs.Held.{Standing}
 use Rattle.fr_cli.specs.Endings.{word_line}
 use Rattle.fr_cli.specs.Faults.{IsNotOpened, link_word}
 use Rattle.fr_cli.specs.Performing.{listening}
-use Rattle.fr_cli.specs.Opened.{IsLeftOf}
+use Rattle.fr_cli.specs.Opened.{IsOver}
 use Rattle.fr_cli.specs.Visits.{Comings, MayListen, Visit, visit_of}
 use Rattle.fr_cli.specs.declared.fault.Fault.{Fault}
 use Rattle.fr_cli.specs.declared.fault.Fault.TheVariants.{CannotListen, NoMemory, Register, WriteFailed}
@@ -37,8 +38,8 @@ abbrev pub ServesAll : Type 0 → Standing → Standing → List Visit → Type 
 ServesAll clean old new visits =
     clean → InSound old (λ c b. (xs : List Exchange) × (last : Book) × (map visit_of xs ≡ visits) × AreExchanged c b xs last × new c last)
 
--- From the first register to the last there were such exchanges, one after another. Behind each there was a register, that stood for the book after
--- it; and it was clean if the one behind the next exchange was.
+-- From the first register to the last there were such exchanges, one after another. As long as the last register is clean, there was a register behind
+-- each exchange. From a sound book on it stood for the book after that exchange. It was clean if the next one was.
 abbrev pub ServesEach : {D : Type 0} → (D → Type 0) → (D → Standing) → D → D → List Visit → Type 0
 ServesEach clean stands old new [] = new ≡ old
 ServesEach {D} clean stands old new (visit ∷ visits) = (mid : D) × (clean mid → clean old) × ServesOne (clean mid) (stands old) (stands mid) visit
@@ -82,18 +83,23 @@ IsAnnounced listens port a b done =
 abbrev pub Announces : {L R W O : Type 0} → Listener.Ghosts L R W → Write.Ghosts O → Service → L → O → O → Result ⊤ Fault → Type 0
 Announces listener out service first old new done = IsAnnounced (MayListen listener service.port first) service.port (out.contents old) (out.contents new) done
 
+-- What is said of connections that were served over a file. As long as nobody else wrote to it, they were served from the book that it held, and what is
+-- left holds the book after them. And there was a register behind each connection, from the first one to the last.
+abbrev pub ServesOver : {D R : Type 0} {g : Ghosts D} → Desk.Ghosts R → Image → Leftover D g → R → R → List Visit → Type 0
+ServesOver desk file last old new visits = ServesAll (IsCleanLeft last) (Held file) (IsLeftWith last) visits × ServesEach desk.clean desk.stands old new visits
+
 -- The register was not opened, nothing was printed or told, and this stayed as it was; or its file was opened, which held a register, and connections that
--- came in so were served: as long as nobody else wrote to the file, from the book that it held, and what is left holds the book after them. The line that says where
--- the server listens was printed before.
-abbrev pub IsServed : {D : Type 0} {g : Ghosts D} → Image → Option (Leftover D g) → ℕ → ℕ → Type 0 → Type 0 → (List Visit → Type 0)
+-- came in so were served: as long as nobody else wrote to the file, from the book that it held, and what is left holds the book after them. From the register that was
+-- opened over the file to the one that was closed there was one behind each connection. The line that says where the server listens was printed before.
+unfoldable pub IsServed : {D R : Type 0} {g : Ghosts D} → Desk.Ghosts R → Image → Option (Leftover D g) → ℕ → ℕ → Type 0 → Type 0 → (List Visit → Type 0)
     → Option (List ℕ) → Option (List ℕ) → Option (List ℕ) → Option (List ℕ) → Result ⊤ Fault → Type 0
-IsServed {D} {g} file rest port count stayed deaf CameIn out out' a b done =
+IsServed {D} {R} {g} desk file rest port count stayed deaf CameIn out out' a b done =
     ((fault : Fault) × (done ≡ Err fault) × IsNotOpened file rest fault × stayed × Keeps out out' × Keeps a b)
-    ⊎ ((last : Leftover D g) × IsLeftOf file rest last
-    × HasServed (ServesAll (IsCleanLeft last) (Held file) (IsLeftWith last)) count (Appends out out' (listening port)) deaf CameIn a b done)
+    ⊎ ((last : Leftover D g) × (old : R) × (new : R) × IsOver file rest last (desk.clean new) (desk.stands old) (desk.stands new)
+    × HasServed (ServesOver desk file last old new) count (Appends out out' (listening port)) deaf CameIn a b done)
 
 -- The same of a service, with the line that says where the server listens.
-abbrev pub IsServedOver : {D : Type 0} {g : Ghosts D} → Image → Option (Leftover D g) → Service → Comings → Option (List ℕ) → Option (List ℕ) → Option (List ℕ) → Option (List ℕ)
+abbrev pub IsServedOver : {D R : Type 0} {g : Ghosts D} → Desk.Ghosts R → Image → Option (Leftover D g) → Service → Comings → Option (List ℕ) → Option (List ℕ) → Option (List ℕ) → Option (List ℕ)
     → Result ⊤ Fault → Type 0
-IsServedOver file rest service came out out' a b done = IsAnnounced (came.heard service.port) service.port out out' done
-    × IsServed file rest service.port service.count came.none (came.deaf service.port) (came.at service.port service.seconds) out out' a b done
+IsServedOver desk file rest service came out out' a b done = IsAnnounced (came.heard service.port) service.port out out' done
+    × IsServed desk file rest service.port service.count came.none (came.deaf service.port) (came.at service.port service.seconds) out out' a b done

@@ -1,12 +1,17 @@
-//! Requests on standard input, asked of a register: an errand.
+//! Requests on standard input, asked of a register in a file.
+ghost use Rattle.sqlite_wal.specs.Files.{image_at};
+ghost use Rattle.fr_cli.specs.Incoming.{IsAsked};
 
 use crate::fault::{Fault, of_script};
 use crate::guarded::Guarded;
 use crate::incoming::answer_input;
-use crate::over_file::Errand;
+use crate::over_file::{Errand, over_file};
 use crate::script_fault::ScriptFault;
+use fr_base::Desk;
+use fr_desks::{FileDesk, Left};
 use fr_office::Office;
 use fr_world::Records;
+use sqlite::Start;
 use std::io::{Read, Write};
 
 /// The requests on an input, and the output on which they are answered. Where another file stands in the place of the
@@ -25,9 +30,9 @@ impl<I: Read, O: Write> Errand for Asking<'_, I, O> {
 
     type Fault = Fault;
 
-    ghost does = { λ it then clean old new done.
+    ghost does = { λ it then desks desk old new done.
         AnswersInput (I.remaining it.input.now) (I.remaining then.input.now)
-        (O.contents it.out.now) (O.contents then.out.now) clean old new done
+        (O.contents it.out.now) (O.contents then.out.now) desks desk old new done
         × ((then.input.ghost_name ≡ it.input.ghost_name)
         × (then.out.ghost_name ≡ it.out.ghost_name)) };
 
@@ -45,4 +50,20 @@ impl<I: Read, O: Write> Errand for Asking<'_, I, O> {
             Err((fault, office)) => (of_script(Err(ScriptFault::from(fault))), office),
         }
     }
+}
+
+/// Answers the requests on the input of the register in the file at `db`, as [`Asking`] says. Closes the file, and gives what
+/// is left of it. `start` says what the file held as it was opened.
+pub(crate) fn ask<S: Start, I: Read, O: Write>(
+    rt: &HostRuntime,
+    db: &str,
+    start: S,
+    input: &mut I,
+    out: &mut O,
+) -> (Result<(), Fault>, Left<S>)
+    ensures { IsAsked ⟦<FileDesk<S> as Desk>⟧ (image_at S.Start) result.1 (I.remaining input.old)
+        (I.remaining input.new) (O.contents out.old) (O.contents out.new) result.0 }
+{
+    let mut asking = Asking { input, out };
+    over_file(rt, db, start, &mut asking)
 }

@@ -5,9 +5,16 @@ ghost use Rattle.fr_cli.specs.Numbers.{EachNumberIsNamed};
 ghost use Rattle.fr_cli.specs.Laws.{AnsweredLinesAreARun, AvailableAnswersAreSteps, EachFaultIsExplained};
 ghost use Rattle.fr_cli.specs.OutputLaws.{AnsweredLinesAreOne, OutputIsOne};
 ghost use Rattle.fr_cli.specs.Series.{AllJobsAreKept, JobLeads, JobsAreKept, MadeIsHeld};
+ghost use Rattle.fr_cli.specs.Stops.{JobStops};
+ghost use Rattle.fr_office.specs.Crashed.{leaves_of};
 
 use crate::listener::Listener;
 use crate::text_files::TextFiles;
+use fr_base::Desk;
+use fr_office::Office;
+use fr_store::Store;
+use fr_world::Records;
+use sqlite::FileStore;
 use sqlite_disk::Disk;
 
 /// What answered lines ask, each as the book then stood, is a run of the register with their answers.
@@ -43,15 +50,27 @@ pub fn each_fault_is_explained()
 
 /// A register's file that was made, and that is opened next as it is or as a crash left it, holds the book of a new register. That is
 /// the register of the cluster file that was read.
-pub fn made_is_held<D: Disk, F: TextFiles, L: Listener>()
-    ensures { MadeIsHeld D.Disk F.TextFiles F.Reader.Read L.Listener L.Reader.Source L.Writer.Sink }
+pub fn made_is_held<D: Disk, K: Desk, F: TextFiles, L: Listener>()
+    ensures { MadeIsHeld D.Disk K.Desk F.TextFiles F.Reader.Read L.Listener L.Reader.Source
+        L.Writer.Sink }
 {}
 
 /// What a job asked the register of a file, by what the job read and printed, leads from the book that the file held to the one that
 /// it holds next: the book after what was asked, and where the file failed to close at most one request more. Or the job ended as one
 /// that did not open the file, and asked nothing. Then what is left holds next what the file held, where it is clear what is left.
-pub fn job_leads<D: Disk, F: TextFiles, L: Listener>()
-    ensures { JobLeads D.Disk F.TextFiles F.Reader.Read L.Listener L.Reader.Source L.Writer.Sink }
+pub fn job_leads<D: Disk, K: Desk, F: TextFiles, L: Listener>()
+    ensures { JobLeads D.Disk K.Desk F.TextFiles F.Reader.Read L.Listener L.Reader.Source
+        L.Writer.Sink }
+{}
+
+/// Behind each line that a job answered, and each connection that it served, there was a register that stood for the book after it. So
+/// there was before the first. If the program stops there, a crash leaves that book, or the one after one request more. Nobody else may
+/// have written to the file before the job closed it. The job came to its end: that the same holds of one that was stopped is argued.
+/// Or the job did not open the file.
+pub fn job_stops<D: Disk, F: TextFiles, L: Listener>()
+    ensures { JobStops D.Disk ⟦<Office<Store<FileStore<D>>> as Desk>⟧
+        (leaves_of ⟦<Store<FileStore<D>> as Records>⟧.leaves) F.TextFiles F.Reader.Read L.Listener
+        L.Reader.Source L.Writer.Sink }
 {}
 
 /// What jobs did, one after another at one file, with crashes in them and between them, leads from the book that the file held at
@@ -62,7 +81,7 @@ pub fn jobs_are_kept()
 {}
 
 /// So it is also where jobs come before them, between them or behind them that did not open the file: each book that the file held
-/// before such a job it holds next.
+/// before such a job it holds next. And so it is where jobs were stopped behind an answer, as [`job_stops`] says.
 pub fn all_jobs_are_kept()
     ensures { AllJobsAreKept }
 {}

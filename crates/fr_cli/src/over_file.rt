@@ -20,7 +20,8 @@ pub(crate) trait Errand {
     /// Why it is not done.
     type Fault: From<Fault>;
 
-    /// What is done with the register, by the errand as it was before and as it is behind that.
+    /// What is done with the register, by the errand as it was before and as it is behind that. It is said of registers, and not of
+    /// their books alone, so that it can name the one behind each answer.
     ghost does: { Self → Self → Doing Self.Done Self.Fault };
 
     /// Does it with the register, whose file is at `db`, and gives the register back.
@@ -31,8 +32,7 @@ pub(crate) trait Errand {
         office: Office<R>,
     ) -> (Result<Self::Done, Self::Fault>, Office<R>)
         ensures falls { ⟦<Office<R> as Desk>⟧.clean result.1 → ⟦<Office<R> as Desk>⟧.clean office }
-        ensures does { let it = ⟦<Office<R> as Desk>⟧ in does self.old self.new
-            (it.clean result.1) (it.stands office) (it.stands result.1) result.0 };
+        ensures does { does self.old self.new _ ⟦<Office<R> as Desk>⟧ office result.1 result.0 };
 }
 
 /// Opens the register in the file at `db`, does the errand with it and closes it. Gives what is left of the file beside what
@@ -43,8 +43,7 @@ pub(crate) fn over_file<S: Start, E: Errand>(
     start: S,
     errand: &mut E,
 ) -> (Result<E::Done, E::Fault>, Left<S>)
-    ensures { let it = ⟦<FileDesk<S> as Desk>⟧ in
-        IsDoneOver (image_at S.Start) result.1 it.clean it.stands E.Fault.from_gives
+    ensures { IsDoneOver (image_at S.Start) result.1 ⟦<FileDesk<S> as Desk>⟧ E.Fault.from_gives
         (errand.new ≡ errand.old) (E.does errand.old errand.new) result.0 }
 {
     match file_desk::open(rt, db, start) {

@@ -13,7 +13,7 @@ ghost use Rattle.fr_cli.specs.Visits.{comings};
 ghost use Rattle.fr_http.specs.Connection.{AppendsFront};
 ghost use Rattle.fr_cli.specs.declared.script_fault.ScriptFault.{ScriptFault as Early};
 
-use crate::asked_file::Asking;
+use crate::asked_file::ask;
 use crate::checking::check;
 use crate::creating::create;
 use crate::delivered_file::deliver_file;
@@ -27,7 +27,8 @@ use crate::serving::{Service, serve};
 use crate::telling::Telling;
 use crate::text_files::TextFiles;
 use crate::words::{Job, WordFault};
-use fr_desks::{Left, file_desk};
+use fr_base::Desk;
+use fr_desks::{FileDesk, Left, file_desk};
 use fr_text::Output;
 use sqlite::Start;
 use std::alloc::Global;
@@ -48,7 +49,7 @@ pub fn perform<S: Start, F: TextFiles, R: Read, O: Write, E: Write, L: Listener>
     err: &mut E,
     listener: &mut L,
 ) -> (u8, Left<S>)
-    ensures { IsPerformed (image_at S.Start) result.1
+    ensures { IsPerformed ⟦<FileDesk<S> as Desk>⟧ (image_at S.Start) result.1
         (readings F.TextFiles F.Reader.Read files.old files.new)
         (comings L.Listener L.Reader.Source L.Writer.Sink listener.old listener.new) job.now record {
           input = record { old = R.remaining input.old; new = R.remaining input.new };
@@ -81,7 +82,7 @@ pub fn perform<S: Start, F: TextFiles, R: Read, O: Write, E: Write, L: Listener>
             (end(done, err), left)
         }
         Job::Ask { db } => {
-            let (done, left) = over_file(rt, db, start, &mut Asking { input, out });
+            let (done, left) = ask(rt, db, start, input, out);
             (end(done, err), left)
         }
         Job::Report { db, query } => {

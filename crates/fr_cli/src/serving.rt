@@ -16,7 +16,7 @@ use crate::listener::Listener;
 use crate::over_file::{Errand, over_file};
 use crate::printing::{print, print_word};
 use fr_base::Desk;
-use fr_desks::Left;
+use fr_desks::{FileDesk, Left};
 use fr_http::{LinkFault, Served, Source, serve_one};
 use fr_office::Office;
 use fr_store::StoreFault;
@@ -66,10 +66,10 @@ where
 
     type Fault = Fault;
 
-    ghost does = { λ it then clean old new done. ServesConnections it.service
+    ghost does = { λ it then desks desk old new done. ServesConnections it.service
         (comings L.Listener R.Source W.Sink it.listener.now then.listener.now)
         (O.contents it.out.now) (O.contents then.out.now)
-        (E.contents it.err.now) (E.contents then.err.now) clean old new done
+        (E.contents it.err.now) (E.contents then.err.now) desks desk old new done
         × ((then.listener.ghost_name ≡ it.listener.ghost_name)
         × ((then.out.ghost_name ≡ it.out.ghost_name)
         × (then.err.ghost_name ≡ it.err.ghost_name))) };
@@ -109,7 +109,7 @@ pub(crate) fn serve<S: Start, L: Listener, O: Write, E: Write>(
     err: &mut E,
 ) -> (Result<(), Fault>, Left<S>)
     ensures { let came = comings L.Listener L.Reader.Source L.Writer.Sink listener.old listener.new in
-        IsServedOver (image_at S.Start) result.1 service came (O.contents out.old)
+        IsServedOver ⟦<FileDesk<S> as Desk>⟧ (image_at S.Start) result.1 service came (O.contents out.old)
         (O.contents out.new) (E.contents err.old) (E.contents err.new) result.0 }
 {
     let mut serving = Serving {

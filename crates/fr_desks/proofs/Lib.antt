@@ -1,3 +1,3 @@
 mod RefusedFiles
-mod FileDeskLemmas
+pub mod FileDeskLemmas
 mod SessionLaws

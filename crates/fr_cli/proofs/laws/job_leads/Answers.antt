@@ -8,4 +8,4 @@ pub returns : goal.returns
 returns g c = λ held rest before after old new j s status did asks.
     let read = readings g.F.TextFiles g.F.Reader.Read before after in
     let came = comings g.L.Listener (source g.L.Reader.Read g.L.Reader.Source) (sink g.L.Writer.Write g.L.Writer.Sink) old new in
-    job_leads held rest read came s status j did asks
+    job_leads g.K.Desk held rest read came s status j did asks

@@ -8,4 +8,4 @@ pub returns : goal.returns
 returns g c = λ held next rest before after old new db config s did is opened.
     let read = readings g.F.TextFiles g.F.Reader.Read before after in
     let came = comings g.L.Listener (source g.L.Reader.Read g.L.Reader.Source) (sink g.L.Writer.Write g.L.Writer.Sink) old new in
-    made_is_held held next rest read came db config s did is opened
+    made_is_held g.K.Desk held next rest read came db config s did is opened

@@ -1,12 +1,12 @@
 use Rattle.std.proofs.Common.{Err, refl}
-use Rattle.fr_office.specs.Crashed.{StandsKept}
-use Rattle.fr_cli.proofs.AnsweringLaws.{each_told}
+use Rattle.fr_cli.proofs.AnsweringLaws.{told_guarded}
 use Rattle.fr_cli.proofs.IncomingLaws.{answered_told, asked_none}
+use Rattle.fr_cli.specs.Guarding.{office_of}
 use Rattle.fr_cli.proofs.asked_file.AskingErrand.carry_out.Goals as goal
 
 pub returns-in-Ok-clause-does : goal.returns-in-Ok-clause-does
 returns-in-Ok-clause-does g c =
-    let answered = answered_told _ _ _ _ _ _ _ (each_told _ _ _) c.answer_input-asked.ensures.answered in
+    let answered = answered_told _ _ _ _ _ _ _ (told_guarded _ office_of _ _) c.answer_input-asked.ensures.answered in
     rw (c.into_office.ensures, ← c.in-Ok.ensures.ok) (
       (c.answer_input-asked.result, c.of_script.ensures, c.answer_input-asked.ensures.end, answered),
       (refl, refl),
@@ -14,7 +14,6 @@ returns-in-Ok-clause-does g c =
 
 pub returns-in-Err-clause-does : goal.returns-in-Err-clause-does
 returns-in-Err-clause-does g c =
-    let stands = StandsKept g.R.Records.stands g.R.Records.leaves c.args.office in
     let input = g.I.Read.remaining c.args.self.now.input.now in
-    let none = asked_none (g.R.Records.clean c.args.office.records) stands input (g.O.Write.contents c.args.self.now.out.now) c.in-Err.fault c.from.result c.from.ensures in
+    let none = asked_none _ c.args.office input (g.O.Write.contents c.args.self.now.out.now) c.in-Err.fault c.from.result c.from.ensures in
     rw (c.in-Err.ensures.err) ((Err c.from.result, c.of_script-in-Err.ensures, tt, none), (refl, refl))
