@@ -1,5 +1,5 @@
 //! A request checked by itself, before any register is asked: checked values, or the first refusal.
-ghost use Rattle.std.specs.Prelude.{◌≡◌, ◌&&◌, ℕ, List, not};
+ghost use Rattle.std.specs.Prelude.{◌≡◌, ◌&&◌, ℕ, List, true, false, not};
 ghost use Rattle.std.specs.List.{list_all};
 ghost use Rattle.fr_base.specs.Channels.{channels_in, has_channel};
 ghost use Rattle.fr_base.specs.Refusing.{refuse◌when◌};
@@ -71,7 +71,7 @@ pub fn check<'a>(
         } => {
             let channels = channels.as_str().as_bytes();
             let placed = placement(params, *slot, channels, *base, *repetition);
-            place(actor, variant, frame, placed)
+            placing(actor, variant, frame, placed, false)
         }
         Request::Unplace {
             variant,
@@ -83,7 +83,7 @@ pub fn check<'a>(
         } => {
             let channels = channels.as_str().as_bytes();
             let placed = placement(params, *slot, channels, *base, *repetition);
-            unplace(actor, variant, frame, placed)
+            placing(actor, variant, frame, placed, true)
         }
         Request::AddSignal {
             variant,
@@ -229,40 +229,33 @@ fn drop_frame(actor: &Actor, variant: &Text, frame: &Text) -> Result<Checked<'st
     Ok(of_frame(supplier, variant, frame, FrameChange::Drop))
 }
 
-// Checks the request for a placement of a frame. `placed` is the placement that its slot, channels,
-// base and repetition make, or why they make none. A refusal by the supplier, the variant or the
-// frame comes before that.
+// Checks the request for a placement of a frame, or, where it `ends`, the request to take one back.
+// `placed` is the placement that its slot, channels, base and repetition make, or why they make none.
+// A refusal by the supplier, the variant or the frame comes before that.
 #[tactic(auto, unfolding(crate::proofs::ChecksLemmas::frames_open))]
-fn place(
+fn placing(
     actor: &Actor,
     variant: &Text,
     frame: &Text,
     placed: Result<Placement, Refusal>,
+    ends: bool,
 ) -> Result<Checked<'static>, Refusal>
-    ensures { (p : Params) (n : ℕ) (text : List ℕ) (base : ℕ) (repetition : ℕ)
-        → placed ≡ placement p n text base repetition
+    ensures made { (p : Params) (n : ℕ) (text : List ℕ) (base : ℕ) (repetition : ℕ)
+        → ends ≡ false → placed ≡ placement p n text base repetition
         → result ≡ check p actor.now (request.Place variant.now frame.now n text base repetition) }
-{
-    let (supplier, variant, frame) = (asking(actor)?, name(variant)?, name(frame)?);
-    Ok(of_frame(supplier, variant, frame, FrameChange::Place(placed?)))
-}
-
-// Checks the request to take a placement of a frame back. `placed` is as in `place`, and its refusal
-// comes as late.
-#[tactic(auto, unfolding(crate::proofs::ChecksLemmas::frames_open))]
-fn unplace(
-    actor: &Actor,
-    variant: &Text,
-    frame: &Text,
-    placed: Result<Placement, Refusal>,
-) -> Result<Checked<'static>, Refusal>
-    ensures { (p : Params) (n : ℕ) (text : List ℕ) (base : ℕ) (repetition : ℕ)
-        → placed ≡ placement p n text base repetition
+    ensures ended { (p : Params) (n : ℕ) (text : List ℕ) (base : ℕ) (repetition : ℕ)
+        → ends ≡ true → placed ≡ placement p n text base repetition
         → result ≡ check p actor.now
         (request.Unplace variant.now frame.now n text base repetition) }
 {
     let (supplier, variant, frame) = (asking(actor)?, name(variant)?, name(frame)?);
-    Ok(of_frame(supplier, variant, frame, FrameChange::Unplace(placed?)))
+    let placement = placed?;
+    let change = if ends {
+        FrameChange::Unplace(placement)
+    } else {
+        FrameChange::Place(placement)
+    };
+    Ok(of_frame(supplier, variant, frame, change))
 }
 
 #[tactic(auto, unfolding(crate::proofs::ChecksLemmas::checks_open))]

@@ -9,7 +9,7 @@ use Rattle.fr_base.specs.declared.query.Query.TheVariants.{Register as OfRegiste
 use Rattle.fr_base.specs.declared.report.Report.TheVariants.{Grants, Frames, Schedule, Gaps, Layout, Load, Room, Export}
 use Rattle.fr_base.specs.declared.import.Header.TheVariants as header
 use Rattle.fr_text.specs.Fields.{value_of, text, text_or_null, flag, whole, only, is_among}
-use Rattle.fr_text.specs.RequestText.{open_variant, release, add_supplier, set_key, add_node, grant, revoke, add_frame, drop_frame, place, unplace, add_signal, drop_signal, import, trial, replace, inventory, report, layout, room, export, difference, readers, request_in, request_of}
+use Rattle.fr_text.specs.RequestText.{open_variant, release, add_supplier, set_key, add_node, grant, revoke, add_frame, drop_frame, placing, add_signal, drop_signal, import, trial, replace, inventory, report, layout, room, export, difference, readers, request_in, request_of}
 use Rattle.fr_text.specs.Laws.{fields_of, numbers_of, WrittenIsReadBack}
 
 -- what two tests say that both pass
@@ -19,7 +19,7 @@ both false y h = cc
 
 -- the fields of a request are read as it
 pub fields_read : (r : Request) → IsTrue (list_all (λ n. nat_lt n (2 ^ 32)) (numbers_of r)) → request_in (fields_of r) ≡ Some r
-unfolding request_in readers open_variant release add_supplier set_key add_node grant revoke add_frame drop_frame place unplace add_signal drop_signal import trial replace inventory report layout room export difference fields_of text text_or_null flag whole only is_among
+unfolding request_in readers open_variant release add_supplier set_key add_node grant revoke add_frame drop_frame placing add_signal drop_signal import trial replace inventory report layout room export difference fields_of text text_or_null flag whole only is_among
 fields_read (OpenVariant v None) fit = refl
 fields_read (OpenVariant v (Some parent)) fit = refl
 fields_read (Release v) fit = refl

@@ -89,8 +89,9 @@ drop_frame fields = do
   frame ← text (codes "frame") fields
   Some (DropFrame variant frame)
 
-unfoldable pub place : Members → Option Request
-place fields = do
+-- a request that makes a placement, or one that takes a placement back: both have these fields
+unfoldable pub placing : (List ℕ → List ℕ → ℕ → List ℕ → ℕ → ℕ → Request) → Members → Option Request
+placing request fields = do
   provided (only (codes "do" ∷ codes "variant" ∷ codes "frame" ∷ codes "slot" ∷ codes "channels" ∷ codes "base" ∷ codes "repetition" ∷ []) fields)
   variant ← text (codes "variant") fields
   frame ← text (codes "frame") fields
@@ -98,18 +99,7 @@ place fields = do
   channels ← text (codes "channels") fields
   base ← whole (codes "base") fields
   repetition ← whole (codes "repetition") fields
-  Some (Place variant frame slot channels base repetition)
-
-unfoldable pub unplace : Members → Option Request
-unplace fields = do
-  provided (only (codes "do" ∷ codes "variant" ∷ codes "frame" ∷ codes "slot" ∷ codes "channels" ∷ codes "base" ∷ codes "repetition" ∷ []) fields)
-  variant ← text (codes "variant") fields
-  frame ← text (codes "frame") fields
-  slot ← whole (codes "slot") fields
-  channels ← text (codes "channels") fields
-  base ← whole (codes "base") fields
-  repetition ← whole (codes "repetition") fields
-  Some (Unplace variant frame slot channels base repetition)
+  Some (request variant frame slot channels base repetition)
 
 unfoldable pub add_signal : Members → Option Request
 add_signal fields = do
@@ -215,8 +205,8 @@ readers =
     ∷ (codes "revoke", revoke)
     ∷ (codes "add_frame", add_frame)
     ∷ (codes "drop_frame", drop_frame)
-    ∷ (codes "place", place)
-    ∷ (codes "unplace", unplace)
+    ∷ (codes "place", placing Place)
+    ∷ (codes "unplace", placing Unplace)
     ∷ (codes "add_signal", add_signal)
     ∷ (codes "drop_signal", drop_signal)
     ∷ (codes "import", import)

@@ -1,21 +1,12 @@
 //! Reads the requests that a supplier gives.
+ghost use Rattle.std.specs.Prelude.{if◌then◌else◌};
+ghost use Rattle.fr_base.specs.declared.request.Request.TheVariants as request;
 ghost use Rattle.fr_text.specs.Fields.{fields_in, Reads};
-ghost use Rattle.fr_text.specs.RequestText.{add_frame, drop_frame, place, unplace, add_signal, drop_signal, import, trial, replace};
+ghost use Rattle.fr_text.specs.RequestText.{add_frame, drop_frame, placing, add_signal, drop_signal, import, trial, replace};
 
 use crate::fields::{Fields, allow_only, copy_text, flag_in, number_in, text_in};
 use fr_base::{Body, Refusal, Request};
 use std::alloc::Global;
-
-// The fields of a request that makes a placement, or ends one.
-const PLACEMENT: &[&str] = &[
-    "do",
-    "variant",
-    "frame",
-    "slot",
-    "channels",
-    "base",
-    "repetition",
-];
 
 #[tactic(auto, unfolding(crate::specs::RequestText::add_frame))]
 pub(super) fn add_frame(alloc: Global, fields: &Fields) -> Result<Request, Refusal>
@@ -40,33 +31,48 @@ pub(super) fn drop_frame(alloc: Global, fields: &Fields) -> Result<Request, Refu
     })
 }
 
-#[tactic(auto, unfolding(crate::specs::RequestText::place))]
-pub(super) fn place(alloc: Global, fields: &Fields) -> Result<Request, Refusal>
-    ensures { Reads (λ request. request) (place (fields_in fields.now)) result }
+// Reads the request that makes a placement, or, where it `ends`, the one that takes a placement back.
+#[tactic(auto, unfolding(crate::specs::RequestText::placing))]
+pub(super) fn placing(alloc: Global, fields: &Fields, ends: bool) -> Result<Request, Refusal>
+    ensures { Reads (λ request. request)
+        (placing (if ends then request.Unplace else request.Place) (fields_in fields.now)) result }
 {
-    allow_only(fields, PLACEMENT)?;
-    Ok(Request::Place {
-        variant: copy_text(alloc, fields, "variant")?,
-        frame: copy_text(alloc, fields, "frame")?,
-        slot: number_in(fields, "slot")?,
-        channels: copy_text(alloc, fields, "channels")?,
-        base: number_in(fields, "base")?,
-        repetition: number_in(fields, "repetition")?,
-    })
-}
-
-#[tactic(auto, unfolding(crate::specs::RequestText::unplace))]
-pub(super) fn unplace(alloc: Global, fields: &Fields) -> Result<Request, Refusal>
-    ensures { Reads (λ request. request) (unplace (fields_in fields.now)) result }
-{
-    allow_only(fields, PLACEMENT)?;
-    Ok(Request::Unplace {
-        variant: copy_text(alloc, fields, "variant")?,
-        frame: copy_text(alloc, fields, "frame")?,
-        slot: number_in(fields, "slot")?,
-        channels: copy_text(alloc, fields, "channels")?,
-        base: number_in(fields, "base")?,
-        repetition: number_in(fields, "repetition")?,
+    allow_only(
+        fields,
+        &[
+            "do",
+            "variant",
+            "frame",
+            "slot",
+            "channels",
+            "base",
+            "repetition",
+        ],
+    )?;
+    let variant = copy_text(alloc, fields, "variant")?;
+    let frame = copy_text(alloc, fields, "frame")?;
+    let slot = number_in(fields, "slot")?;
+    let channels = copy_text(alloc, fields, "channels")?;
+    let base = number_in(fields, "base")?;
+    let repetition = number_in(fields, "repetition")?;
+    Ok(if ends {
+        Request::Unplace {
+            variant,
+            frame,
+            slot,
+            channels,
+            base,
+            repetition,
+        }
+    } else {
+        Request::Place {
+            variant,
+            frame,
+            slot,
+            channels,
+            base,
+            repetition,
+        }
     })
 }
 
