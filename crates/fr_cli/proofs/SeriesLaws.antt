@@ -11,7 +11,7 @@ use Rattle.fr_base.specs.declared.refusal.Refusal.{Refusal}
 use Rattle.fr_base.specs.declared.request.Ask.{Ask}
 use Rattle.fr_desks.specs.FileDesk.{Held}
 use Rattle.fr_desks.specs.Sessions.{Session}
-use Rattle.fr_http.specs.Exchanges.{Answered, AreExchanged, Asks, Dealing, Drawn, Exchange}
+use Rattle.fr_http.specs.Exchanges.{Answered, AreExchanged, Asks, Dealing, Drawn, Exchanged}
 use Rattle.fr_office.specs.Headline.{WereAnswered}
 use Rattle.fr_office.proofs.RunLaws.{runs_joined, were_answered}
 use Rattle.fr_cli.specs.Deeds.{Asked, Deed, Did, Drawn as DrawnBy, Lines, Visits, WasLeft, WasReplied, asks_at, asks_by, session_of}
@@ -36,13 +36,13 @@ replied_run c b last (Ok ask) answer done (replied, these) = subst (λ s. Runs c
 replied_run c b last (Err refusal) answer done (replied, these) = subst (λ s. Runs c b s last) (sym these) replied.1
 
 -- what a connection asked, before others
-dealt_run : (c : Cluster) (b next last : Book) (x : Exchange) (asked : Option Dealing) (rest : List (Ask × Answer)) → Asks c b x asked next
+dealt_run : (c : Cluster) (b next last : Book) (x : Exchanged) (asked : Option Dealing) (rest : List (Ask × Answer)) → Asks c b x asked next
     → Runs c next (session_of rest) last → Runs c b (session_of (asks_at asked ++ rest)) last
 dealt_run c b next last x (Some (Answered ask method answer)) rest is run = runs_joined c b next last (ask ∷ []) (session_of rest).asks (answer ∷ []) (session_of rest).answers is.deals run
 dealt_run c b next last x (Some (Drawn reader variant drawn)) rest is run = subst (λ d. Runs c d (session_of rest) last) is.deals.0 run
 dealt_run c b next last x None rest is run = subst (λ d. Runs c d (session_of rest) last) is.0 run
 
-exchanges_run : (c : Cluster) (b last : Book) (xs : List Exchange) → AreExchanged c b xs last → Runs c b (session_of (asks_by xs)) last
+exchanges_run : (c : Cluster) (b last : Book) (xs : List Exchanged) → AreExchanged c b xs last → Runs c b (session_of (asks_by xs)) last
 exchanges_run c b last [] same = same
 exchanges_run c b last (x ∷ xs) are = dealt_run c b are.0 last x x.asked (asks_by xs) are.1.1 (exchanges_run c are.0 last xs are.2)
 

@@ -10,7 +10,7 @@ use Rattle.fr_base.specs.declared.answer.Answer.{Answer}
 use Rattle.fr_base.specs.declared.refusal.Refusal.{Refusal}
 use Rattle.fr_base.specs.declared.request.Ask.{Ask}
 use Rattle.fr_desks.specs.Sessions.{Session}
-use Rattle.fr_http.specs.Exchanges.{Answered, AreExchanged, Dealing, Exchange}
+use Rattle.fr_http.specs.Exchanges.{Answered, AreExchanged, Dealing, Exchanged}
 use Rattle.fr_picture.specs.Pages.{IsPage}
 use Rattle.fr_picture.specs.declared.plan.Plan.{Plan}
 use Rattle.fr_cli.specs.Answering.{EndsAnswer}
@@ -55,7 +55,7 @@ asks_at (Some (Answered ask method answer)) = (ask, answer) ∷ []
 asks_at _ = []
 
 -- what connections asked, in order and each with its answer
-abbrev pub asks_by : List Exchange → List (Ask × Answer)
+abbrev pub asks_by : List Exchanged → List (Ask × Answer)
 asks_by [] = []
 asks_by (x ∷ xs) = asks_at x.asked ++ asks_by xs
 
@@ -70,7 +70,7 @@ WasLeft b done last = (last ≡ b) × (done ≡ session_of [])
 -- From this book the deed asks this and is answered so, if it asks anything, and the last book is the one after that.
 abbrev pub Did : Cluster → Book → Deed → Session → Book → Type 0
 Did c b (Lines lines answers) done last = AreAnswered c b lines answers last × (done ≡ session_of (asks_in c b lines answers))
-Did c b (Visits visits) done last = (xs : List Exchange) × (map visit_of xs ≡ visits) × AreExchanged c b xs last × (done ≡ session_of (asks_by xs))
+Did c b (Visits visits) done last = (xs : List Exchanged) × (map visit_of xs ≡ visits) × AreExchanged c b xs last × (done ≡ session_of (asks_by xs))
 Did c b (Asked asks (Some answer)) done last = WasReplied c b (asks c b) answer done last
 Did c b (Asked asks None) done last = WasLeft b done last ⊎ ((answer : Answer) × WasReplied c b (asks c b) answer done last)
 Did c b (Drawn reader variant (Some drawn)) done last = plans_for reader variant c b drawn × WasLeft b done last

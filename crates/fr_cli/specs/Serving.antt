@@ -13,7 +13,7 @@ use Rattle.fr_base.specs.Book.{Book}
 use Rattle.fr_base.specs.declared.desk.Desk as Desk
 use Rattle.fr_desks.specs.FileDesk.{Held, IsLeftWith}
 use Rattle.fr_http.specs.Connection.{AppendsFront, InSound}
-use Rattle.fr_http.specs.Exchanges.{AreExchanged, Exchange, IsExchange}
+use Rattle.fr_http.specs.Exchanges.{AreExchanged, Exchanged, IsExchange}
 use Rattle.fr_http.specs.declared.fault.LinkFault.{LinkFault}
 use Rattle.fr_http.specs.declared.serve.Served.{Served}
 use Rattle.fr_world.specs.Held.{Standing}
@@ -31,12 +31,12 @@ use Rattle.fr_store.specs.declared.fault.StoreFault.TheVariants.{Unavailable}
 -- In each sound book for which the register stood, as long as it is clean, there was an exchange with exactly these bytes, which ended so, and
 -- the register stands for the book after it.
 abbrev pub ServesOne : Type 0 → Standing → Standing → Visit → Type 0
-ServesOne clean old new visit = clean → InSound old (λ c b. (x : Exchange) × (last : Book) × (visit_of x ≡ visit) × IsExchange c b x last × new c last)
+ServesOne clean old new visit = clean → InSound old (λ c b. (x : Exchanged) × (last : Book) × (visit_of x ≡ visit) × IsExchange c b x last × new c last)
 
 -- There were such exchanges, one after another.
 abbrev pub ServesAll : Type 0 → Standing → Standing → List Visit → Type 0
 ServesAll clean old new visits =
-    clean → InSound old (λ c b. (xs : List Exchange) × (last : Book) × (map visit_of xs ≡ visits) × AreExchanged c b xs last × new c last)
+    clean → InSound old (λ c b. (xs : List Exchanged) × (last : Book) × (map visit_of xs ≡ visits) × AreExchanged c b xs last × new c last)
 
 -- From the first register to the last there were such exchanges, one after another. As long as the last register is clean, there was a register behind
 -- each exchange. From a sound book on it stood for the book after that exchange. It was clean if the next one was.

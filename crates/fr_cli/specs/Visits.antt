@@ -5,7 +5,7 @@ use Rattle.std.specs.Io.KnownBytes.{Appends, Consumes, IsAtEnd}
 use Rattle.std.specs.declared.io.Error.{Error}
 use Rattle.fr_base.specs.declared.actor.Actor.{Actor}
 use Rattle.fr_http.specs.Connection.{ReadsNoMore, WasFlushed, is_silent}
-use Rattle.fr_http.specs.Exchanges.{Exchange, IsInterim}
+use Rattle.fr_http.specs.Exchanges.{Exchanged, IsInterim}
 use Rattle.fr_http.specs.Outcome.{IsOutcome}
 use Rattle.fr_http.specs.Reads.{IsReadWithin, Reads}
 use Rattle.fr_http.specs.declared.fault.LinkFault.{LinkFault}
@@ -22,7 +22,7 @@ pub record Visit : Type 0 where
   pub done : Result Served LinkFault
 
 -- what the ends of the connection tell of an exchange
-abbrev pub visit_of : Exchange → Visit
+abbrev pub visit_of : Exchanged → Visit
 visit_of x = record { read = x.read; written = x.written; done = x.done }
 
 -- what is said of a source: the bytes that it has left, and how a read may go

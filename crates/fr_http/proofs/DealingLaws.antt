@@ -19,7 +19,7 @@ use Rattle.fr_picture.specs.declared.plan.Plan.{Plan}
 use Rattle.fr_http.specs.Connection.{HasDealt, HasDrawn}
 use Rattle.fr_http.specs.Exchanges.{Answered, Drawn}
 use Rattle.fr_http.specs.Reply.{answer_reply, page_reply}
-use Rattle.fr_http.specs.declared.asking.Demand.TheVariants as demand
+use Rattle.fr_http.specs.declared.asking.Exchange.TheVariants as exchange
 use Rattle.fr_http.specs.declared.method.Method.{Method}
 use Rattle.fr_http.specs.declared.method.Method.TheVariants.{Get}
 
@@ -27,7 +27,7 @@ module _ (clean : Type 0) (old new : Standing) where
   -- a request was answered
   pub request_dealt : (ask : Ask) (method : Method) (answer : Answer)
       → (clean → (c : Cluster) (b : Book) → old c b → IsSound c b → (last : Book) × new c last × IsRun c b (ask ∷ []) (answer ∷ []) last)
-      → HasDealt clean old new (demand.Request ask method) (answer_reply method answer)
+      → HasDealt clean old new (exchange.Request ask method) (answer_reply method answer)
   request_dealt ask method answer answered = record {
     dealing = Answered ask method answer;
     is_asked = refl;
@@ -37,7 +37,7 @@ module _ (clean : Type 0) (old new : Standing) where
 
   module _ (reader : Actor) (variant : List ℕ) where
     -- a plan was drawn
-    pub page_dealt : (page : Vec ℕ) → HasDrawn reader variant clean old new (Ok page) → HasDealt clean old new (demand.Picture reader variant) (page_reply page.items)
+    pub page_dealt : (page : Vec ℕ) → HasDrawn reader variant clean old new (Ok page) → HasDealt clean old new (exchange.Picture reader variant) (page_reply page.items)
     page_dealt page (Ok plan, is, drawn) = record {
       dealing = Drawn reader variant (Ok plan);
       is_asked = refl;
@@ -48,7 +48,7 @@ module _ (clean : Type 0) (old new : Standing) where
 
     -- there was no plan
     pub refusal_dealt : (refusal : Refusal) → HasDrawn reader variant clean old new (Err refusal)
-        → HasDealt clean old new (demand.Picture reader variant) (answer_reply Get (answer.Refused refusal))
+        → HasDealt clean old new (exchange.Picture reader variant) (answer_reply Get (answer.Refused refusal))
     refusal_dealt refusal (Ok plan, is, drawn) = absurd is
     refusal_dealt refusal (Err same, is, drawn) =
         let e : same ≡ refusal = cc in

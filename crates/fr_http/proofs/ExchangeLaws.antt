@@ -15,12 +15,12 @@ use Rattle.fr_base.specs.declared.refusal.Refusal.TheVariants.{BadText, UnknownK
 use Rattle.fr_base.specs.declared.request.Ask.{Ask}
 use Rattle.fr_base.proofs.SoundSteps.{step-sound}
 use Rattle.fr_base.proofs.AloneSteps.{step-alone, step-not_mine}
-use Rattle.fr_http.specs.Exchanges.{AreExchanged, Answered, Asks, Deals, Dealing, Drawn, Exchange, IsReplied, IsUnasked, asked_in, is_own, own_exchanges}
+use Rattle.fr_http.specs.Exchanges.{AreExchanged, Answered, Asks, Deals, Dealing, Drawn, Exchanged, IsReplied, IsUnasked, asked_in, is_own, own_exchanges}
 use Rattle.fr_http.specs.Head.{HeadData, key_of, said}
 use Rattle.fr_http.specs.Outcome.{IsOutcome, asked_by, by_engine, front, holder, outcome_of, plan_of}
 use Rattle.fr_http.specs.Routes.{matter_by, method_of, path_of}
-use Rattle.fr_http.specs.declared.asking.Demand.{Demand}
-use Rattle.fr_http.specs.declared.asking.Demand.TheVariants as demand
+use Rattle.fr_http.specs.declared.asking.Exchange.{Exchange}
+use Rattle.fr_http.specs.declared.asking.Exchange.TheVariants as exchange
 use Rattle.fr_http.specs.declared.asking.Matter.{Matter}
 use Rattle.fr_http.specs.declared.asking.Matter.TheVariants as matter
 use Rattle.fr_http.specs.declared.fault.Unasked.{Unasked}
@@ -41,40 +41,40 @@ bind_alike (Ok x) f g v same is = same x is
 bind_alike (Err e) f g v same is = absurd cc
 
 -- who asks
-abbrev sender : Demand → Actor
-sender (demand.Request ask method) = ask.actor
-sender (demand.Picture reader variant) = reader
+abbrev sender : Exchange → Actor
+sender (exchange.Request ask method) = ask.actor
+sender (exchange.Picture reader variant) = reader
 
-actor_in : Actor → Result Demand Unasked → Actor
-actor_in other (Ok demand) = sender demand
+actor_in : Actor → Result Exchange Unasked → Actor
+actor_in other (Ok exchange) = sender exchange
 actor_in other (Err unasked) = other
 
 -- the last line: who asks, if there is someone
-abbrev asks_found : Option Actor → Matter → Method → Result Demand Unasked
+abbrev asks_found : Option Actor → Matter → Method → Result Exchange Unasked
 asks_found found what method = (found or Refused UnknownKey) >>= λ actor. Ok (asked_by actor method what)
 
-module _ (who alone : List ℕ → Option Actor) (demand : Demand) (heard : (key : List ℕ) → who key ≡ Some (sender demand) → alone key ≡ Some (sender demand)) where
-  is_found : (found : Option Actor) (what : Matter) (method : Method) → asks_found found what method ≡ Ok demand → found ≡ Some (sender demand)
+module _ (who alone : List ℕ → Option Actor) (exchange : Exchange) (heard : (key : List ℕ) → who key ≡ Some (sender exchange) → alone key ≡ Some (sender exchange)) where
+  is_found : (found : Option Actor) (what : Matter) (method : Method) → asks_found found what method ≡ Ok exchange → found ≡ Some (sender exchange)
   unfolding ◌>>=◌ ◌or◌ actor_in
   is_found None what method is = absurd cc
   is_found (Some actor) (matter.Request request) method is = ap Some (ap (actor_in actor) is)
   is_found (Some actor) (matter.Picture variant) method is = ap Some (ap (actor_in actor) is)
 
-  held_alike : (key : Option (List ℕ)) (what : Matter) (method : Method) → asks_found (holder who key) what method ≡ Ok demand → asks_found (holder alone key) what method ≡ Ok demand
+  held_alike : (key : Option (List ℕ)) (what : Matter) (method : Method) → asks_found (holder who key) what method ≡ Ok exchange → asks_found (holder alone key) what method ≡ Ok exchange
   held_alike None what method is = is
   held_alike (Some key) what method is =
       let found = is_found (who key) what method is in
       ap (λ o. asks_found o what method) (heard key found ∙ sym found) ∙ is
 
-  asks_alike : (head : HeadData) (rest : List ℕ) → outcome_of who head rest ≡ Ok demand → outcome_of alone head rest ≡ Ok demand
+  asks_alike : (head : HeadData) (rest : List ℕ) → outcome_of who head rest ≡ Ok exchange → outcome_of alone head rest ≡ Ok exchange
   unfolding outcome_of
   asks_alike head rest =
-      bind_alike (by_engine (plan_of head)) _ _ demand (λ plan.
-      bind_alike (front plan.length rest or Fault Truncated) _ _ demand (λ body.
-      bind_alike (matter_by plan.route (path_of head.target) body or Refused BadText) _ _ demand (λ what.
+      bind_alike (by_engine (plan_of head)) _ _ exchange (λ plan.
+      bind_alike (front plan.length rest or Fault Truncated) _ _ exchange (λ body.
+      bind_alike (matter_by plan.route (path_of head.target) body or Refused BadText) _ _ exchange (λ what.
       held_alike (key_of head) what (method_of plan.route))))
 
-  outcome_alike : (bytes before : List ℕ) → IsOutcome who bytes before (Ok demand) → IsOutcome alone bytes before (Ok demand)
+  outcome_alike : (bytes before : List ℕ) → IsOutcome who bytes before (Ok exchange) → IsOutcome alone bytes before (Ok exchange)
   outcome_alike bytes before (inl by_head) = inl (record {
     head = by_head.head;
     rest = by_head.rest;
@@ -82,7 +82,7 @@ module _ (who alone : List ℕ → Option Actor) (demand : Demand) (heard : (key
     asks = sym (asks_alike (said by_head.head) by_head.rest (sym by_head.asks));
     interim = by_head.interim;
   })
-  outcome_alike bytes before (inr without) = let none : Ok demand ≡ Err without.unasked = without.asks in absurd cc
+  outcome_alike bytes before (inr without) = let none : Ok exchange ≡ Err without.unasked = without.asks in absurd cc
 
 -- ---- what bytes do not ask
 
@@ -92,8 +92,8 @@ unfolding ◌>>=◌
 bind_refused_alike (Ok x) f g e same is = same x is
 bind_refused_alike (Err d) f g e same is = is
 
-cause_in : Unasked → Result Demand Unasked → Unasked
-cause_in other (Ok demand) = other
+cause_in : Unasked → Result Exchange Unasked → Unasked
+cause_in other (Ok exchange) = other
 cause_in other (Err unasked) = unasked
 
 -- a key that is nobody's for the one is nobody's for the other, where that is why nothing is asked
@@ -127,7 +127,7 @@ module _ (who alone : List ℕ → Option Actor) (unasked : Unasked) (nobodys : 
   })
   unasked_outcome_alike bytes before (inr without) = inr without
 
-replied_alike : (c d : Cluster) (b e : Book) (x : Exchange) (replied : IsReplied c b x)
+replied_alike : (c d : Cluster) (b e : Book) (x : Exchanged) (replied : IsReplied c b x)
     → ((key : List ℕ) → replied.unasked ≡ Refused UnknownKey → actor_of c b key ≡ None → actor_of d e key ≡ None) → IsReplied d e x
 replied_alike c d b e x replied nobodys = record {
   before = replied.before;
@@ -138,7 +138,7 @@ replied_alike c d b e x replied nobodys = record {
   told = replied.told;
 }
 
-pub replied-alike : (c d : Cluster) (b e : Book) (x : Exchange) (replied : IsReplied c b x) → replied.unasked ≢ Refused UnknownKey → IsReplied d e x
+pub replied-alike : (c d : Cluster) (b e : Book) (x : Exchanged) (replied : IsReplied c b x) → replied.unasked ≢ Refused UnknownKey → IsReplied d e x
 replied-alike c d b e x replied known = replied_alike c d b e x replied (λ key unknown none. absurd (known unknown))
 
 -- ---- a connection
@@ -152,7 +152,7 @@ module _ (c : Cluster) (b last : Book) where
   deals-keep sound (Answered ask method answer) deals = step-keeps sound ask answer deals
   deals-keep sound (Drawn reader variant drawn) deals = subst (IsSound c) (sym deals.0) sound
 
-  asks-sound : (x : Exchange) (a : Option Dealing) → IsSound c b → Asks c b x a last → IsSound c last
+  asks-sound : (x : Exchanged) (a : Option Dealing) → IsSound c b → Asks c b x a last → IsSound c last
   asks-sound x None sound so = subst (IsSound c) (sym so.0) sound
   asks-sound x (Some dealing) sound so = deals-keep sound dealing so.deals
 
@@ -182,10 +182,10 @@ module _ (s : Name) (c : Cluster) (b last : Book) where
   deals-other (Drawn reader variant drawn) other deals = ap (rows_of s) deals.0
 
   -- what asks nothing has the same reply in that register, since a key that is nobody's is nobody's there
-  replied-alone : (x : Exchange) → IsReplied c b x → IsReplied c (rows_of s b) x
+  replied-alone : (x : Exchanged) → IsReplied c b x → IsReplied c (rows_of s b) x
   replied-alone x replied = replied_alike c c b (rows_of s b) x replied (λ key unknown. nobody-alone s c b key)
 
-  unasked-alone : (x : Exchange) (done : Result Served LinkFault) → IsUnasked c b x done → IsUnasked c (rows_of s b) x done
+  unasked-alone : (x : Exchanged) (done : Result Served LinkFault) → IsUnasked c b x done → IsUnasked c (rows_of s b) x done
   unasked-alone x (Ok served) so = replied-alone x so
   unasked-alone x (Err (WriteFailed asked)) (inl replied) = inl (replied-alone x replied)
   unasked-alone x (Err (WriteFailed asked)) (inr before) = inr before
@@ -194,28 +194,28 @@ module _ (s : Name) (c : Cluster) (b last : Book) where
   unasked-alone x (Err ReadFailed) so = so
   unasked-alone x (Err TooManyReads) so = so
 
-  asks-own : (x : Exchange) (a : Option Dealing) → IsSound c b → is_own s a ≡ true → Asks c b x a last → Asks c (rows_of s b) x a (rows_of s last)
+  asks-own : (x : Exchanged) (a : Option Dealing) → IsSound c b → is_own s a ≡ true → Asks c b x a last → Asks c (rows_of s b) x a (rows_of s last)
   asks-own x None sound own so = (ap (rows_of s) so.0, unasked-alone x x.done so.1)
   asks-own x (Some dealing) sound own so =
-      let demand = asked_in dealing in
-      let heard : (key : List ℕ) → actor_of c b key ≡ Some (sender demand) → actor_of c (rows_of s b) key ≡ Some (sender demand) =
+      let exchange = asked_in dealing in
+      let heard : (key : List ℕ) → actor_of c b key ≡ Some (sender exchange) → actor_of c (rows_of s b) key ≡ Some (sender exchange) =
       λ key has. actor-alone s c b key (ap (is_heard s) has ∙ own-heard dealing own) ∙ has in
       record {
         before = so.before;
-        outcome = outcome_alike (actor_of c b) (actor_of c (rows_of s b)) demand heard x.read so.before so.outcome;
+        outcome = outcome_alike (actor_of c b) (actor_of c (rows_of s b)) exchange heard x.read so.before so.outcome;
         deals = deals-own sound dealing own so.deals;
         reply = so.reply;
         is_reply = so.is_reply;
         told = so.told;
       }
 
-  asks-other : (x : Exchange) (a : Option Dealing) → is_own s a ≡ false → Asks c b x a last → rows_of s last ≡ rows_of s b
+  asks-other : (x : Exchanged) (a : Option Dealing) → is_own s a ≡ false → Asks c b x a last → rows_of s last ≡ rows_of s b
   asks-other x None other so = cc
   asks-other x (Some dealing) other so = deals-other dealing other so.deals
 
 -- ---- connections one after another
 
-pub exchanges-alone : (c : Cluster) (b last : Book) (xs : List Exchange) (s : Name) → IsSound c b → AreExchanged c b xs last →
+pub exchanges-alone : (c : Cluster) (b last : Book) (xs : List Exchanged) (s : Name) → IsSound c b → AreExchanged c b xs last →
     AreExchanged c (rows_of s b) (own_exchanges s xs) (rows_of s last)
 exchanges-alone c b last [] s sound so = ap (rows_of s) so
 exchanges-alone c b last (x ∷ xs) s sound so =
@@ -227,12 +227,12 @@ exchanges-alone c b last (x ∷ xs) s sound so =
     ]
 
 -- Exchanges leave a sound book sound.
-pub exchanges-sound : (c : Cluster) (b last : Book) (xs : List Exchange) → IsSound c b → AreExchanged c b xs last → IsSound c last
+pub exchanges-sound : (c : Cluster) (b last : Book) (xs : List Exchanged) → IsSound c b → AreExchanged c b xs last → IsSound c last
 exchanges-sound c b last [] sound so = subst (IsSound c) (sym so) sound
 exchanges-sound c b last (x ∷ xs) sound so = exchanges-sound c so.0 last xs (asks-sound c b so.0 x x.asked sound so.1.1) so.2
 
 -- Exchanges go through sound books.
-pub fronts-sound : (c : Cluster) (b last : Book) (xs : List Exchange) (n : ℕ) → IsSound c b → AreExchanged c b xs last →
+pub fronts-sound : (c : Cluster) (b last : Book) (xs : List Exchanged) (n : ℕ) → IsSound c b → AreExchanged c b xs last →
     (mid : Book) × IsSound c mid × AreExchanged c b (take n xs) mid × AreExchanged c mid (drop n xs) last
 fronts-sound c b last [] zero sound so = (b, sound, refl, so)
 fronts-sound c b last [] (suc n) sound so = (b, sound, refl, so)

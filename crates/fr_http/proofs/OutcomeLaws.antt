@@ -11,18 +11,18 @@ use Rattle.fr_base.specs.declared.actor.Actor.{Actor}
 use Rattle.fr_base.specs.declared.answer.Answer.{Answer}
 use Rattle.fr_base.specs.declared.request.Ask.{Ask}
 use Rattle.fr_base.proofs.RunLaws.{runs-one}
-use Rattle.fr_http.specs.Exchanges.{Answered, Asks, Dealing, Drawn, Exchange, IsBrokenOff, IsExchange, IsReplied, IsTold, IsUnasked, asked_in, unasked_reply}
+use Rattle.fr_http.specs.Exchanges.{Answered, Asks, Dealing, Drawn, Exchanged, IsBrokenOff, IsExchange, IsReplied, IsTold, IsUnasked, asked_in, unasked_reply}
 use Rattle.fr_http.specs.Head.{BeginsWith, said}
 use Rattle.fr_http.specs.Outcome.{IsOutcome, interim, outcome_of}
 use Rattle.fr_http.specs.OutcomeLaws.{is_drawn, was_lacking}
 use Rattle.fr_http.specs.Reply.{Reply, answer_reply, print}
-use Rattle.fr_http.specs.declared.asking.Demand.{Demand}
-use Rattle.fr_http.specs.declared.asking.Demand.TheVariants as asked
+use Rattle.fr_http.specs.declared.asking.Exchange.{Exchange}
+use Rattle.fr_http.specs.declared.asking.Exchange.TheVariants as asked
 use Rattle.fr_http.specs.declared.fault.Unasked.{Unasked}
 use Rattle.fr_http.specs.declared.method.Method.{Method}
 use Rattle.fr_http.specs.declared.serve.Served.{Served}
 
-pub outcome-one : (who : List ℕ → Option Actor) (bytes one other : List ℕ) (outcome another : Result Demand Unasked)
+pub outcome-one : (who : List ℕ → Option Actor) (bytes one other : List ℕ) (outcome another : Result Exchange Unasked)
     (head : RequestHead) (rest : List ℕ) → BeginsWith bytes head rest →
     IsOutcome who bytes one outcome → IsOutcome who bytes other another → (outcome ≡ another) × (one ≡ other)
 outcome-one who bytes one other outcome another head rest begins (inl a) (inl b) =
@@ -35,23 +35,23 @@ outcome-one who bytes one other outcome another head rest begins (inr a) second 
 
 -- ---- what outcomes have that are the same
 
-unasked_in : Unasked → Result Demand Unasked → Unasked
+unasked_in : Unasked → Result Exchange Unasked → Unasked
 unasked_in other (Ok asked) = other
 unasked_in other (Err unasked) = unasked
 
-was_asked : Result Demand Unasked → Bool
+was_asked : Result Exchange Unasked → Bool
 was_asked (Ok asked) = true
 was_asked (Err unasked) = false
 
-is_picture : Result Demand Unasked → Bool
+is_picture : Result Exchange Unasked → Bool
 is_picture (Ok (asked.Picture reader variant)) = true
 is_picture _ = false
 
-ask_in : Ask → Result Demand Unasked → Ask
+ask_in : Ask → Result Exchange Unasked → Ask
 ask_in other (Ok (asked.Request ask method)) = ask
 ask_in other _ = other
 
-method_in : Method → Result Demand Unasked → Method
+method_in : Method → Result Exchange Unasked → Method
 method_in other (Ok (asked.Request ask method)) = method
 method_in other _ = other
 
@@ -61,13 +61,13 @@ first_of other (answer ∷ answers) = answer
 
 -- ---- a reply that was told
 
-told_whole : (x : Exchange) (before : List ℕ) (reply : Reply) (served : Served) → x.done ≡ Ok served → IsTold x before reply →
+told_whole : (x : Exchanged) (before : List ℕ) (reply : Reply) (served : Served) → x.done ≡ Ok served → IsTold x before reply →
     (x.written ≡ before ++ print reply) × (served.status ≡ reply.status)
 told_whole x before reply served is told =
     subst (λ d. MatchResult d (λ (s : Served). (x.written ≡ before ++ print reply) × (s.status ≡ reply.status)) (λ fault. IsBrokenOff fault x.written before reply)) is told
 
 -- replies that are the same, behind the same interim reply, were written alike
-told_alike : (x y : Exchange) (before early : List ℕ) (reply answer : Reply) (served other : Served) →
+told_alike : (x y : Exchanged) (before early : List ℕ) (reply answer : Reply) (served other : Served) →
     x.done ≡ Ok served → y.done ≡ Ok other → IsTold x before reply → IsTold y early answer → before ≡ early → reply ≡ answer →
     (x.written ≡ y.written) × (served.status ≡ other.status)
 told_alike x y before early reply answer served other x_done y_done x_told y_told same_before same_reply =
@@ -77,10 +77,10 @@ told_alike x y before early reply answer served other x_done y_done x_told y_tol
       one.1 ∙ ap (λ (r : Reply). r.status) same_reply ∙ sym two.1,
     )
 
-module _ (c : Cluster) (b last end : Book) (x y : Exchange) (head : RequestHead) (rest : List ℕ) (served other : Served)
+module _ (c : Cluster) (b last end : Book) (x y : Exchanged) (head : RequestHead) (rest : List ℕ) (served other : Served)
     (same : x.read ≡ y.read) (begins : BeginsWith x.read head rest) (x_done : x.done ≡ Ok served) (y_done : y.done ≡ Ok other) where
   -- the outcomes of both
-  alike : (before early : List ℕ) (outcome another : Result Demand Unasked) →
+  alike : (before early : List ℕ) (outcome another : Result Exchange Unasked) →
       IsOutcome (actor_of c b) x.read before outcome → IsOutcome (actor_of c b) y.read early another → (outcome ≡ another) × (before ≡ early)
   alike before early outcome another one two =
       outcome-one (actor_of c b) x.read before early outcome another head rest begins one
@@ -124,7 +124,7 @@ module _ (c : Cluster) (b last end : Book) (x y : Exchange) (head : RequestHead)
       let told = told_alike x y one.before two.before one.reply two.reply served other x_done y_done one.told two.told is.1 reply in
       (told.0, told.1, run.1)
 
-pub exchange-one : (c : Cluster) (b last end : Book) (x y : Exchange) (head : RequestHead) (rest : List ℕ) (told other : Served) →
+pub exchange-one : (c : Cluster) (b last end : Book) (x y : Exchanged) (head : RequestHead) (rest : List ℕ) (told other : Served) →
     IsExchange c b x last → IsExchange c b y end → x.read ≡ y.read → BeginsWith x.read head rest →
     x.done ≡ Ok told → y.done ≡ Ok other → is_drawn x.asked ≡ false → was_lacking x.asked ≡ was_lacking y.asked →
     (x.written ≡ y.written) × (told.status ≡ other.status) × (last ≡ end)

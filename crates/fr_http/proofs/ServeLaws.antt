@@ -24,7 +24,7 @@ use Rattle.fr_http.specs.Outcome.{IsOutcome, Wanted, asked_before, asked_by, con
 use Rattle.fr_http.specs.Planning.{Plans}
 use Rattle.fr_http.specs.Reading.{HasReceived, LacksBody}
 use Rattle.fr_http.specs.Routes.{matter_by, method_of, path_of}
-use Rattle.fr_http.specs.declared.asking.Demand.{Demand}
+use Rattle.fr_http.specs.declared.asking.Exchange.{Exchange}
 use Rattle.fr_http.specs.declared.asking.Matter.{Matter}
 use Rattle.fr_http.specs.declared.fault.LinkFault.{LinkFault}
 use Rattle.fr_http.specs.declared.fault.LinkFault.TheVariants.{Truncated, ReadFailed, TooManyReads, WriteFailed, NoMemory}
@@ -202,7 +202,7 @@ module _ (stands : Standing) (input mid left held now : Option (List ℕ)) (rece
       no_more more invited.has.0 h received.1 w begins (ap plan_of (sym head) ∙ invited.plan) invited.has.3 behind.bound
 
   -- where the outcome with the head and all that came behind it is this one
-  pub by_head : (invited : Invited input mid held now received w) → Behind mid left received w more → (outcome : Result Demand Unasked)
+  pub by_head : (invited : Invited input mid held now received w) → Behind mid left received w more → (outcome : Result Exchange Unasked)
       → Takes stands (invited.has.0 ++ more) (continue_if (due w.length received.0)) left outcome → HasTaken stands input left held now outcome
   by_head invited behind outcome takes = record {
     bytes = invited.has.0 ++ more;
@@ -213,7 +213,7 @@ module _ (stands : Standing) (input mid left held now : Option (List ℕ)) (rece
     bound = reads_no_more invited behind;
   }
 
-  pub outcome_with : (invited : Invited input mid held now received w) (who : List ℕ → Option Actor) (outcome : Result Demand Unasked)
+  pub outcome_with : (invited : Invited input mid held now received w) (who : List ℕ → Option Actor) (outcome : Result Exchange Unasked)
       → outcome_of who received.0 (received.1 ++ more) ≡ outcome → IsOutcome who (invited.has.0 ++ more) (continue_if (due w.length received.0)) outcome
   outcome_with invited who outcome is =
       let (h, begins, head) = invited.has.2 in
@@ -291,11 +291,11 @@ front_behind before text front (missing, is) = (missing, ap (λ t. before ++ t) 
 
 module _ (clean : Type 0) (old new : Standing) (input left held mid now : Option (List ℕ)) where
   -- the register dealt with what the bytes ask, and that was the reply
-  answered : {written : List ℕ} {done : Result Served LinkFault} {a : Option Dealing} {reply : Reply} (demand : Demand) (dealt : HasDealt clean old new demand reply)
-      (t : HasTaken old input left held mid (Ok demand)) (c : Cluster) (b last : Book) → old c b → IsSound c b → Deals c b dealt.dealing last
+  answered : {written : List ℕ} {done : Result Served LinkFault} {a : Option Dealing} {reply : Reply} (exchange : Exchange) (dealt : HasDealt clean old new exchange reply)
+      (t : HasTaken old input left held mid (Ok exchange)) (c : Cluster) (b last : Book) → old c b → IsSound c b → Deals c b dealt.dealing last
       → IsTold (record { read = t.bytes; written = written; done = done; asked = a }) t.written reply
       → IsAnswered c b (record { read = t.bytes; written = written; done = done; asked = a }) dealt.dealing last
-  answered {reply = reply} demand dealt t c b last stood sound deals told = record {
+  answered {reply = reply} exchange dealt t c b last stood sound deals told = record {
     before = t.written;
     outcome = subst (λ o. IsOutcome (actor_of c b) t.bytes t.written (Ok o)) (sym dealt.is_asked) (t.takes.1 c b stood sound);
     deals = deals;
@@ -305,27 +305,27 @@ module _ (clean : Type 0) (old new : Standing) (input left held mid now : Option
   }
 
   -- the register was asked
-  pub served_asked : (demand : Demand) (done : Result Served LinkFault) → HasTaken old input left held mid (Ok demand) → HasAnswered clean old new demand mid now done
+  pub served_asked : (exchange : Exchange) (done : Result Served LinkFault) → HasTaken old input left held mid (Ok exchange) → HasAnswered clean old new exchange mid now done
       → IsConnection clean old new input left held now done
-  served_asked demand (Ok served) t h = record {
+  served_asked exchange (Ok served) t h = record {
     bytes = t.bytes;
     written = t.written ++ print h.reply;
     consumed = t.consumed;
     appended = Appends-trans _ _ _ _ _ t.appended h.replied.0;
     exchanged = λ cl c b s i.
         let (last, deals, stands) = h.dealt.deals cl c b s i in
-        (Some h.dealt.dealing, last, (h.replied.2, answered demand h.dealt t c b last s i deals (refl, h.replied.1)), stands);
+        (Some h.dealt.dealing, last, (h.replied.2, answered exchange h.dealt t c b last s i deals (refl, h.replied.1)), stands);
     truncated = λ e. grind (arith, e);
     silent = tt;
     bound = t.bound;
   }
-  served_asked demand (Err fault) t h = unanswered h.replied
+  served_asked exchange (Err fault) t h = unanswered h.replied
     where
       exchanged : (f : LinkFault) (written : List ℕ) → asked_before f ≡ true → IsBrokenOff f written t.written h.reply → clean → InSound old (λ c b. (a : Option Dealing) × (last : Book)
           × IsExchange c b (record { read = t.bytes; written = written; done = Err f; asked = a }) last × new c last)
       exchanged f written before broken cl c b s i =
           let (last, deals, stands) = h.dealt.deals cl c b s i in
-          (Some h.dealt.dealing, last, (before, answered demand h.dealt t c b last s i deals broken), stands)
+          (Some h.dealt.dealing, last, (before, answered exchange h.dealt t c b last s i deals broken), stands)
 
       unanswered : HasReplied h.reply true mid now (Err fault) → IsConnection clean old new input left held now (Err fault)
       unanswered (inl (is, keeps)) = subst (λ f. IsConnection clean old new input left held now (Err f)) (sym is) (record {

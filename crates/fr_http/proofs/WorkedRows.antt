@@ -21,7 +21,7 @@ use Rattle.fr_http.specs.Head.{HeadData, values}
 use Rattle.fr_http.specs.Routes.{export, matter_by, of_variant, part, route_of, router, table, with_route}
 use Rattle.fr_http.specs.Outcome.{due, interim, length_in, outcome_of, plan_of, route_to}
 use Rattle.fr_http.specs.Reply.{answer_reply, body_of, engine_reply, page_reply, print, status_line}
-use Rattle.fr_http.specs.declared.asking.Demand.TheVariants as demand
+use Rattle.fr_http.specs.declared.asking.Exchange.TheVariants as exchange
 use Rattle.fr_http.specs.declared.asking.Matter.TheVariants as matter
 use Rattle.fr_http.specs.declared.fault.Rejection.TheVariants.{BadRequest, NotFound, MethodNotAllowed, LengthRequired, PayloadTooLarge, HeadTooLarge, NotImplemented}
 use Rattle.fr_http.specs.declared.fault.Unasked.TheVariants.{Refused, Fault}
@@ -189,13 +189,13 @@ who key = if same_text key (codes "supplier01") then Some (actor.Supplier (codes
 
 pub asks_schedule :
     outcome_of who (head (codes "GET") (codes "/v1/variants/v1/schedule") ((codes "Host", codes "localhost") ∷ (codes "X-Office-Key", codes "supplier01") ∷ [])) []
-    ≡ Ok (demand.Request (record { actor = actor.Supplier (codes "s1"); request = request.Query (OfVariant (codes "v1") Schedule) }) Get)
+    ≡ Ok (exchange.Request (record { actor = actor.Supplier (codes "s1"); request = request.Query (OfVariant (codes "v1") Schedule) }) Get)
 unfolding rows
 asks_schedule = refl
 
 pub asks_picture :
     outcome_of who (head (codes "GET") (codes "/v1/variants/v1/picture") ((codes "X-Office-Key", codes "supplier01") ∷ [])) []
-    ≡ Ok (demand.Picture (actor.Supplier (codes "s1")) (codes "v1"))
+    ≡ Ok (exchange.Picture (actor.Supplier (codes "s1")) (codes "v1"))
 unfolding rows
 asks_picture = refl
 
@@ -212,7 +212,7 @@ unknown_keys = refl
 pub imports :
     map (λ rest. outcome_of who (head (codes "POST") (codes "/v1/variants/v1/imports/a") ((codes "x-office-key", codes "supplier01") ∷ length_field (codes "2") ∷ [])) rest)
     (codes "xyz" ∷ codes "x" ∷ [])
-    ≡ Ok (demand.Request (record { actor = actor.Supplier (codes "s1"); request = request.Import (codes "v1") (codes "a") (codes "xy") }) Post)
+    ≡ Ok (exchange.Request (record { actor = actor.Supplier (codes "s1"); request = request.Import (codes "v1") (codes "a") (codes "xy") }) Post)
     ∷ Err (Fault Truncated) ∷ []
 unfolding rows
 imports = refl

@@ -19,7 +19,7 @@ use Rattle.fr_http.specs.Head.{BeginsWith, HeadData, max_head, said}
 use Rattle.fr_http.specs.Outcome.{IsOutcome, Wanted, asked_before, continue_if, continue_reply, due, plan_of}
 use Rattle.fr_http.specs.Reply.{Reply, print}
 use Rattle.fr_http.specs.Replying.{IsReply}
-use Rattle.fr_http.specs.declared.asking.Demand.{Demand}
+use Rattle.fr_http.specs.declared.asking.Exchange.{Exchange}
 use Rattle.fr_http.specs.declared.fault.LinkFault.{LinkFault}
 use Rattle.fr_http.specs.declared.fault.LinkFault.TheVariants.{Truncated, WriteFailed, NoMemory}
 use Rattle.fr_http.specs.declared.fault.Unasked.{Unasked}
@@ -61,8 +61,8 @@ pub record IsConnection (clean : Type 0) (old new : Standing) (input left held n
 
 -- The bytes that were read demand this, or demand nothing for this cause. This was written: the
 -- interim reply that is due, or a front of it where a write failed.
-abbrev pub Takes : Standing → List ℕ → List ℕ → Option (List ℕ) → Result Demand Unasked → Type 0
-Takes stands bytes written left (Ok demand) = IsInterim bytes written × InSound stands (λ c b. IsOutcome (actor_of c b) bytes written (Ok demand))
+abbrev pub Takes : Standing → List ℕ → List ℕ → Option (List ℕ) → Result Exchange Unasked → Type 0
+Takes stands bytes written left (Ok exchange) = IsInterim bytes written × InSound stands (λ c b. IsOutcome (actor_of c b) bytes written (Ok exchange))
 Takes stands bytes written left (Err (Engine rejection)) =
     IsInterim bytes written × InSound stands (λ c b. IsOutcome (actor_of c b) bytes written (Err (Engine rejection)))
 Takes stands bytes written left (Err (Refused refusal)) =
@@ -72,7 +72,7 @@ Takes stands bytes written left (Err (Fault Truncated)) =
 Takes stands bytes written left (Err (Fault (WriteFailed asked))) = (asked ≡ false) × IsInterimFront bytes written
 Takes stands bytes written left (Err (Fault fault)) = (asked_before fault ≡ false) × IsInterim bytes written
 
-pub record HasTaken (stands : Standing) (input left held now : Option (List ℕ)) (taken : Result Demand Unasked) : Type 0 where
+pub record HasTaken (stands : Standing) (input left held now : Option (List ℕ)) (taken : Result Exchange Unasked) : Type 0 where
   pub bytes : List ℕ
   pub written : List ℕ
   pub consumed : Consumes input left bytes
@@ -114,16 +114,16 @@ HasReplied reply asked held now (Ok served) = Appends held now (print reply) × 
 HasReplied reply asked held now (Err fault) =
     ((fault ≡ NoMemory asked) × Keeps held now) ⊎ ((fault ≡ WriteFailed asked) × AppendsFront held now (print reply))
 
--- The register dealt with the demand, and stands for the book after it. This is the reply.
-pub record HasDealt (clean : Type 0) (old new : Standing) (demand : Demand) (reply : Reply) : Type 0 where
+-- The register dealt with the exchange, and stands for the book after it. This is the reply.
+pub record HasDealt (clean : Type 0) (old new : Standing) (exchange : Exchange) (reply : Reply) : Type 0 where
   pub dealing : Dealing
-  pub is_asked : asked_in dealing ≡ demand
+  pub is_asked : asked_in dealing ≡ exchange
   pub deals : clean → InSound old (λ c b. (last : Book) × Deals c b dealing last × new c last)
   pub is_reply : IsReplyTo dealing reply
 
--- The register dealt with the demand, and this is the text of the reply, if there is memory for it.
-abbrev pub GivesReply : {E : Type 0} → Demand → Type 0 → Standing → Standing → Result ReplyText E → Type 0
-GivesReply demand clean old new text = (reply : Reply) × HasDealt clean old new demand reply × IfOk text (IsReply reply)
+-- The register dealt with the exchange, and this is the text of the reply, if there is memory for it.
+abbrev pub GivesReply : {E : Type 0} → Exchange → Type 0 → Standing → Standing → Result ReplyText E → Type 0
+GivesReply exchange clean old new text = (reply : Reply) × HasDealt clean old new exchange reply × IfOk text (IsReply reply)
 
 -- This is the plan's page, or why there is no plan.
 abbrev pub IsPageOf : Result Picture Refusal → Result (Vec ℕ) Refusal → Type 0
@@ -137,9 +137,9 @@ abbrev pub HasDrawn : Actor → List ℕ → Type 0 → Standing → Standing �
 HasDrawn reader variant clean old new page =
     (drawn : Result Picture Refusal) × IsPageOf drawn page × (clean → InSound old (λ c b. new c b × MayDraw c b reader variant drawn))
 
--- The register dealt with the demand. The reply was written, or nothing of it for want of memory,
+-- The register dealt with the exchange. The reply was written, or nothing of it for want of memory,
 -- or a front of it where a write failed.
-pub record HasAnswered (clean : Type 0) (old new : Standing) (demand : Demand) (held now : Option (List ℕ)) (done : Result Served LinkFault) : Type 0 where
+pub record HasAnswered (clean : Type 0) (old new : Standing) (exchange : Exchange) (held now : Option (List ℕ)) (done : Result Served LinkFault) : Type 0 where
   pub reply : Reply
-  pub dealt : HasDealt clean old new demand reply
+  pub dealt : HasDealt clean old new exchange reply
   pub replied : HasReplied reply true held now done

@@ -1,4 +1,4 @@
--- Exchange: what happened on a connection: the bytes that were read and written, and what the
+-- Exchanged: what happened on a connection: the bytes that were read and written, and what the
 -- register was asked, with what it gave: a request's answer, or a picture's plan. When that is an
 -- exchange with a register from a book, and when several are, one after another. Which of them are
 -- one supplier's; those that ask nothing are among them.
@@ -24,8 +24,8 @@ use Rattle.fr_picture.specs.declared.plan.Plan.{Plan}
 use Rattle.fr_http.specs.Head.{BeginsWith, said}
 use Rattle.fr_http.specs.Outcome.{IsOutcome, asked_before, continue_reply, interim}
 use Rattle.fr_http.specs.Reply.{Reply, answer_reply, engine_reply, page_reply, print}
-use Rattle.fr_http.specs.declared.asking.Demand.{Demand}
-use Rattle.fr_http.specs.declared.asking.Demand.TheVariants as demand
+use Rattle.fr_http.specs.declared.asking.Exchange.{Exchange}
+use Rattle.fr_http.specs.declared.asking.Exchange.TheVariants as exchange
 use Rattle.fr_http.specs.declared.fault.LinkFault.{LinkFault}
 use Rattle.fr_http.specs.declared.fault.LinkFault.TheVariants.{WriteFailed}
 use Rattle.fr_http.specs.declared.fault.Unasked.{Unasked}
@@ -42,14 +42,14 @@ pub data Dealing : Type 0 where
   Answered : Ask → Method → Answer → Dealing
   Drawn : Actor → List ℕ → Result Plan Refusal → Dealing
 
--- the demand that the register dealt with
-abbrev pub asked_in : Dealing → Demand
-asked_in (Answered ask method answer) = demand.Request ask method
-asked_in (Drawn reader variant drawn) = demand.Picture reader variant
+-- the exchange that the register dealt with
+abbrev pub asked_in : Dealing → Exchange
+asked_in (Answered ask method answer) = exchange.Request ask method
+asked_in (Drawn reader variant drawn) = exchange.Picture reader variant
 
 -- What happened on a connection: the bytes that were read and those that were written; how it
 -- ended; and what the register was asked, with what it gave, if it was asked.
-pub record Exchange : Type 0 where
+pub record Exchanged : Type 0 where
   pub read : List ℕ
   pub written : List ℕ
   pub done : Result Served LinkFault
@@ -78,7 +78,7 @@ IsBrokenOff _ written before reply = written ≡ before
 
 -- Where the connection was served, this interim reply was written and then the reply, whose status
 -- was told. Else the replies were broken off.
-abbrev pub IsTold : Exchange → List ℕ → Reply → Type 0
+abbrev pub IsTold : Exchanged → List ℕ → Reply → Type 0
 IsTold x before reply = MatchResult x.done
     (λ served. (x.written ≡ before ++ print reply) × (served.status ≡ reply.status))
     (λ fault. IsBrokenOff fault x.written before reply)
@@ -88,7 +88,7 @@ IsTold x before reply = MatchResult x.done
 abbrev pub MayDraw : Cluster → Book → Actor → List ℕ → Result Plan Refusal → Type 0
 MayDraw c b reader variant drawn = MatchResult drawn (IsPlan c b reader variant) (MayRefusePlan c b reader variant)
 
--- From this book the register deals with the demand, and the last book is the one after that. A
+-- From this book the register deals with the exchange, and the last book is the one after that. A
 -- request is answered by one step. A picture leaves the book as it is.
 abbrev pub Deals : Cluster → Book → Dealing → Book → Type 0
 Deals c b (Answered ask method answer) last = IsRun c b (ask ∷ []) (answer ∷ []) last
@@ -103,7 +103,7 @@ IsReplyTo (Drawn reader variant (Err refusal)) reply = reply ≡ answer_reply Ge
 
 -- From this book the bytes that were read demand this. The register dealt with it, and the last
 -- book is the one after that. This was the reply.
-pub record IsAnswered (c : Cluster) (b : Book) (x : Exchange) (dealing : Dealing) (last : Book) : Type 0 where
+pub record IsAnswered (c : Cluster) (b : Book) (x : Exchanged) (dealing : Dealing) (last : Book) : Type 0 where
   pub before : List ℕ
   pub outcome : IsOutcome (actor_of c b) x.read before (Ok (asked_in dealing))
   pub deals : Deals c b dealing last
@@ -113,7 +113,7 @@ pub record IsAnswered (c : Cluster) (b : Book) (x : Exchange) (dealing : Dealing
 
 -- From this book the bytes that were read demand nothing, for this cause, to which there is a
 -- reply.
-pub record IsReplied (c : Cluster) (b : Book) (x : Exchange) : Type 0 where
+pub record IsReplied (c : Cluster) (b : Book) (x : Exchanged) : Type 0 where
   pub before : List ℕ
   pub unasked : Unasked
   pub outcome : IsOutcome (actor_of c b) x.read before (Err unasked)
@@ -134,25 +134,25 @@ IsInterimFront bytes written =
 -- Nothing was asked, as the end of the connection says. Where it was served, there was a reply.
 -- Where a write failed, it was a write of the reply or of the interim reply. Where another fault
 -- came, no more than the interim reply was written.
-abbrev pub IsUnasked : Cluster → Book → Exchange → Result Served LinkFault → Type 0
+abbrev pub IsUnasked : Cluster → Book → Exchanged → Result Served LinkFault → Type 0
 IsUnasked c b x (Ok _) = IsReplied c b x
 IsUnasked c b x (Err (WriteFailed _)) = IsReplied c b x ⊎ IsInterimFront x.read x.written
 IsUnasked c b x (Err _) = IsInterim x.read x.written
 
 -- The register was asked and answered; or it was not asked, and the book stays.
-abbrev pub Asks : Cluster → Book → Exchange → Option Dealing → Book → Type 0
+abbrev pub Asks : Cluster → Book → Exchanged → Option Dealing → Book → Type 0
 Asks c b x (Some dealing) last = IsAnswered c b x dealing last
 Asks c b x None last = (last ≡ b) × IsUnasked c b x x.done
 
 -- From this book a connection may be served so, and the last book is the one after that.
-abbrev pub IsExchange : Cluster → Book → Exchange → Book → Type 0
+abbrev pub IsExchange : Cluster → Book → Exchanged → Book → Type 0
 IsExchange c b x last = (was_asked x.done ≡ is_some x.asked) × Asks c b x x.asked last
 
 -- ---- connections one after another
 
 -- From this book connections may be served so, one after another, and the last book is the one
 -- after them.
-abbrev pub AreExchanged : Cluster → Book → List Exchange → Book → Type 0
+abbrev pub AreExchanged : Cluster → Book → List Exchanged → Book → Type 0
 AreExchanged c b [] last = last ≡ b
 AreExchanged c b (x ∷ xs) last = (next : Book) × IsExchange c b x next × AreExchanged c next xs last
 
@@ -176,5 +176,5 @@ is_own s (Some (Answered ask method answer)) = is_mine s ask.actor ask.request a
 is_own s (Some (Drawn reader variant drawn)) = is_own_picture s reader drawn
 
 -- the exchanges that are the supplier's, and those that ask nothing, in order
-abbrev pub own_exchanges : Name → List Exchange → List Exchange
+abbrev pub own_exchanges : Name → List Exchanged → List Exchanged
 own_exchanges s xs = filter (λ x. is_own s x.asked) xs

@@ -13,8 +13,8 @@ use Rattle.fr_base.specs.declared.actor.Actor.{Actor}
 use Rattle.fr_base.specs.declared.refusal.Refusal.TheVariants.{BadText, UnknownKey}
 use Rattle.fr_http.specs.Head.{BeginsWith, HasNoHead, HeadData, key_of, max_fields, max_head, said, same_but_case, values}
 use Rattle.fr_http.specs.Routes.{allowed, chosen, matter_by, method_of, path_of, route_of, text_of_method}
-use Rattle.fr_http.specs.declared.asking.Demand.{Demand}
-use Rattle.fr_http.specs.declared.asking.Demand.TheVariants as demand
+use Rattle.fr_http.specs.declared.asking.Exchange.{Exchange}
+use Rattle.fr_http.specs.declared.asking.Exchange.TheVariants as exchange
 use Rattle.fr_http.specs.declared.asking.Matter.{Matter}
 use Rattle.fr_http.specs.declared.asking.Matter.TheVariants as matter
 use Rattle.fr_http.specs.declared.fault.LinkFault.{LinkFault}
@@ -112,14 +112,14 @@ abbrev pub holder : (List ℕ → Option Actor) → Option (List ℕ) → Option
 holder who None = None
 holder who (Some key) = who key
 
--- the demand of this actor by this method: a request's answer; or a picture, as the actor sees it
-abbrev pub asked_by : Actor → Method → Matter → Demand
-asked_by actor method (matter.Request request) = demand.Request (record { actor = actor; request = request }) method
-asked_by actor method (matter.Picture variant) = demand.Picture actor variant
+-- the exchange of this actor by this method: a request's answer; or a picture, as the actor sees it
+abbrev pub asked_by : Actor → Method → Matter → Exchange
+asked_by actor method (matter.Request request) = exchange.Request (record { actor = actor; request = request }) method
+asked_by actor method (matter.Picture variant) = exchange.Picture actor variant
 
 -- What is demanded, or why nothing is, by the head and by the bytes behind it. If a body is cut
 -- short, the input ended there.
-unfoldable pub outcome_of : (List ℕ → Option Actor) → HeadData → List ℕ → Result Demand Unasked
+unfoldable pub outcome_of : (List ℕ → Option Actor) → HeadData → List ℕ → Result Exchange Unasked
 outcome_of who head rest = do
   plan ← by_engine (plan_of head)
   body ← front plan.length rest or Fault Truncated
@@ -137,7 +137,7 @@ HeadFails bytes (Fault Truncated) = (length bytes < max_head) × MayBecomeReques
 HeadFails bytes _ = ⊥
 
 -- The bytes begin with a head, and this is their outcome and their interim reply.
-pub record HeadOutcome (who : List ℕ → Option Actor) (bytes written : List ℕ) (outcome : Result Demand Unasked) : Type 0 where
+pub record HeadOutcome (who : List ℕ → Option Actor) (bytes written : List ℕ) (outcome : Result Exchange Unasked) : Type 0 where
   pub head : RequestHead
   pub rest : List ℕ
   pub begins : BeginsWith bytes head rest
@@ -145,7 +145,7 @@ pub record HeadOutcome (who : List ℕ → Option Actor) (bytes written : List �
   pub interim : written ≡ interim (said head)
 
 -- The bytes do not begin with a head. This is their outcome, and there is no interim reply.
-pub record NoHeadOutcome (bytes written : List ℕ) (outcome : Result Demand Unasked) : Type 0 where
+pub record NoHeadOutcome (bytes written : List ℕ) (outcome : Result Exchange Unasked) : Type 0 where
   pub none : HasNoHead bytes
   pub unasked : Unasked
   pub fails : HeadFails bytes unasked
@@ -153,5 +153,5 @@ pub record NoHeadOutcome (bytes written : List ℕ) (outcome : Result Demand Una
   pub interim : written ≡ []
 
 -- The bytes of a connection have this outcome and this interim reply.
-abbrev pub IsOutcome : (List ℕ → Option Actor) → List ℕ → List ℕ → Result Demand Unasked → Type 0
+abbrev pub IsOutcome : (List ℕ → Option Actor) → List ℕ → List ℕ → Result Exchange Unasked → Type 0
 IsOutcome who bytes written outcome = HeadOutcome who bytes written outcome ⊎ NoHeadOutcome bytes written outcome

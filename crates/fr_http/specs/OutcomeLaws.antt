@@ -7,16 +7,16 @@ use Rattle.fr_base.specs.Alone.{is_unavailable}
 use Rattle.fr_base.specs.Book.{Book}
 use Rattle.fr_base.specs.Cluster.{Cluster}
 use Rattle.fr_base.specs.declared.actor.Actor.{Actor}
-use Rattle.fr_http.specs.Exchanges.{Answered, Dealing, Drawn, Exchange, IsExchange}
+use Rattle.fr_http.specs.Exchanges.{Answered, Dealing, Drawn, Exchanged, IsExchange}
 use Rattle.fr_http.specs.Head.{BeginsWith}
 use Rattle.fr_http.specs.Outcome.{IsOutcome}
-use Rattle.fr_http.specs.declared.asking.Demand.{Demand}
+use Rattle.fr_http.specs.declared.asking.Exchange.{Exchange}
 use Rattle.fr_http.specs.declared.fault.Unasked.{Unasked}
 use Rattle.fr_http.specs.declared.serve.Served.{Served}
 
 -- Bytes that begin with a head have one outcome, whoever has which key, and one interim reply.
 abbrev pub OutcomeIsOne : Type 0
-OutcomeIsOne = (who : List ℕ → Option Actor) (bytes one other : List ℕ) (outcome another : Result Demand Unasked)
+OutcomeIsOne = (who : List ℕ → Option Actor) (bytes one other : List ℕ) (outcome another : Result Exchange Unasked)
     (head : RequestHead) (rest : List ℕ) → BeginsWith bytes head rest →
     IsOutcome who bytes one outcome → IsOutcome who bytes other another → (outcome ≡ another) × (one ≡ other)
 
@@ -33,7 +33,7 @@ is_drawn _ = false
 -- Two connections that are served from one book, with the same bytes, which begin with a head and ask for no picture: where
 -- both are Unavailable or neither is, the same is written to them, and they lead to the same book.
 abbrev pub ExchangeIsOne : Type 0
-ExchangeIsOne = (c : Cluster) (b last end : Book) (x y : Exchange) (head : RequestHead) (rest : List ℕ) (told other : Served) →
+ExchangeIsOne = (c : Cluster) (b last end : Book) (x y : Exchanged) (head : RequestHead) (rest : List ℕ) (told other : Served) →
     IsExchange c b x last → IsExchange c b y end → x.read ≡ y.read → BeginsWith x.read head rest →
     x.done ≡ Ok told → y.done ≡ Ok other → is_drawn x.asked ≡ false → was_lacking x.asked ≡ was_lacking y.asked →
     (x.written ≡ y.written) × (told.status ≡ other.status) × (last ≡ end)

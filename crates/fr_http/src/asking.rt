@@ -1,4 +1,4 @@
-//! What a connection demands, by a request's head and body, and who demands it.
+//! What a connection asks of the register, by a request's head and body, and who asks.
 ghost use Rattle.std.specs.Prelude.{◌≡◌, IfOk};
 ghost use Rattle.fr_http.specs.Asking.{FindsActor, MakesCommand, MakesMatter, unasked_by};
 ghost use Rattle.fr_http.specs.Outcome.{asked_by};
@@ -14,16 +14,16 @@ use fr_text::{read_command, read_number};
 use std::alloc::Global;
 use std::str;
 
-/// What a connection demands of the register, and who demands it.
+/// An exchange with the register: what a connection asks of it, and who asks.
 #[derive(Drop)]
-pub enum Demand {
+pub enum Exchange {
     /// The answer to a request. The form of the reply depends on the method.
     Request { ask: Ask, method: Method },
     /// The page of a variant's plan, as the reader sees it.
     Picture { reader: Actor, variant: Text },
 }
 
-/// What is demanded, whoever demands it.
+/// What is asked, whoever asks it.
 #[derive(Drop)]
 pub(crate) enum Matter {
     /// The answer to a request.
@@ -33,16 +33,16 @@ pub(crate) enum Matter {
 }
 
 impl Matter {
-    /// The demand of this actor, by this method.
-    pub(crate) fn asked_by(self, actor: Actor, method: Method) -> Demand
+    /// The exchange of this actor, by this method.
+    pub(crate) fn asked_by(self, actor: Actor, method: Method) -> Exchange
         ensures { result ≡ asked_by actor method self }
     {
         match self {
-            Matter::Request(request) => Demand::Request {
+            Matter::Request(request) => Exchange::Request {
                 ask: Ask { actor, request },
                 method,
             },
-            Matter::Picture { variant } => Demand::Picture {
+            Matter::Picture { variant } => Exchange::Picture {
                 reader: actor,
                 variant,
             },

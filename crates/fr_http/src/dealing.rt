@@ -1,29 +1,29 @@
-//! Deals with a demand: the register answers a request, or a picture is drawn of what the
+//! Deals with an exchange: the register answers a request, or a picture is drawn of what the
 //! register's reports say. Then comes a reply.
 ghost use Rattle.fr_picture.specs.Reports.{AsksDesk};
 ghost use Rattle.fr_http.specs.Connection.{GivesReply, HasDrawn};
 
-use crate::asking::Demand;
+use crate::asking::Exchange;
 use crate::method::Method;
 use crate::reply::{ReplyText, answer_reply, page_reply};
 use fr_base::{Actor, Answer, Desk, NoMemory, Refusal};
 use fr_picture::{View, read_plan, write_page};
 use std::alloc::Global;
 
-/// The reply to a demand.
+/// The reply of an exchange.
 pub(crate) fn deal<D: Desk>(
     alloc: Global,
-    demand: &Demand,
+    exchange: &Exchange,
     desk: &mut D,
 ) -> Result<ReplyText, NoMemory>
-    ensures { AsksDesk D.Desk (GivesReply demand.now) desk.old desk.new result }
+    ensures { AsksDesk D.Desk (GivesReply exchange.now) desk.old desk.new result }
 {
-    match demand {
-        Demand::Request { ask, method } => {
+    match exchange {
+        Exchange::Request { ask, method } => {
             let answer = desk.ask(alloc, ask);
             answer_reply(alloc, *method, &answer)
         }
-        Demand::Picture { reader, variant } => {
+        Exchange::Picture { reader, variant } => {
             match picture(alloc, *reader, variant.as_str(), desk) {
                 Ok(page) => page_reply(page),
                 Err(refusal) => answer_reply(alloc, Method::Get, &Answer::Refused(refusal)),

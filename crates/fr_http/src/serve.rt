@@ -1,4 +1,4 @@
-//! Serves one connection: takes its demand, asks the register, and writes the reply.
+//! Serves one connection: reads what it asks, asks the register, and writes the reply.
 ghost use Rattle.std.specs.Prelude.{◌≡◌, ◌≤◌, IfErr, OnOk, false};
 ghost use Rattle.std.specs.List.{list_any};
 ghost use Rattle.fr_http.specs.Calls.{ReadsAndWrites, WritesTo};
@@ -7,7 +7,7 @@ ghost use Rattle.fr_http.specs.Exchanges.{was_asked};
 ghost use Rattle.fr_http.specs.Outcome.{due, is_continue};
 ghost use Rattle.fr_http.specs.Reads.{IsReadWithin, MayEnd, MayEndAsking, SpendsReads};
 
-use crate::asking::{Demand, actor, asked_matter};
+use crate::asking::{Exchange, actor, asked_matter};
 use crate::body::read_body;
 use crate::dealing::deal;
 use crate::fault::{LinkFault, Unasked};
@@ -76,7 +76,7 @@ fn serve<R: Source, W: Sink, D: Desk>(
     ensures retries { output.new.retries ≤ output.old.retries }
 {
     match take(alloc, input, output, desk) {
-        Ok(demand) => answer(alloc, &demand, output, desk),
+        Ok(exchange) => answer(alloc, &exchange, output, desk),
         Err(Unasked::Engine(rejection)) => send(engine_reply(alloc, rejection), output, false),
         Err(Unasked::Refused(refusal)) => send(
             answer_reply(alloc, Method::Post, &Answer::Refused(refusal)),
@@ -94,7 +94,7 @@ fn take<R: Source, W: Sink, D: Desk>(
     input: &mut Input<'_, R>,
     output: &mut Output<'_, W>,
     desk: &D,
-) -> Result<Demand, Unasked>
+) -> Result<Exchange, Unasked>
     ensures taken { ReadsAndWrites R.Read W.Write (HasTaken (D.stands desk.now))
         input.old input.new output.old output.new result }
     ensures reads { SpendsReads R.reads (MayEndAsking R.reads) input.old input.new result }
@@ -149,18 +149,18 @@ fn expects_continue(mut values: Values<'_>) -> bool
 // Deals with what is asked, and writes the reply.
 fn answer<W: Sink, D: Desk>(
     alloc: Global,
-    demand: &Demand,
+    exchange: &Exchange,
     output: &mut Output<'_, W>,
     desk: &mut D,
 ) -> Result<Served, LinkFault>
     ensures falls { D.clean desk.new → D.clean desk.old }
     ensures answered { WritesTo W.Write
-        (HasAnswered (D.clean desk.new) (D.stands desk.old) (D.stands desk.new) demand.now)
+        (HasAnswered (D.clean desk.new) (D.stands desk.old) (D.stands desk.new) exchange.now)
         output.old output.new result }
     ensures flushed { OnOk result (WasFlushed W.flushes output.new.writer.now) }
     ensures retries { output.new.retries ≤ output.old.retries }
 {
-    send(deal(alloc, demand, desk), output, true)
+    send(deal(alloc, exchange, desk), output, true)
 }
 
 // Writes a reply, if there was memory for it.

@@ -8,6 +8,17 @@ use crate::fields::{Fields, allow_only, copy_text, flag_in, number_in, text_in};
 use fr_base::{Body, Refusal, Request};
 use std::alloc::Global;
 
+// The fields of a request that makes a placement, or ends one.
+const PLACEMENT: &[&str] = &[
+    "do",
+    "variant",
+    "frame",
+    "slot",
+    "channels",
+    "base",
+    "repetition",
+];
+
 #[tactic(auto, unfolding(crate::specs::RequestText::add_frame))]
 pub(super) fn add_frame(alloc: Global, fields: &Fields) -> Result<Request, Refusal>
     ensures { Reads (λ request. request) (add_frame (fields_in fields.now)) result }
@@ -37,18 +48,7 @@ pub(super) fn placing(alloc: Global, fields: &Fields, ends: bool) -> Result<Requ
     ensures { Reads (λ request. request)
         (placing (if ends then request.Unplace else request.Place) (fields_in fields.now)) result }
 {
-    allow_only(
-        fields,
-        &[
-            "do",
-            "variant",
-            "frame",
-            "slot",
-            "channels",
-            "base",
-            "repetition",
-        ],
-    )?;
+    allow_only(fields, PLACEMENT)?;
     let variant = copy_text(alloc, fields, "variant")?;
     let frame = copy_text(alloc, fields, "frame")?;
     let slot = number_in(fields, "slot")?;

@@ -2,7 +2,7 @@ use Rattle.std.proofs.Common.{rules, ◌≡◌, Ok, Err, sym, subst}
 use Rattle.fr_http.specs.Connection.{HasDealt, HasDrawn}
 use Rattle.fr_http.specs.Reply.{answer_reply, page_reply}
 use Rattle.fr_base.specs.declared.answer.Answer.TheVariants as answer
-use Rattle.fr_http.specs.declared.asking.Demand.TheVariants as demand
+use Rattle.fr_http.specs.declared.asking.Exchange.TheVariants as exchange
 use Rattle.fr_http.specs.declared.method.Method.TheVariants.{Get}
 use Rattle.fr_http.proofs.DealingLaws.{page_dealt, refusal_dealt, request_dealt}
 use Rattle.fr_http.proofs.dealing.deal.Goals as goal
@@ -12,7 +12,7 @@ returns-in-Request g c =
     let ask = c.in-Request.ask in
     let method = c.in-Request.method in
     let reply = answer_reply method c.ask-answer.result in
-    let is : c.args.demand.now ≡ demand.Request ask method = search rules in
+    let is : c.args.exchange.now ≡ exchange.Request ask method = search rules in
     record {
       does = (
         reply,
@@ -28,7 +28,7 @@ returns-in-Ok g c =
     let reader = c.in-Picture.reader in
     let variant = c.in-Picture.variant in
     let reply = page_reply c.in-Ok.page.items in
-    let is : c.args.demand.now ≡ demand.Picture reader variant = search rules in
+    let is : c.args.exchange.now ≡ exchange.Picture reader variant = search rules in
     record {
       does = (
         reply,
@@ -44,7 +44,7 @@ returns-in-Err g c =
     let reader = c.in-Picture.reader in
     let variant = c.in-Picture.variant in
     let reply = answer_reply Get (answer.Refused c.in-Err.refusal) in
-    let is : c.args.demand.now ≡ demand.Picture reader variant = search rules in
+    let is : c.args.exchange.now ≡ exchange.Picture reader variant = search rules in
     record {
       does = (
         reply,

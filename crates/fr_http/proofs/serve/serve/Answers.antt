@@ -10,7 +10,7 @@ use Rattle.fr_http.proofs.serve.serve.Goals as goal
 pub returns-in-Ok-clause-served : goal.returns-in-Ok-clause-served
 returns-in-Ok-clause-served g c =
     record {
-      does = served_asked _ _ _ _ _ _ _ _ c.in-Ok.demand c.answer.result c.in-Ok.ensures.taken.does c.answer.ensures.answered.does;
+      does = served_asked _ _ _ _ _ _ _ _ c.in-Ok.exchange c.answer.result c.in-Ok.ensures.taken.does c.answer.ensures.answered.does;
       same_reader = search rules;
       same_writer = search rules;
     }
