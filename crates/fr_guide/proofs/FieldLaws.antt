@@ -11,7 +11,7 @@ use Rattle.serde_json.specs.Find.{as_null, as_number, as_object, as_str, as_u64,
 use Rattle.serde_json.specs.Read.{read}
 use Rattle.fr_base.specs.declared.request.Request.{Request}
 use Rattle.fr_text.specs.Fields.{◌>>=◌, ◌>>◌, is_among, provided, flag, text, text_or_null, value_of, whole}
-use Rattle.fr_text.specs.RequestText.{request_of, request_in, readers, open_variant, release, add_supplier, set_key, add_node, grant, revoke, add_frame, drop_frame, place, unplace, add_signal, drop_signal, import, replace, trial, inventory, difference, report, layout, room, export}
+use Rattle.fr_text.specs.RequestText.{request_of, request_in, readers, open_variant, release, add_supplier, set_key, add_node, grant, revoke, add_frame, drop_frame, placing, add_signal, drop_signal, import, replace, trial, inventory, difference, report, layout, room, export}
 use Rattle.fr_guide.specs.Faults.{are_none}
 use Rattle.fr_guide.specs.RequestFields.{are_of_request, is_request, has_fields, has_fields_of, has_just, has_kind, is_whole, kind_of, numbers, requests}
 use Rattle.fr_guide.specs.declared.requests.forms.Kind.TheVariants as kind
@@ -131,7 +131,7 @@ unfolding Parallel
 none = tt
 
 each : Parallel readers requests
-unfolding readers requests open_variant release add_supplier set_key add_node grant revoke add_frame drop_frame place unplace add_signal drop_signal import replace trial inventory difference report layout room export kind_of numbers is_among
+unfolding readers requests open_variant release add_supplier set_key add_node grant revoke add_frame drop_frame placing add_signal drop_signal import replace trial inventory difference report layout room export kind_of numbers is_among
 each =
     more _ _ _ _ _ (λ fields. first _ _ _ (texted _ fields _ _ (λ v. nulled _ fields _ true (λ p. refl))))
     (more _ _ _ _ _ (λ fields. first _ _ _ (texted _ fields _ true (λ v. refl)))
