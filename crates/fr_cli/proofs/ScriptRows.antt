@@ -27,7 +27,7 @@ use Rattle.fr_cli.specs.ScriptRun.{answers_of, answers_to, lines_of}
 
 -- what the rows below unfold
 unfoldable pub a_script : ⊤
-unfolding a_small_register actor_of key_and_text request_lines ask_in encode_utf8 scan_numeral chars is_utf8 value lex punctuate content after_number word number_of value_of is_among only text text_or_null whole request.open_variant request.release request.add_supplier request.add_node request.grant request.revoke request.add_frame request.drop_frame request.place request.unplace request.add_signal request.drop_signal request.import request.inventory request.report request.layout request.readers request.request_in request.request_of
+unfolding a_small_register actor_of key_and_text request_lines ask_in encode_utf8 scan_numeral chars is_utf8 value lex punctuate content after_number word number_of value_of is_among only text text_or_null whole request.open_variant request.release request.add_supplier request.add_node request.grant request.revoke request.add_frame request.drop_frame request.placing request.add_signal request.drop_signal request.import request.inventory request.report request.layout request.readers request.request_in request.request_of
 a_script = tt
 
 -- a line: a key, a space, and a request
