@@ -1,7 +1,8 @@
 //! What is printed of a job on standard output and standard error, and its status.
-ghost use Rattle.std.specs.Prelude.{◌≡◌, ◌≤◌};
+ghost use Rattle.std.specs.Prelude.{◌≡◌, ◌≤◌, OnOk};
+ghost use Rattle.std.specs.Io.KnownBytes.{Appends};
 ghost use Rattle.fr_http.specs.Calls.{WritesTo};
-ghost use Rattle.fr_cli.specs.Endings.{IsPrinted, IsTold, NamesFault, Prints, Tells, status_of};
+ghost use Rattle.fr_cli.specs.Endings.{IsPrinted, IsTold, NamesFault, Prints, Tells, status_of, word_line};
 
 use crate::failure::Failure;
 use crate::fault::Fault;
@@ -62,6 +63,8 @@ pub fn print<W: Write>(text: &[u8], output: &mut Output<'_, W>) -> Result<(), Wr
 /// Writes the line that names a fault. The line has retries of its own.
 pub fn print_word<W: Write>(word: &str, output: &mut Output<'_, W>) -> Result<(), WriteFailed>
     ensures front { WritesTo W.Write (NamesFault word.now) output.old output.new result }
+    ensures whole { OnOk result (Appends (W.contents output.old.writer.now)
+        (W.contents output.new.writer.now) (word_line word.now)) }
     ensures retries { output.new.retries ≤ WRITE_RETRIES }
 {
     output.restore_retries();
