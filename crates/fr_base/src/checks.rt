@@ -230,8 +230,8 @@ fn drop_frame(actor: &Actor, variant: &Text, frame: &Text) -> Result<Checked<'st
 }
 
 // Checks the request for a placement of a frame, or, where it `ends`, the request to take one back.
-// `placed` is the placement that its slot, channels, base and repetition make, or why they make none.
-// A refusal by the supplier, the variant or the frame comes before that.
+// `placed` is the placement that its slot, channels, base and repetition make, or why they make
+// none. A refusal by the supplier, the variant or the frame comes before that.
 #[tactic(auto, unfolding(crate::proofs::ChecksLemmas::frames_open))]
 fn placing(
     actor: &Actor,

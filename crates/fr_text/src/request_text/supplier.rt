@@ -42,7 +42,8 @@ pub(super) fn drop_frame(alloc: Global, fields: &Fields) -> Result<Request, Refu
     })
 }
 
-// Reads the request that makes a placement, or, where it `ends`, the one that takes a placement back.
+// Reads the request that makes a placement, or, where it `ends`, the one that takes a placement
+// back.
 #[tactic(auto, unfolding(crate::specs::RequestText::placing))]
 pub(super) fn placing(alloc: Global, fields: &Fields, ends: bool) -> Result<Request, Refusal>
     ensures { Reads (λ request. request)
