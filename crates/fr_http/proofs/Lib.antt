@@ -4,6 +4,7 @@ pub mod ReplyLaws
 pub mod PlanLaws
 pub mod ReadingLaws
 pub mod ReadsLaws
+pub mod WritesLaws
 pub mod ServeLaws
 pub mod KeyLaws
 mod WorkedRows

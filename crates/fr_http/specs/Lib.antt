@@ -5,6 +5,7 @@ pub mod Outcome
 pub mod Planning
 pub mod Reading
 pub mod Reads
+pub mod Writes
 pub mod Asking
 pub mod Calls
 pub mod Reply

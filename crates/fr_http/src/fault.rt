@@ -23,8 +23,7 @@ pub enum Rejection {
     NotImplemented,
 }
 
-/// Why a connection had no final reply, or may not have a whole one. `asked` says whether the register was asked. When a
-/// write fails, no clause says.
+/// Why a connection had no final reply, or may not have a whole one. `asked` says whether the register was asked.
 #[derive(Clone, Copy, Debug, PartialEq, Eq)]
 pub enum LinkFault {
     /// The input ended before a whole request had come.

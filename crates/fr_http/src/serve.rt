@@ -1,11 +1,12 @@
 //! Serves one connection: reads what it asks, asks the register, and writes the reply.
-ghost use Rattle.std.specs.Prelude.{◌≡◌, ◌≤◌, IfErr, OnOk, false};
+ghost use Rattle.std.specs.Prelude.{◌≡◌, ◌≤◌, IfErr, OnErr, OnOk, false};
 ghost use Rattle.std.specs.List.{list_any};
 ghost use Rattle.fr_http.specs.Calls.{ReadsAndWrites, WritesTo};
 ghost use Rattle.fr_http.specs.Connection.{HasAnswered, HasTaken, Invites, IsConnection, Sends, WasFlushed, WritesText};
 ghost use Rattle.fr_http.specs.Exchanges.{was_asked};
 ghost use Rattle.fr_http.specs.Outcome.{due, is_continue};
 ghost use Rattle.fr_http.specs.Reads.{IsReadWithin, MayEnd, MayEndAsking, SpendsReads};
+ghost use Rattle.fr_http.specs.Writes.{LastFailed, MayFail, MayFailAsking};
 
 use crate::asking::{Exchange, actor, asked_matter};
 use crate::body::read_body;
@@ -50,6 +51,9 @@ pub fn serve_one<R: Source, W: Sink, D: Desk>(
     // Where a reply was written it was flushed.
     ensures flushed { OnOk result (WasFlushed W.flushes writer.new) }
 
+    // A fault of writing comes only where the last call on the writer failed.
+    ensures failed { IfErr result (λ fault. MayFail W.writes W.flushes fault writer.new) }
+
     // Where the register was not asked it is as it was.
     ensures stays { was_asked result ≡ false → desk.new ≡ desk.old }
 {
@@ -73,6 +77,8 @@ fn serve<R: Source, W: Sink, D: Desk>(
     ensures stays { was_asked result ≡ false → desk.new ≡ desk.old }
     ensures reads { SpendsReads R.reads (MayEnd R.reads) input.old input.new result }
     ensures flushed { OnOk result (WasFlushed W.flushes output.new.writer.now) }
+    ensures failed { IfErr result (λ fault. MayFail W.writes W.flushes fault
+        output.new.writer.now) }
     ensures retries { output.new.retries ≤ output.old.retries }
 {
     match take(alloc, input, output, desk) {
@@ -98,6 +104,8 @@ fn take<R: Source, W: Sink, D: Desk>(
     ensures taken { ReadsAndWrites R.Read W.Write (HasTaken (D.stands desk.now))
         input.old input.new output.old output.new result }
     ensures reads { SpendsReads R.reads (MayEndAsking R.reads) input.old input.new result }
+    ensures failed { IfErr result (λ unasked. MayFailAsking W.writes W.flushes unasked
+        output.new.writer.now) }
     ensures retries { output.new.retries ≤ output.old.retries }
 {
     let received = receive(alloc, input)?;
@@ -116,6 +124,7 @@ fn invite<W: Sink>(
     output: &mut Output<'_, W>,
 ) -> Result<(), LinkFault>
     ensures sent { WritesTo W.Write (Invites plan.now received.now.0) output.old output.new result }
+    ensures failed { OnErr result (LastFailed W.writes W.flushes output.new.writer.now) }
     ensures retries { output.new.retries ≤ output.old.retries }
 {
     if is_due(received, plan.length) {
@@ -158,6 +167,8 @@ fn answer<W: Sink, D: Desk>(
         (HasAnswered (D.clean desk.new) (D.stands desk.old) (D.stands desk.new) exchange.now)
         output.old output.new result }
     ensures flushed { OnOk result (WasFlushed W.flushes output.new.writer.now) }
+    ensures failed { IfErr result (λ fault. MayFail W.writes W.flushes fault
+        output.new.writer.now) }
     ensures retries { output.new.retries ≤ output.old.retries }
 {
     send(deal(alloc, exchange, desk), output, true)
@@ -171,6 +182,8 @@ fn send<W: Sink>(
 ) -> Result<Served, LinkFault>
     ensures sent { WritesTo W.Write (Sends reply asked) output.old output.new result }
     ensures flushed { OnOk result (WasFlushed W.flushes output.new.writer.now) }
+    ensures failed { IfErr result (λ fault. MayFail W.writes W.flushes fault
+        output.new.writer.now) }
     ensures retries { output.new.retries ≤ output.old.retries }
 {
     let reply = reply.map_err(|_| LinkFault::NoMemory { asked })?;
@@ -186,6 +199,7 @@ fn write<W: Sink>(bytes: &[u8], output: &mut Output<'_, W>, asked: bool) -> Resu
     ensures written { WritesTo W.Write (WritesText bytes.now) output.old output.new result }
     ensures fault { IfErr result (λ fault. fault ≡ LinkFault.WriteFailed asked) }
     ensures flushed { OnOk result (WasFlushed W.flushes output.new.writer.now) }
+    ensures failed { OnErr result (LastFailed W.writes W.flushes output.new.writer.now) }
     ensures retries { output.new.retries ≤ output.old.retries }
 {
     match write_out(bytes, output) {
@@ -198,6 +212,7 @@ fn write<W: Sink>(bytes: &[u8], output: &mut Output<'_, W>, asked: bool) -> Resu
 fn write_out<W: Sink>(bytes: &[u8], output: &mut Output<'_, W>) -> Result<(), WriteFailed>
     ensures written { WritesTo W.Write (WritesText bytes.now) output.old output.new result }
     ensures flushed { OnOk result (WasFlushed W.flushes output.new.writer.now) }
+    ensures failed { OnErr result (LastFailed W.writes W.flushes output.new.writer.now) }
     ensures retries { output.new.retries ≤ output.old.retries }
 {
     output.write_all(bytes)?;

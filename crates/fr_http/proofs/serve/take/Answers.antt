@@ -1,4 +1,4 @@
-use Rattle.std.proofs.Common.{rules, ◌≡◌, ◌++◌, Err, Ok, None, Some, sym, length, ◌≤◌, ◌-◌, subst, ap, ◌∙◌}
+use Rattle.std.proofs.Common.{rules, ◌≡◌, ◌++◌, Err, Ok, None, Some, IfErr, sym, length, ◌≤◌, ◌-◌, subst, ap, ◌∙◌}
 use Rattle.fr_base.specs.declared.refusal.Refusal.TheVariants.{UnknownKey}
 use Rattle.fr_http.specs.Asking.{FindsActor, MakesMatter}
 use Rattle.fr_http.specs.Connection.{HasTaken}
@@ -7,6 +7,8 @@ use Rattle.fr_http.specs.Reading.{LacksBody}
 use Rattle.fr_http.specs.Routes.{matter_by, method_of, path_of}
 use Rattle.fr_http.specs.declared.fault.Unasked.TheVariants.{Fault, Refused}
 use Rattle.fr_http.proofs.ServeLaws.{no_actor, no_body, no_matter, not_invited, planned_nothing, received_nothing, to_ask}
+use Rattle.fr_http.specs.Writes.{MayFailAsking}
+use Rattle.fr_http.proofs.WritesLaws.{may_fail, unbodied, unmade, unplanned, unreceived}
 use Rattle.fr_http.proofs.serve.take.Goals as goal
 
 pub returns-in_err-received-clause-taken : goal.returns-in_err-received-clause-taken
@@ -125,3 +127,44 @@ returns-clause-taken g c =
       same_reader = search rules;
       same_writer = search rules;
     }
+
+pub returns-in_err-received-clause-failed : goal.returns-in_err-received-clause-failed
+returns-in_err-received-clause-failed g c =
+    let unasked = c.in_err-received.field-0.0 in
+    let is : c.from_residual.result ≡ Err unasked = search rules in
+    let last = c.args.output.now.writer.now in
+    subst (λ r. IfErr r (λ u. MayFailAsking g.W.Sink.writes g.W.Sink.flushes u last)) (sym is) (unreceived g.W.Sink.writes g.W.Sink.flushes _ _ unasked last c.in_err-received.ensures.received.does)
+
+pub returns-in_err-plan-clause-failed : goal.returns-in_err-plan-clause-failed
+returns-in_err-plan-clause-failed g c =
+    let unasked = c.in_err-plan.field-0.0 in
+    let is : c.from_residual-in_err-plan.result ≡ Err unasked = search rules in
+    let last = c.args.output.now.writer.now in
+    subst (λ r. IfErr r (λ u. MayFailAsking g.W.Sink.writes g.W.Sink.flushes u last)) (sym is) (unplanned g.W.Sink.writes g.W.Sink.flushes c.in_ok-received.received.0 unasked last c.in_err-plan.ensures)
+
+pub returns-in_err-invite-clause-failed : goal.returns-in_err-invite-clause-failed
+returns-in_err-invite-clause-failed g c =
+    let fault = c.in_err-invite.field-0.0 in
+    let is : c.from_residual-in_err-invite.result ≡ Err (Fault fault) = search rules in
+    let last = c.invite.new.output.writer.now in
+    subst (λ r. IfErr r (λ u. MayFailAsking g.W.Sink.writes g.W.Sink.flushes u last)) (sym is) (may_fail g.W.Sink.writes g.W.Sink.flushes fault last c.in_err-invite.ensures.failed)
+
+pub returns-in_err-body-clause-failed : goal.returns-in_err-body-clause-failed
+returns-in_err-body-clause-failed g c =
+    let fault = c.in_err-body.field-0.0 in
+    let is : c.from_residual-in_err-body.result ≡ Err (Fault fault) = search rules in
+    let last = c.invite.new.output.writer.now in
+    let (more, consumed, lacks, few) = c.in_err-body.ensures.body.does in
+    subst (λ r. IfErr r (λ u. MayFailAsking g.W.Sink.writes g.W.Sink.flushes u last)) (sym is) (unbodied g.W.Sink.writes g.W.Sink.flushes c.in_ok-plan.plan.length _ _ fault last lacks)
+
+pub returns-in_err-matter-clause-failed : goal.returns-in_err-matter-clause-failed
+returns-in_err-matter-clause-failed g c =
+    let unasked = c.in_err-matter.field-0.0 in
+    let is : c.from_residual-in_err-matter.result ≡ Err unasked = search rules in
+    let last = c.invite.new.output.writer.now in
+    subst (λ r. IfErr r (λ u. MayFailAsking g.W.Sink.writes g.W.Sink.flushes u last)) (sym is) (unmade g.W.Sink.writes g.W.Sink.flushes _ _ _ unasked last c.in_err-matter.ensures)
+
+pub returns-in_err-actor-clause-failed : goal.returns-in_err-actor-clause-failed
+returns-in_err-actor-clause-failed g c =
+    let is : c.from_residual-in_err-actor.result ≡ Err (Refused UnknownKey) = search rules in
+    subst (λ r. IfErr r (λ u. MayFailAsking g.W.Sink.writes g.W.Sink.flushes u c.invite.new.output.writer.now)) (sym is) tt

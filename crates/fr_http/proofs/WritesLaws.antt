@@ -1,0 +1,64 @@
+-- Writes and flushes that failed, and faults that are none of writing.
+use Rattle.std.proofs.Common.{◌≡◌, Bool, cond, ℕ, List, Option, Result, Ok, Err, inl, inr, refl, sym, subst}
+use Rattle.std.specs.Prelude.{◌↔◌, IsOk, OnErr, ⊤}
+use Rattle.std.specs.declared.io.Error.{Error}
+use Rattle.fr_text.specs.Writing.{Ends, IsWriting, Progress, Writes}
+use Rattle.fr_text.specs.declared.output.WriteFailed.{WriteFailed as Unwritten}
+use Rattle.fr_http.specs.Asking.{MakesMatter}
+use Rattle.fr_http.specs.Head.{HeadData}
+use Rattle.fr_http.specs.Planning.{Plans}
+use Rattle.fr_http.specs.Reading.{HasReceived, LacksBody}
+use Rattle.fr_http.specs.Writes.{Flushes, LastFailed, MayFail, MayFailAsking}
+use Rattle.fr_http.specs.declared.fault.LinkFault.{LinkFault}
+use Rattle.fr_http.specs.declared.fault.LinkFault.TheVariants.{Truncated, ReadFailed, TooManyReads, WriteFailed, NoMemory}
+use Rattle.fr_http.specs.declared.fault.Unasked.{Unasked}
+use Rattle.fr_http.specs.declared.fault.Unasked.TheVariants.{Engine, Fault, Refused}
+use Rattle.fr_http.specs.declared.routes.Route.{Route}
+
+module _ {W : Type 0} (writes : Writes W) (flushes : Flushes W) where
+  -- a text that was not written whole
+  pub write_failed : (from : Progress W) (done : Result ⊤ Unwritten) (why : Unwritten) (last : W) (left : ℕ) → done ≡ Err why → IsWriting writes from done last left
+      → LastFailed writes flushes last
+  write_failed from done why last left is written = inl (written.to, why, subst (λ d. Ends writes written.to d last) is written.ends)
+
+  -- a flush that gave an error
+  pub flush_failed : (mid last : W) (done : Result ⊤ Unwritten) (given : Result ⊤ Error) → flushes mid given last → IsOk done ↔ IsOk given → OnErr done (LastFailed writes flushes last)
+  flush_failed mid last (Ok done) given went alike = tt
+  flush_failed mid last (Err failed) (Err e) went alike = inr (mid, e, went)
+  flush_failed mid last (Err failed) (Ok done) went alike = absurd (subst (λ (b : Bool). cond b ⊥ (Unit {0})) (alike.1 refl) tt)
+
+  -- a fault behind a call that failed
+  pub may_fail : (fault : LinkFault) (last : W) → LastFailed writes flushes last → MayFail writes flushes fault last
+  may_fail Truncated last failed = tt
+  may_fail ReadFailed last failed = tt
+  may_fail TooManyReads last failed = tt
+  may_fail (WriteFailed asked) last failed = failed
+  may_fail (NoMemory asked) last failed = tt
+
+  -- where no head came
+  pub unreceived : (input left : Option (List ℕ)) (unasked : Unasked) (last : W) → HasReceived input left (Err unasked) → MayFailAsking writes flushes unasked last
+  unreceived input left (Engine rejection) last has = tt
+  unreceived input left (Refused refusal) last has = tt
+  unreceived input left (Fault Truncated) last has = tt
+  unreceived input left (Fault ReadFailed) last has = tt
+  unreceived input left (Fault TooManyReads) last has = tt
+  unreceived input left (Fault (WriteFailed asked)) last (bytes, consumed, fails, size) = absurd fails
+  unreceived input left (Fault (NoMemory asked)) last has = tt
+
+  -- where the head asks for nothing
+  pub unplanned : (head : HeadData) (unasked : Unasked) (last : W) → Plans head (Err unasked) → MayFailAsking writes flushes unasked last
+  unplanned head unasked last (inl lacks) = subst (λ u. MayFailAsking writes flushes u last) (sym lacks) tt
+  unplanned head unasked last (inr (rejection, is, plan)) = subst (λ u. MayFailAsking writes flushes u last) (sym is) tt
+
+  -- where the body is not whole
+  pub unbodied : (n : ℕ) (bytes : List ℕ) (left : Option (List ℕ)) (fault : LinkFault) (last : W) → LacksBody n bytes left fault → MayFail writes flushes fault last
+  unbodied n bytes left Truncated last lacks = tt
+  unbodied n bytes left ReadFailed last lacks = tt
+  unbodied n bytes left TooManyReads last lacks = tt
+  unbodied n bytes left (WriteFailed asked) last lacks = absurd lacks
+  unbodied n bytes left (NoMemory asked) last lacks = tt
+
+  -- where the text is no request
+  pub unmade : (route : Route) (path body : List ℕ) (unasked : Unasked) (last : W) → MakesMatter route path body (Err unasked) → MayFailAsking writes flushes unasked last
+  unmade route path body unasked last (inl lacks) = subst (λ u. MayFailAsking writes flushes u last) (sym lacks) tt
+  unmade route path body unasked last (inr (is, none)) = subst (λ u. MayFailAsking writes flushes u last) (sym is) tt
