@@ -2,7 +2,6 @@
 use Rattle.std.proofs.Common.{◌≡◌, ◌⊎◌, ◌∙◌, inl, inr, ℕ, List, [], append-nil, length, Some, None, Ok, Err, Result, Option, refl, subst, sym, ap}
 use Rattle.std.specs.Borrow.{Bor}
 use Rattle.std.specs.Global.{Vec}
-use Rattle.std.specs.Io.KnownBytes.{Keeps}
 use Rattle.std.specs.Prelude.{IfSome, OnOk, ⊤}
 use Rattle.sqlite.specs.Files.{IsCleanLeft}
 use Rattle.sqlite.specs.declared.file.Leftover.{Leftover}
@@ -22,18 +21,19 @@ use Rattle.fr_base.proofs.SoundLaws.{opening-sound}
 use Rattle.fr_store.specs.StoreFiles.{HoldsBook}
 use Rattle.fr_desks.specs.FileDesk.{Held, IsLeftWith}
 use Rattle.fr_desks.specs.Sessions.{Session}
-use Rattle.fr_http.specs.Connection.{AppendsFront, InSound}
+use Rattle.fr_http.specs.Connection.{InSound}
 use Rattle.fr_picture.specs.Pages.{IsPage}
 use Rattle.fr_picture.specs.declared.plan.Plan.{Plan}
 use Rattle.fr_cli.specs.Answering.{Account}
 use Rattle.fr_cli.specs.Asking.{IsForReader, asked_with, query_of}
 use Rattle.fr_cli.specs.Deeds.{Asked, Deed, Did, Drawn, IsDeedOf, IsShown, LacksAnswer, Lines, Visits, WereLines, asks_by, session_of}
 use Rattle.fr_cli.specs.Deliveries.{request_with}
-use Rattle.fr_cli.specs.Endings.{Tells, status_of, word_line}
+use Rattle.fr_cli.specs.Endings.{NamesFault, Tells, status_of}
 use Rattle.fr_cli.specs.Faults.{IsNotDelivered, IsNotOpened, IsNotReported, fault_word}
 use Rattle.fr_cli.specs.Incoming.{AreFirstOf, HasAnswered, IsAsked}
 use Rattle.fr_cli.specs.Jobs.{Ends, IsPerformed, Serves, Shows, Streams}
 use Rattle.fr_cli.specs.Outcomes.{line_of}
+use Rattle.fr_cli.specs.Outlets.{held_before, held_behind}
 use Rattle.fr_cli.specs.Performing.{Says, of_script}
 use Rattle.fr_cli.specs.Picturing.{plans_for}
 use Rattle.fr_cli.specs.Queries.{reader_named}
@@ -44,7 +44,7 @@ use Rattle.fr_cli.specs.ScriptRun.{AreAnswered, Replied, asks_in, with_ask}
 use Rattle.fr_cli.specs.Series.{AsksRegister, Follows, IsNextOf, LeadsBy, WasNotOpened, end_of}
 use Rattle.fr_cli.specs.Serving.{IsServed, ServesAll}
 use Rattle.fr_cli.specs.Texts.{IsClusterAt, Readings}
-use Rattle.fr_cli.specs.Visits.{Comings, Visit}
+use Rattle.fr_cli.specs.Visits.{Comings, SinkGhosts, Visit}
 use Rattle.fr_cli.specs.declared.delivery.Delivery.{Delivery}
 use Rattle.fr_cli.specs.declared.failure.Failure.{Failure}
 use Rattle.fr_cli.specs.declared.failure.Failure.TheVariants as failure
@@ -55,7 +55,6 @@ use Rattle.fr_cli.specs.declared.script_fault.ScriptFault.{ScriptFault}
 use Rattle.fr_cli.specs.declared.words.Job.{Job}
 use Rattle.fr_cli.specs.declared.words.Job.TheVariants as job
 use Rattle.fr_cli.proofs.HoldingLaws.{holds_on}
-use Rattle.fr_cli.proofs.ServingLaws.{appends-kept}
 
 -- ---- streams
 
@@ -159,7 +158,7 @@ module _ {D R : Type 0} {g : Ghosts D} (desk : Desk.Ghosts R) (held : Image) (re
 
   -- ---- by job
 
-  module _ (read : Readings) (comings : Comings) (s : Streams) (status : ℕ) where
+  module _ {O E : Type 0} {printed : SinkGhosts O} {told : SinkGhosts E} (read : Readings) (comings : Comings) (s : Streams printed told) (status : ℕ) where
     -- How a job ended: with a deed that leads on, or as one that did not open the file.
     abbrev Leading : Job → Type 0
     Leading j = WasNotOpened held rest comings s status
@@ -241,7 +240,7 @@ module _ {D R : Type 0} {g : Ghosts D} (desk : Desk.Ghosts R) (held : Image) (re
 
     -- lines that were answered, whatever is said of them
     pub answered_lines : {account : Account} (asked : Result ⊤ ScriptFault) → status ≡ status_of (of_script asked)
-        → HasAnswered account s.input.old s.input.new s.out.old s.out.new asked
+        → HasAnswered account s.input.old s.input.new (held_before s.out) (held_behind s.out) asked
         → (lines : List (List ℕ)) × (answers : List Answer) × WereLines s status lines answers × account.all lines answers
     answered_lines (Ok x) ends has =
         let (lines, written, whole, short, appended, told) = has.all in
@@ -271,16 +270,16 @@ module _ {D R : Type 0} {g : Ghosts D} (desk : Desk.Ghosts R) (held : Image) (re
         (cut.lines, cut.answered.answers, were, cut.answered.answered)
 
     -- where the file was not opened, to answer lines
-    pub not_asked : (done : Result ⊤ Fault) (fault : Fault) → comings.none → done ≡ Err fault → IsNotOpened held rest fault → Keeps s.out.old s.out.new → Ends done s status
+    pub not_asked : (done : Result ⊤ Fault) (fault : Fault) → comings.none → done ≡ Err fault → IsNotOpened held rest fault → s.out.new ≡ s.out.old → Ends done s status
         → WasNotOpened held rest comings s status
     not_asked done fault none failed not silent ends =
         let (ended, told) = subst (λ (d : Result ⊤ Fault). Ends d s status) failed ends in not_opened fault (inr not) (ended, silent, told) none
 
-    ask : (db : Bor (List ℕ)) (done : Result ⊤ Fault) → comings.none → IsAsked desk held rest s.input.old s.input.new s.out.old s.out.new done → Ends done s status
+    ask : (db : Bor (List ℕ)) (done : Result ⊤ Fault) → comings.none → IsAsked desk held rest s.input.old s.input.new s.out done → Ends done s status
         → Leading (job.Ask db)
     unfolding IsAsked
     ask db done none (inl (fault, failed, not, kept, silent)) ends = inl (not_asked done fault none failed not silent ends)
-    ask db done none (inr (asked, last, old, new, over, same, at_end, has)) ends =
+    ask db done none (inr (asked, last, old, new, over, same, at_end, stops, has)) ends =
         let (lines, answers, were, all) = answered_lines asked (ends.0 ∙ ap status_of same) has in
         led (job.Ask db) (Lines lines answers) were (lines_lead last over.left.0 lines answers all.0)
 
@@ -290,18 +289,17 @@ module _ {D R : Type 0} {g : Ghosts D} (desk : Desk.Ghosts R) (held : Image) (re
     all_served count visits (Err fault) ends all zero = absurd (not_done status ends zero)
 
     -- where the file was not opened, to serve connections
-    pub not_served : (done : Result ⊤ Fault) (told : Option (List ℕ)) (fault : Fault) → status ≡ status_of done → done ≡ Err fault → IsNotOpened held rest fault → comings.none
-        → Keeps s.out.old s.out.new → Keeps s.err.old told → Tells told s.err.new done → WasNotOpened held rest comings s status
-    not_served done told fault ends failed not stayed silent kept tells =
-        let (written, begins, appended) = subst (λ (d : Result ⊤ Fault). Tells told s.err.new d) failed tells in
-        let front : AppendsFront s.err.old s.err.new (word_line (fault_word fault)) = (written, begins, appends-kept s.err.old told s.err.new written kept appended) in
-        not_opened fault (inr not) (ends ∙ ap status_of failed, silent, front) stayed
+    pub not_served : (done : Result ⊤ Fault) (mid : E) (fault : Fault) → status ≡ status_of done → done ≡ Err fault → IsNotOpened held rest fault → comings.none
+        → s.out.new ≡ s.out.old → mid ≡ s.err.old → Tells told mid s.err.new done → WasNotOpened held rest comings s status
+    not_served done mid fault ends failed not stayed silent kept tells =
+        let named : NamesFault told (fault_word fault) mid s.err.new = subst (λ (d : Result ⊤ Fault). Tells told mid s.err.new d) failed tells in
+        not_opened fault (inr not) (ends ∙ ap status_of failed, silent, subst (λ old. NamesFault told (fault_word fault) old s.err.new) kept named) stayed
 
     serve : (db : Bor (List ℕ)) (port count seconds : ℕ) → Serves desk held rest read comings port count seconds s status → Leading (job.Serve db port count seconds)
     unfolding IsServed
-    serve db port count seconds (done, told, ends, announced, inl (fault, failed, not, stayed, silent, kept), tells) =
-        inl (not_served done told fault ends failed not stayed silent kept tells)
-    serve db port count seconds (done, told, ends, announced, inr (last, old, new, over, has), tells) =
+    serve db port count seconds (done, mid, ends, announced, inl (fault, failed, not, stayed, silent, kept), tells) =
+        inl (not_served done mid fault ends failed not stayed silent kept tells)
+    serve db port count seconds (done, mid, ends, announced, inr (last, old, new, over, has), tells) =
         led (job.Serve db port count seconds) (Visits has.visits) (has.came_in, all_served count has.visits done ends has.all) (visits_lead last over.left.0 has.visits has.served.0)
 
     -- so a job that asks the register of a file
@@ -319,11 +317,11 @@ module _ {D R : Type 0} {g : Ghosts D} (desk : Desk.Ghosts R) (held : Image) (re
     job_leads (job.Explain word) did asks = absurd asks
 
 -- a register's file that was made
-pub made_is_held : {D R : Type 0} {g : Ghosts D} (desk : Desk.Ghosts R) (held next : Image) (rest : Leftover D g) (read : Readings) (comings : Comings) (db config : Bor (List ℕ)) (s : Streams)
+pub made_is_held : {D R O E : Type 0} {g : Ghosts D} {printed : SinkGhosts O} {told : SinkGhosts E} (desk : Desk.Ghosts R) (held next : Image) (rest : Leftover D g) (read : Readings) (comings : Comings) (db config : Bor (List ℕ)) (s : Streams printed told)
     → IsPerformed desk held (Some rest) read comings (job.Create db config) s 0 → IsCleanLeft rest → IsNextOf rest next
     → (f : ClusterFile) × IsClusterAt read config.now f × Held next f.cluster (opening f) × IsSound f.cluster (opening f)
 unfolding IsPerformed
-made_is_held {D} {R} {g} desk held next rest read comings db config s ((Ok x, fault, (f, at, formed, (files, same, holds, bare)), silent, ends), quiet) is opened =
+made_is_held {D} {R} {g = g} desk held next rest read comings db config s ((Ok x, fault, (f, at, formed, (files, same, holds, bare)), silent, ends), quiet) is opened =
     let these : rest ≡ left.Files files = cc in
     let (book, only, still) = next_holds {g = g} (left.Files files) next f.cluster (opening f) (subst IsCleanLeft these is) (subst (λ l. IsNextOf l next) these opened) holds in
     (f, at, subst (λ b. Held next f.cluster b) only still, opening-sound f formed)

@@ -28,6 +28,8 @@ use Rattle.fr_cli.proofs.LineLemmas.{request_lines-none}
 use Rattle.fr_cli.proofs.ErrandLaws.{done_over}
 use Rattle.fr_cli.specs.Errands.{AnswersInput, IsDoneOver}
 use Rattle.fr_cli.specs.Opened.{IsOver}
+use Rattle.fr_cli.specs.Outlets.{MayStop, outlet}
+use Rattle.fr_cli.specs.Visits.{SinkGhosts}
 
 -- ---- ends of lines
 
@@ -322,16 +324,29 @@ module _ {D R : Type 0} {g : Ghosts D} {desk : Desk.Ghosts R} {file : Image} {re
       }
 
   -- What an errand asked was asked over the file.
-  pub asked_over : {same kept : Type 0} {input left left' a b b' : Option (List ℕ)} {done : Result ⊤ Fault}
+  pub asked_over : {O : Type 0} {same kept : Type 0} (printed : SinkGhosts O) {input left left' : Option (List ℕ)} {a b b' : O} {done : Result ⊤ Fault}
       → left' ≡ left → b' ≡ b → (same → (left ≡ input) × (b ≡ a))
-      → IsDoneOver file rest desk (λ fault of. of ≡ fault) same (λ R desk old new done. AnswersInput input left a b R desk old new done × kept) done
-      → IsAsked desk file rest input left' a b' done
+      → IsDoneOver file rest desk (λ fault of. of ≡ fault) same (λ R desk old new done. AnswersInput input left (outlet printed a b) R desk old new done × kept) done
+      → IsAsked desk file rest input left' (outlet printed a b') done
   unfolding IsAsked
-  asked_over {kept = kept} {input} {left} {left'} {a} {b} {b'} {done} is_left is_b quiet is =
-      subst (λ l. IsAsked desk file rest input l a b' done) (sym is_left) (subst (λ o. IsAsked desk file rest input left a o done) (sym is_b)
-      (done_over (λ fault. fault) (IsAsked desk file rest input left a b) (λ R desk old new done. AnswersInput input left a b R desk old new done × kept) is
+  asked_over {kept = kept} printed {input} {left} {left'} {a} {b} {b'} {done} is_left is_b quiet is =
+      subst (λ l. IsAsked desk file rest input l (outlet printed a b') done) (sym is_left) (subst (λ o. IsAsked desk file rest input left (outlet printed a o) done) (sym is_b)
+      (done_over (λ fault. fault) (IsAsked desk file rest input left (outlet printed a b))
+      (λ R desk old new done. AnswersInput input left (outlet printed a b) R desk old new done × kept) is
       (λ fault not same.
-      let (unread, quiet) = quiet same in inl (fault, refl, not, subst (Keeps input) (sym unread) (Keeps-refl input), subst (Keeps a) (sym quiet) (Keeps-refl a)))
+      let (unread, quiet) = quiet same in inl (fault, refl, not, subst (Keeps input) (sym unread) (Keeps-refl input), quiet))
       (λ last old new over did.
-      let (asked, is, end, has) = did.0 in
-      inr (asked, last, old, new, over, is, end, answered_told (account_by desk old new) (account_over desk file last old new) input left a b asked (told_over over) has))))
+      let (asked, is, end, stops, has) = did.0 in
+      inr (asked, last, old, new, over, is, end, stops, answered_told (account_by desk old new) (account_over desk file last old new) input left (printed.contents a) (printed.contents b) asked (told_over over) has))))
+
+-- A fault of reading is none of writing.
+pub unread_stops : {W : Type 0} (sink : SinkGhosts W) (of : InputFault) (last : W) → MayStop sink (script_fault_of of) last
+unread_stops sink Wanting last = tt
+unread_stops sink Unread last = tt
+unread_stops sink Lengthy last = tt
+unread_stops sink Many last = tt
+
+-- So is one of a watch.
+pub unwatched_stops : {W : Type 0} (sink : SinkGhosts W) (why : WatchFault) (fault : ScriptFault) (last : W) → fault ≡ script_fault_unwatched why → MayStop sink fault last
+unwatched_stops sink watch.NoMemory fault last is = subst (λ f. MayStop sink f last) (sym is) tt
+unwatched_stops sink watch.Unavailable fault last is = subst (λ f. MayStop sink f last) (sym is) tt

@@ -1,4 +1,4 @@
--- What is said of a job by its words is said of the job.
+-- What is said of a job by its words, and of what is left by another name, is said of the job.
 use Rattle.std.proofs.Common.{◌≡◌, Option, subst, sym, ℕ}
 use Rattle.sqlite.specs.declared.file.Leftover.{Leftover}
 use Rattle.sqlite_disk.specs.declared.Disk.{Ghosts}
@@ -6,9 +6,11 @@ use Rattle.sqlite_wal.specs.Recovery.{Image}
 use Rattle.fr_base.specs.declared.desk.Desk as Desk
 use Rattle.fr_cli.specs.Jobs.{IsPerformed, Streams}
 use Rattle.fr_cli.specs.Texts.{Readings}
-use Rattle.fr_cli.specs.Visits.{Comings}
+use Rattle.fr_cli.specs.Visits.{Comings, SinkGhosts}
 use Rattle.fr_cli.specs.declared.words.Job.{Job}
 
-pub performed : {D R : Type 0} {g : Ghosts D} (desk : Desk.Ghosts R) (held : Image) (rest : Option (Leftover D g)) (read : Readings) (comings : Comings)
-    (s : Streams) (status : ℕ) {job of : Job} → job ≡ of → IsPerformed desk held rest read comings of s status → IsPerformed desk held rest read comings job s status
-performed desk held rest read comings s status is did = subst (λ j. IsPerformed desk held rest read comings j s status) (sym is) did
+pub performed : {D R O E : Type 0} {g : Ghosts D} {printed : SinkGhosts O} {told : SinkGhosts E} (desk : Desk.Ghosts R) (held : Image) (rest : Option (Leftover D g)) (read : Readings) (comings : Comings)
+    (s : Streams printed told) (status : ℕ) {job of : Job} {left : Option (Leftover D g)} → job ≡ of → rest ≡ left → IsPerformed desk held left read comings of s status
+    → IsPerformed desk held rest read comings job s status
+performed desk held rest read comings s status {job} {of} {left} is same did =
+    subst (λ j. IsPerformed desk held rest read comings j s status) (sym is) (subst (λ r. IsPerformed desk held r read comings of s status) (sym same) did)

@@ -1,8 +1,6 @@
 -- Connections are served, and then one more; what is told of their ends; and what that is for the file of the register.
 use Rattle.std.proofs.Common.{◌≡◌, ◌≤◌, length, inl, inr, ℕ, List, [], ◌∷◌, ◌++◌, Option, Some, None, Result, Ok, Err, refl, sym, ap, ap₂, ◌∙◌, subst, arith}
 use Rattle.std.specs.Prelude.{⊤}
-use Rattle.std.specs.Io.KnownBytes.{Appends, Keeps}
-use Rattle.std.proofs.KnownBytes.{Appends-nil, Keeps-trans, Keeps-refl}
 use Rattle.sqlite.specs.declared.file.Leftover.{Leftover}
 use Rattle.sqlite_disk.specs.declared.Disk.{Ghosts}
 use Rattle.sqlite_wal.specs.Recovery.{Image}
@@ -15,9 +13,10 @@ use Rattle.fr_http.specs.declared.serve.Served.{Served}
 use Rattle.fr_http.proofs.ExchangeLaws.{exchanges-sound}
 use Rattle.fr_world.specs.Held.{Standing}
 use Rattle.fr_cli.specs.Guarding.{fault_unwatched}
+use Rattle.fr_cli.specs.Outlets.{IsCutShort, Outlet, outlet}
 use Rattle.fr_cli.specs.Performing.{listening}
-use Rattle.fr_cli.specs.Serving.{HasServed, IsServed, IsServedOver, ServesAll, ServesEach, ServesOne, ServesOver, StopsServing, TellsEach, TellsEnd}
-use Rattle.fr_cli.specs.Visits.{Comings, Visit}
+use Rattle.fr_cli.specs.Serving.{HasServed, IsServed, IsServedOver, ServesAll, ServesEach, ServesOne, ServesOver, StopsServing, TellsEach, TellsEnd, WasAnnounced}
+use Rattle.fr_cli.specs.Visits.{Comings, SinkGhosts, Visit}
 use Rattle.fr_cli.specs.declared.fault.Fault.{Fault}
 use Rattle.fr_cli.specs.declared.fault.Fault.TheVariants.{CannotListen}
 use Rattle.fr_cli.specs.declared.serving.Service.{Service}
@@ -89,33 +88,23 @@ each_guarded clean stands of old new (visit ∷ visits) so = (of so.0, so.1, so.
 
 -- ---- what was told
 
-pub appends-kept : (a b c : Option (List ℕ)) (bs : List ℕ) → Keeps a b → Appends b c bs → Appends a c bs
-appends-kept None b c bs p q = tt
-appends-kept (Some x) None c bs p q = absurd p
-appends-kept (Some x) (Some y) None bs p q = absurd q
-appends-kept (Some x) (Some y) (Some z) bs p q = q ∙ ap (λ l. l ++ bs) p
+module _ {E : Type 0} (sink : SinkGhosts E) where
+  -- The end of one was told.
+  pub tells_one : (a b : E) (visit : Visit) (done : Result Served LinkFault) → visit.done ≡ done → TellsEnd sink a b done → TellsEach sink a b (visit ∷ [])
+  tells_one a b visit done is told = (b, subst (TellsEnd sink a b) (sym is) told, refl)
 
-tells-kept : (a b c : Option (List ℕ)) (done : Result Served LinkFault) → Keeps a b → TellsEnd b c done → TellsEnd a c done
-tells-kept a b c (Ok _) p q = Keeps-trans a b c p q
-tells-kept a b c (Err fault) p q = (q.0, q.1, appends-kept a b c q.0 p q.2)
-
--- The end of one was told.
-pub tells_one : (a b : Option (List ℕ)) (visit : Visit) (done : Result Served LinkFault) → visit.done ≡ done → TellsEnd a b done → TellsEach a b (visit ∷ [])
-tells_one a b visit done is told = (b, subst (TellsEnd a b) (sym is) told, Keeps-refl b)
-
--- More was told.
-pub tells_then : (a b c : Option (List ℕ)) (visits more : List Visit) → TellsEach a b visits → TellsEach b c more → TellsEach a c (visits ++ more)
-tells_then a b c [] [] p q = Keeps-trans a b c p q
-tells_then a b c [] (visit ∷ more) p q = (q.0, tells-kept a b q.0 visit.done p q.1, q.2)
-tells_then a b c (visit ∷ visits) more p q = (p.0, p.1, tells_then p.0 b c visits more p.2 q)
+  -- More was told.
+  pub tells_then : (a b c : E) (visits more : List Visit) → TellsEach sink a b visits → TellsEach sink b c more → TellsEach sink a c (visits ++ more)
+  tells_then a b c [] more p q = subst (λ first. TellsEach sink first c more) p q
+  tells_then a b c (visit ∷ visits) more p q = (p.0, p.1, tells_then p.0 b c visits more p.2 q)
 
 -- ---- how a server ends
 
 -- Less is said of how they were served.
-pub served_as : (WereServed AreServed : List Visit → Type 0) (count : ℕ) (said deaf : Type 0) (CameIn : List Visit → Type 0) (a b : Option (List ℕ)) (done : Result ⊤ Fault)
-    → ((visits : List Visit) → WereServed visits → AreServed visits) → HasServed WereServed count said deaf CameIn a b done
-    → HasServed AreServed count said deaf CameIn a b done
-served_as WereServed AreServed count said deaf CameIn a b done so has = record {
+pub served_as : {E : Type 0} {sink : SinkGhosts E} (WereServed AreServed : List Visit → Type 0) (count : ℕ) (said cut deaf : Type 0) (CameIn : List Visit → Type 0) (err : Outlet sink) (done : Result ⊤ Fault)
+    → ((visits : List Visit) → WereServed visits → AreServed visits) → HasServed WereServed count said cut deaf CameIn err done
+    → HasServed AreServed count said cut deaf CameIn err done
+served_as WereServed AreServed count said cut deaf CameIn err done so has = record {
   visits = has.visits;
   came_in = has.came_in;
   served = so has.visits has.served;
@@ -127,13 +116,13 @@ served_as WereServed AreServed count said deaf CameIn a b done so has = record {
 }
 
 -- A fault came before a connection was served.
-pub served_early : (WereServed : List Visit → Type 0) (count : ℕ) (said deaf : Type 0) (CameIn : List Visit → Type 0) (a : Option (List ℕ)) (done : Result ⊤ Fault) (fault : Fault)
-    → WereServed [] → done ≡ Err fault → StopsServing deaf [] fault → CameIn [] → HasServed WereServed count said deaf CameIn a a done
-served_early WereServed count said deaf CameIn a done fault none is stops came = subst (HasServed WereServed count said deaf CameIn a a) (sym is) (record {
+pub served_early : {E : Type 0} {sink : SinkGhosts E} (WereServed : List Visit → Type 0) (count : ℕ) (said cut deaf : Type 0) (CameIn : List Visit → Type 0) (err : Outlet sink) (done : Result ⊤ Fault) (fault : Fault)
+    → WereServed [] → done ≡ Err fault → StopsServing cut deaf [] fault → CameIn [] → err.new ≡ err.old → HasServed WereServed count said cut deaf CameIn err done
+served_early WereServed count said cut deaf CameIn err done fault none is stops came untold = subst (HasServed WereServed count said cut deaf CameIn err) (sym is) (record {
   visits = [];
   came_in = came;
   served = none;
-  told = Keeps-refl a;
+  told = untold;
   all = tt;
   few = omega arith;
   fault = stops;
@@ -141,15 +130,15 @@ served_early WereServed count said deaf CameIn a done fault none is stops came =
 })
 
 -- For this no connection is served: its files are not watched.
-pub stops_unwatched : (deaf : Type 0) (why : WatchFault) (fault : Fault) → fault ≡ fault_unwatched why → StopsServing deaf [] fault
-stops_unwatched deaf watch.NoMemory fault is = inr (inr (refl, inl is))
-stops_unwatched deaf watch.Unavailable fault is = inr (inl is)
+pub stops_unwatched : (cut deaf : Type 0) (why : WatchFault) (fault : Fault) → fault ≡ fault_unwatched why → StopsServing cut deaf [] fault
+stops_unwatched cut deaf watch.NoMemory fault is = inr (inr (refl, inl is))
+stops_unwatched cut deaf watch.Unavailable fault is = inr (inl is)
 
 -- No more connections could be accepted.
-pub served_until : (WereServed : List Visit → Type 0) (count : ℕ) (deaf : Type 0) (CameIn : List Visit → Type 0) (a b : Option (List ℕ)) (done : Result ⊤ Fault) (fault : Fault) (visits : List Visit)
-    → done ≡ Err fault → fault ≡ CannotListen → deaf → CameIn visits → WereServed visits → TellsEach a b visits → length visits ≤ count
-    → HasServed WereServed count ⊤ deaf CameIn a b done
-served_until WereServed count deaf CameIn a b done fault visits is cannot over came served told few = subst (HasServed WereServed count ⊤ deaf CameIn a b) (sym is) (record {
+pub served_until : {E : Type 0} {sink : SinkGhosts E} (WereServed : List Visit → Type 0) (count : ℕ) (cut deaf : Type 0) (CameIn : List Visit → Type 0) (err : Outlet sink) (done : Result ⊤ Fault) (fault : Fault) (visits : List Visit)
+    → done ≡ Err fault → fault ≡ CannotListen → deaf → CameIn visits → WereServed visits → TellsEach sink err.old err.new visits → length visits ≤ count
+    → HasServed WereServed count ⊤ cut deaf CameIn err done
+served_until WereServed count cut deaf CameIn err done fault visits is cannot over came served told few = subst (HasServed WereServed count ⊤ cut deaf CameIn err) (sym is) (record {
   visits = visits;
   came_in = came;
   served = served;
@@ -160,21 +149,25 @@ served_until WereServed count deaf CameIn a b done fault visits is cannot over c
   first = inr tt;
 })
 
+-- What was not cut short stops for nothing else.
+stops_then : (cut deaf deafer : Type 0) (visits : List Visit) (fault : Fault) → (deaf → deafer) → StopsServing ⊥ deaf visits fault → StopsServing cut deafer visits fault
+stops_then cut deaf deafer visits fault stops (inl (cannot, is)) = inl (cannot, stops is)
+stops_then cut deaf deafer visits fault stops (inr (inl gone)) = inr (inl gone)
+stops_then cut deaf deafer visits fault stops (inr (inr (none, inl lacks))) = inr (inr (none, inl lacks))
+stops_then cut deaf deafer visits fault stops (inr (inr (none, inr (failed, never)))) = absurd never
+
 -- What connections are served is said of the server, and where they came in.
-pub served_said : (WereServed : List Visit → Type 0) (count : ℕ) (said deaf deafer : Type 0) (CameIn CameTo : List Visit → Type 0) (a b : Option (List ℕ)) (done : Result ⊤ Fault)
+pub served_said : {E : Type 0} {sink : SinkGhosts E} (WereServed : List Visit → Type 0) (count : ℕ) (said cut deaf deafer : Type 0) (CameIn CameTo : List Visit → Type 0) (err : Outlet sink) (done : Result ⊤ Fault)
     → said → ((visits : List Visit) → CameIn visits → CameTo visits)
-    → (deaf → deafer) → HasServed WereServed count ⊤ deaf CameIn a b done → HasServed WereServed count said deafer CameTo a b done
-served_said WereServed count said deaf deafer CameIn CameTo a b done is came stops has = record {
+    → (deaf → deafer) → HasServed WereServed count ⊤ ⊥ deaf CameIn err done → HasServed WereServed count said cut deafer CameTo err done
+served_said WereServed count said cut deaf deafer CameIn CameTo err done is came stops has = record {
   visits = has.visits;
   came_in = came has.visits has.came_in;
   served = has.served;
   told = has.told;
   all = has.all;
   few = has.few;
-  fault = err_follows (StopsServing deaf has.visits) (StopsServing deafer has.visits) done (λ fault why. elim why [
-    | inl cannot ↦ inl (cannot.0, stops cannot.1)
-    | inr other ↦ inr other
-  ]) has.fault;
+  fault = err_follows (StopsServing ⊥ deaf has.visits) (StopsServing cut deafer has.visits) done (λ fault why. stops_then cut deaf deafer has.visits fault stops why) has.fault;
   first = inr is;
 }
 
@@ -194,22 +187,21 @@ module _ {D R : Type 0} {g : Ghosts D} (desk : Desk.Ghosts R) where
 
 module _ {D R : Type 0} {g : Ghosts D} {desk : Desk.Ghosts R} where
   -- So it is by an errand.
-  pub served_over : {L : Type 0} {same kept : Type 0} {file : Image} {rest : Option (Leftover D g)} (service : Service) (came : L → Comings)
-      {l l' : L} {out out' o a b b' : Option (List ℕ)} {done : Result ⊤ Fault} → l' ≡ l → o ≡ out' → b' ≡ b → (same → (came l).none × (out' ≡ out) × (b ≡ a))
-      → IsDoneOver file rest desk (λ fault of. of ≡ fault) same (λ R desk old new done. ServesConnections service (came l) out out' a b R desk old new done × kept) done
-      → IsServedOver desk file rest service (came l') out o a b' done
+  pub served_over : {L O E : Type 0} {same kept : Type 0} {file : Image} {rest : Option (Leftover D g)} (service : Service) (came : L → Comings) (printed : SinkGhosts O) (told : SinkGhosts E)
+      {l l' : L} {out out' o : O} {a b b' : E} {done : Result ⊤ Fault} → l' ≡ l → o ≡ out' → b' ≡ b → (same → (came l).none × (out' ≡ out) × (b ≡ a))
+      → IsDoneOver file rest desk (λ fault of. of ≡ fault) same
+      (λ R desk old new done. ServesConnections service (came l) (outlet printed out out') (outlet told a b) R desk old new done × kept) done
+      → IsServedOver desk file rest service (came l') (outlet printed out o) (outlet told a b') done
   unfolding IsServed
-  served_over {kept = kept} {file} {rest} service came {l} {l'} {out} {out'} {o} {a} {b} {b'} {done} is_l is_o is_b quiet is =
-      subst (λ l. IsServedOver desk file rest service (came l) out o a b' done) (sym is_l) (subst (λ o. IsServedOver desk file rest service (came l) out o a b' done) (sym is_o)
-      (subst (λ b. IsServedOver desk file rest service (came l) out out' a b done) (sym is_b)
-      (done_over (λ fault. fault) (IsServedOver desk file rest service (came l) out out' a b)
-      (λ R desk old new done. ServesConnections service (came l) out out' a b R desk old new done × kept) is
+  served_over {kept = kept} {file} {rest} service came printed told {l} {l'} {out} {out'} {o} {a} {b} {b'} {done} is_l is_o is_b quiet is =
+      subst (λ l. IsServedOver desk file rest service (came l) (outlet printed out o) (outlet told a b') done) (sym is_l)
+      (subst (λ o. IsServedOver desk file rest service (came l) (outlet printed out o) (outlet told a b') done) (sym is_o)
+      (subst (λ b. IsServedOver desk file rest service (came l) (outlet printed out out') (outlet told a b) done) (sym is_b)
+      (done_over (λ fault. fault) (IsServedOver desk file rest service (came l) (outlet printed out out') (outlet told a b))
+      (λ R desk old new done. ServesConnections service (came l) (outlet printed out out') (outlet told a b) R desk old new done × kept) is
       (λ fault not same.
       let (none, unsaid, untold) = quiet same in
-      let said : Keeps out out' = subst (Keeps out) (sym unsaid) (Keeps-refl out) in (
-        (([], (listening service.port, refl), subst (λ o. Appends out o []) (sym unsaid) (Appends-nil out)), tt, inl said),
-        inl (fault, refl, not, none, said, subst (Keeps a) (sym untold) (Keeps-refl a)),
-      ))
+      ((inl unsaid, tt), inl (fault, refl, not, none, unsaid, untold)))
       (λ last old new over did. (
         did.0.0,
         inr (
@@ -217,7 +209,8 @@ module _ {D R : Type 0} {g : Ghosts D} {desk : Desk.Ghosts R} where
           old,
           new,
           over,
-          served_as (ServesEach desk.clean desk.stands old new) (ServesOver desk file last old new) service.count (Appends out out' (listening service.port))
-              ((came l).deaf service.port) ((came l).at service.port service.seconds) a b done (serves_over desk file rest last old new over) did.0.1,
+          served_as (ServesEach desk.clean desk.stands old new) (ServesOver desk file last old new) service.count (WasAnnounced service.port (outlet printed out out'))
+              (IsCutShort (outlet printed out out') (listening service.port)) ((came l).deaf service.port) ((came l).at service.port service.seconds) (outlet told a b) done
+              (serves_over desk file rest last old new over) did.0.1,
         ),
       )))))

@@ -27,7 +27,7 @@ use Rattle.fr_cli.specs.Series.{WasNotOpened}
 use Rattle.fr_cli.specs.Serving.{IsServed, ServesEach}
 use Rattle.fr_cli.specs.Stops.{AnswersOn, StoodBehind, StopsBehind, StopsBehindEach}
 use Rattle.fr_cli.specs.Texts.{Readings}
-use Rattle.fr_cli.specs.Visits.{Comings, Visit}
+use Rattle.fr_cli.specs.Visits.{Comings, SinkGhosts, Visit}
 use Rattle.fr_cli.specs.declared.fault.Fault.{Fault}
 use Rattle.fr_cli.specs.declared.words.Job.{Job}
 use Rattle.fr_cli.specs.declared.words.Job.TheVariants as job
@@ -105,7 +105,8 @@ module _ {D K : Type 0} (g : Ghosts D) (desk : Desk.Ghosts K) (leaves : K → Le
 
   -- ---- by job
 
-  module _ (rest : Option (Leftover D g)) (read : Readings) (comings : Comings) (s : Streams) (status : ℕ) where
+  module _ {O E : Type 0} {printed : SinkGhosts O} {told : SinkGhosts E} (rest : Option (Leftover D g)) (read : Readings) (comings : Comings) (s : Streams printed told)
+      (status : ℕ) where
     -- How a job ended that answers one thing after another, and what a stop behind an answer leads to.
     abbrev Stopping : Job → Type 0
     Stopping j = WasNotOpened held rest comings s status
@@ -113,19 +114,19 @@ module _ {D K : Type 0} (g : Ghosts D) (desk : Desk.Ghosts K) (leaves : K → Le
         × (first : K) × (last : K) × IsOver held rest left (desk.clean last) (desk.stands first) (desk.stands last)
         × (IsCleanLeft left → StopsBehindEach g desk leaves held deed first last))
 
-    ask : (db : Bor (List ℕ)) (done : Result ⊤ Fault) → comings.none → IsAsked desk held rest s.input.old s.input.new s.out.old s.out.new done → Ends done s status
+    ask : (db : Bor (List ℕ)) (done : Result ⊤ Fault) → comings.none → IsAsked desk held rest s.input.old s.input.new s.out done → Ends done s status
         → Stopping (job.Ask db)
     unfolding IsAsked
     ask db done none (inl (fault, failed, not, kept, silent)) ends = inl (not_asked desk held rest read comings s status done fault none failed not silent ends)
-    ask db done none (inr (asked, last, old, new, over, same, at_end, has)) ends =
+    ask db done none (inr (asked, last, old, new, over, same, at_end, stops, has)) ends =
         let (lines, answers, were, all) = answered_lines desk held rest read comings s status asked (ends.0 ∙ ap status_of same) has in
         inr (last, Lines lines answers, were, old, new, over, lines_stop last old new over lines answers all.1)
 
     serve : (db : Bor (List ℕ)) (port count seconds : ℕ) → Serves desk held rest read comings port count seconds s status → Stopping (job.Serve db port count seconds)
     unfolding IsServed
-    serve db port count seconds (done, told, ends, announced, inl (fault, failed, not, stayed, silent, kept), tells) =
-        inl (not_served desk held rest read comings s status done told fault ends failed not stayed silent kept tells)
-    serve db port count seconds (done, told, ends, announced, inr (last, old, new, over, has), tells) = inr (
+    serve db port count seconds (done, mid, ends, announced, inl (fault, failed, not, stayed, silent, kept), tells) =
+        inl (not_served desk held rest read comings s status done mid fault ends failed not stayed silent kept tells)
+    serve db port count seconds (done, mid, ends, announced, inr (last, old, new, over, has), tells) = inr (
       last,
       Visits has.visits,
       (has.came_in, all_served desk held rest read comings s status count has.visits done ends has.all),

@@ -3,7 +3,6 @@
 -- carried out, and but for the end of one answer all is written.
 use Rattle.std.specs.Prelude.{◌≡◌, ◌⊎◌, ℕ, List, [], ◌∷◌, ◌++◌, length, Option, Result, Err, OnOk, IfErr, IfOk, ⊤}
 use Rattle.std.specs.Io.KnownBytes.{Appends}
-use Rattle.std.specs.declared.io.Write as Write
 use Rattle.fr_base.specs.Book.{Book}
 use Rattle.fr_base.specs.Cluster.{Cluster}
 use Rattle.fr_base.specs.Sound.{IsSound}
@@ -14,9 +13,11 @@ use Rattle.fr_base.specs.declared.refusal.Refusal.TheVariants.{Unavailable}
 use Rattle.fr_base.specs.declared.request.Ask.{Ask}
 use Rattle.fr_cli.specs.Asked.{ask_in}
 use Rattle.fr_cli.specs.Outcomes.{line_of}
+use Rattle.fr_cli.specs.Outlets.{StopsSo}
 use Rattle.fr_cli.specs.Output.{text_of_answers}
 use Rattle.fr_cli.specs.Script.{request_lines}
 use Rattle.fr_cli.specs.ScriptRun.{AreAnswered, Replied}
+use Rattle.fr_cli.specs.Visits.{SinkGhosts}
 use Rattle.fr_cli.specs.declared.script_fault.ScriptFault.{ScriptFault}
 use Rattle.fr_cli.specs.declared.script_fault.ScriptFault.TheVariants.{NoMemory, WriteFailed}
 use Rattle.fr_http.specs.Connection.{InSound}
@@ -119,8 +120,9 @@ pub record WasWritten (account : Account) (lines : List (List ℕ)) (a b : Optio
   pub faults : IfErr done (λ fault. (fault ≡ NoMemory) ⊎ (fault ≡ WriteFailed))
 
 -- A register was asked what these lines ask, and the answers were written so to an output. The register was clean before if it is now, and
--- the output has the same writer still.
-pub record HasWritten {D W : Type 0} (desk : Desk.Ghosts D) (writer : Write.Ghosts W) (lines : List ℕ) (old new : D) (held now : Output W) (done : Result ⊤ ScriptFault) : Type 0 where
+-- the output has the same writer still. A fault of writing came only where the last call on it failed.
+pub record HasWritten {D W : Type 0} (desk : Desk.Ghosts D) (writer : SinkGhosts W) (lines : List ℕ) (old new : D) (held now : Output W) (done : Result ⊤ ScriptFault) : Type 0 where
   pub written : WasWritten (account_by desk old new) (request_lines lines) (writer.contents held.writer.now) (writer.contents now.writer.now) done
   pub falls : desk.clean new → desk.clean old
   pub same_writer : now.writer.ghost_name ≡ held.writer.ghost_name
+  pub stops : StopsSo writer now.writer.now done

@@ -18,6 +18,7 @@ use Rattle.fr_cli.specs.Asking.{asked_with, for_reader, query_of}
 use Rattle.fr_cli.specs.Deliveries.{request_with}
 use Rattle.fr_cli.specs.Incoming.{AreFirstOf}
 use Rattle.fr_cli.specs.Jobs.{Shows, Streams}
+use Rattle.fr_cli.specs.Outlets.{held_before, held_behind}
 use Rattle.fr_cli.specs.Keys.{IsKeyGiven}
 use Rattle.fr_cli.specs.Output.{text_of_answers}
 use Rattle.fr_cli.specs.Performing.{Says}
@@ -27,7 +28,7 @@ use Rattle.fr_cli.specs.Reading.{PrintsRead}
 use Rattle.fr_cli.specs.Script.{request_lines}
 use Rattle.fr_cli.specs.ScriptRun.{AreAnswered, Replied, asks_in, with_ask}
 use Rattle.fr_cli.specs.Texts.{Readings, max_rows}
-use Rattle.fr_cli.specs.Visits.{Comings, Visit, visit_of}
+use Rattle.fr_cli.specs.Visits.{Comings, SinkGhosts, Visit, visit_of}
 use Rattle.fr_cli.specs.declared.delivery.Delivery.{Delivery}
 use Rattle.fr_cli.specs.declared.failure.Failure.{Failure}
 use Rattle.fr_cli.specs.declared.failure.Failure.TheVariants as failure
@@ -80,35 +81,35 @@ Did c b (Drawn reader variant None) done last = WasLeft b done last
 
 -- These are the requests of the input, where that is known: all of them where the job was done, else the first of them. Their answers were
 -- written, a line for each; where the job was not done, the end of one answer may lack, or all of it.
-pub record WereLines (s : Streams) (status : ℕ) (lines : List (List ℕ)) (answers : List Answer) : Type 0 where
+pub record WereLines {O E : Type 0} {printed : SinkGhosts O} {told : SinkGhosts E} (s : Streams printed told) (status : ℕ) (lines : List (List ℕ)) (answers : List Answer) : Type 0 where
   pub first : IfSome s.input.old (AreFirstOf lines)
   pub each : length answers ≡ length lines
   pub written : List ℕ
   pub missing : List ℕ
-  pub appended : Appends s.out.old s.out.new written
+  pub appended : Appends (held_before s.out) (held_behind s.out) written
   pub one : EndsAnswer missing
   pub bytes : written ++ missing ≡ text_of_answers answers
   pub all : status ≡ 0 → (missing ≡ []) × IfSome s.input.old (λ input. lines ≡ request_lines input)
 
 -- This answer was printed or told, by its outcome; or a front of it, where no more could be written.
-abbrev pub IsShown : Streams → ℕ → Answer → Type 0
+abbrev pub IsShown : {O E : Type 0} {printed : SinkGhosts O} {told : SinkGhosts E} → Streams printed told → ℕ → Answer → Type 0
 IsShown s status answer = (done : Result (Vec ℕ) Failure) × Shows done s status × Says (λ fault. ⊥) (λ a. a ≡ answer) done
 
 -- The page of the plan was printed so, or told why there is none.
-abbrev pub IsDrawn : Streams → ℕ → Result Plan Refusal → Type 0
+abbrev pub IsDrawn : {O E : Type 0} {printed : SinkGhosts O} {told : SinkGhosts E} → Streams printed told → ℕ → Result Plan Refusal → Type 0
 IsDrawn s status drawn = (done : Result (Vec ℕ) Failure) × Shows done s status × PrintsRead (λ fault. ⊥) (λ r. r ≡ drawn) IsPage done
 
 -- Nothing was printed, and it was told so that memory was wanting.
-abbrev pub LacksAnswer : Streams → ℕ → Type 0
+abbrev pub LacksAnswer : {O E : Type 0} {printed : SinkGhosts O} {told : SinkGhosts E} → Streams printed told → ℕ → Type 0
 LacksAnswer s status = Shows (Err (failure.Fault NoMemory)) s status
 
 -- This is what was asked of a delivery: with what was read of its file, by whoever has the key that was given.
-abbrev pub IsAskedOf : Readings → Delivery → Streams → (Cluster → Book → Result Ask Refusal) → Type 0
+abbrev pub IsAskedOf : {O E : Type 0} {printed : SinkGhosts O} {told : SinkGhosts E} → Readings → Delivery → Streams printed told → (Cluster → Book → Result Ask Refusal) → Type 0
 IsAskedOf read delivery s asks = (body key : List ℕ) × read.front max_rows delivery.file.now body
     × IsKeyGiven delivery.key.now s.input.old s.input.new key × (asks ≡ asked_with key (request_with delivery body))
 
 -- The job did this, by what was read of text files, the connections that came in, its streams and its status.
-abbrev pub IsDeedOf : Readings → Comings → Streams → ℕ → Job → Deed → Type 0
+abbrev pub IsDeedOf : {O E : Type 0} {printed : SinkGhosts O} {told : SinkGhosts E} → Readings → Comings → Streams printed told → ℕ → Job → Deed → Type 0
 IsDeedOf read comings s status (job.Ask db) (Lines lines answers) = WereLines s status lines answers
 IsDeedOf read comings s status (job.Serve db port count seconds) (Visits visits) = comings.at port seconds visits × (status ≡ 0 → length visits ≡ count)
 IsDeedOf read comings s status (job.Report db query) (Asked asks (Some answer)) = (asks ≡ query_of query) × IsShown s status (for_reader answer)

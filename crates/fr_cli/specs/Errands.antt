@@ -1,7 +1,7 @@
 -- Errands: what is done with a register whose file is opened for it, and closed behind it.
 use Rattle.std.specs.Prelude.{◌≡◌, ◌⊎◌, ℕ, List, Option, Result, Err, OnOk, ⊤}
 use Rattle.std.specs.Global.{Vec}
-use Rattle.std.specs.Io.KnownBytes.{Appends, IsAtEnd}
+use Rattle.std.specs.Io.KnownBytes.{IsAtEnd}
 use Rattle.sqlite.specs.declared.file.Leftover.{Leftover}
 use Rattle.sqlite_disk.specs.declared.Disk.{Ghosts}
 use Rattle.sqlite_wal.specs.Recovery.{Image}
@@ -12,12 +12,13 @@ use Rattle.fr_cli.specs.Deliveries.{request_with}
 use Rattle.fr_cli.specs.Faults.{IsNotOpened}
 use Rattle.fr_cli.specs.Incoming.{HasAnswered}
 use Rattle.fr_cli.specs.Opened.{IsOver}
+use Rattle.fr_cli.specs.Outlets.{IsCutShort, Outlet, StopsSo, held_before, held_behind}
 use Rattle.fr_cli.specs.Performing.{listening, of_script}
 use Rattle.fr_cli.specs.Picturing.{plans_for}
 use Rattle.fr_cli.specs.Queries.{reader_named}
 use Rattle.fr_cli.specs.Reading.{IsRead, PrintsRead, Stays}
-use Rattle.fr_cli.specs.Serving.{HasServed, IsAnnounced, ServesEach}
-use Rattle.fr_cli.specs.Visits.{Comings}
+use Rattle.fr_cli.specs.Serving.{HasServed, IsAnnounced, ServesEach, WasAnnounced}
+use Rattle.fr_cli.specs.Visits.{Comings, SinkGhosts}
 use Rattle.fr_cli.specs.declared.failure.Failure.{Failure}
 use Rattle.fr_cli.specs.declared.fault.Fault.{Fault}
 use Rattle.fr_cli.specs.declared.fault.Fault.TheVariants.{NoMemory}
@@ -43,16 +44,16 @@ tells (telling.Answer key delivery body) R desk old new done =
     Prints (IsAnswer asks (desk.clean new) (desk.stands old) (desk.stands new)) done × Leads (desk.clean new) (desk.stands old) (desk.stands new) asks
 
 -- The requests of an input are answered. There is a register behind each line.
-abbrev pub AnswersInput : Option (List ℕ) → Option (List ℕ) → Option (List ℕ) → Option (List ℕ) → Doing ⊤ Fault
-AnswersInput input left a b R desk old new done = (asked : Result ⊤ ScriptFault) × (done ≡ of_script asked) × OnOk asked (IsAtEnd left)
-    × HasAnswered (account_by desk old new) input left a b asked
+abbrev pub AnswersInput : {O : Type 0} {printed : SinkGhosts O} → Option (List ℕ) → Option (List ℕ) → Outlet printed → Doing ⊤ Fault
+AnswersInput {printed = printed} input left out R desk old new done = (asked : Result ⊤ ScriptFault) × (done ≡ of_script asked) × OnOk asked (IsAtEnd left)
+    × StopsSo printed out.new asked × HasAnswered (account_by desk old new) input left (held_before out) (held_behind out) asked
 
 -- Connections that come in are served. There is a register behind each. The line of a server that listens is printed, and the ends of those that
 -- failed are told.
-abbrev pub ServesConnections : Service → Comings → Option (List ℕ) → Option (List ℕ) → Option (List ℕ) → Option (List ℕ) → Doing ⊤ Fault
-ServesConnections service came out out' a b R desk old new done = IsAnnounced (came.heard service.port) service.port out out' done
-    × HasServed (ServesEach desk.clean desk.stands old new) service.count (Appends out out' (listening service.port)) (came.deaf service.port)
-    (came.at service.port service.seconds) a b done
+abbrev pub ServesConnections : {O E : Type 0} {printed : SinkGhosts O} {told : SinkGhosts E} → Service → Comings → Outlet printed → Outlet told → Doing ⊤ Fault
+ServesConnections service came out err R desk old new done = IsAnnounced (came.heard service.port) service.port out done
+    × HasServed (ServesEach desk.clean desk.stands old new) service.count (WasAnnounced service.port out) (IsCutShort out (listening service.port)) (came.deaf service.port)
+    (came.at service.port service.seconds) err done
 
 -- The file was not opened, for such a fault, and all else is the same; or this was done with a register over it.
 abbrev pub IsDoneOver : {D R X Y : Type 0} {g : Ghosts D} → Image → Option (Leftover D g) → Desk.Ghosts R → (Fault → Y → Type 0) → Type 0 → Doing X Y

@@ -3,7 +3,6 @@
 use Rattle.std.specs.Prelude.{◌≡◌, ◌⊎◌, ◌<◌, ◌≤◌, ℕ, List, ◌++◌, length, Option, Result, Err, IfErr, IfSome, IsErrOf, OnOk, ⊤}
 use Rattle.std.specs.Io.KnownBytes.{Appends, Consumes, IsAtEnd, Keeps}
 use Rattle.std.specs.List.{AllByRecursion}
-use Rattle.std.specs.declared.io.Write as Write
 use Rattle.fr_base.specs.declared.desk.Desk as Desk
 use Rattle.fr_text.specs.declared.output.Output.{Output}
 use Rattle.sqlite.specs.Files.{IsCleanLeft}
@@ -14,9 +13,11 @@ use Rattle.fr_desks.specs.FileDesk.{Held, IsLeftWith}
 use Rattle.fr_cli.specs.Answering.{Account, AnswersLines, BeginWith, WasCutShort, account_by, account_of, both}
 use Rattle.fr_cli.specs.Faults.{IsNotOpened}
 use Rattle.fr_cli.specs.Opened.{IsOver}
+use Rattle.fr_cli.specs.Outlets.{Outlet, StopsSo, held_before, held_behind}
 use Rattle.fr_cli.specs.Performing.{of_script}
 use Rattle.fr_cli.specs.Script.{HasNo, max_script, request_lines}
 use Rattle.fr_cli.specs.ScriptFault.{script_fault_of}
+use Rattle.fr_cli.specs.Visits.{SinkGhosts}
 use Rattle.fr_cli.specs.declared.fault.Fault.{Fault}
 use Rattle.fr_cli.specs.declared.input.InputFault.{InputFault}
 use Rattle.fr_cli.specs.declared.script_fault.ScriptFault.{ScriptFault}
@@ -45,11 +46,12 @@ pub record WasAsked (account : Account) (lines : List (List ℕ)) (a b : Option 
   pub faults : IfErr done EndsAsking
 
 -- A register was asked what these lines ask, and the answers were written to an output; then more may be asked, or a fault came. The register
--- was clean before if it is now, and the output has the same writer still.
-pub record HasAsked {D W : Type 0} (desk : Desk.Ghosts D) (writer : Write.Ghosts W) (lines : List ℕ) (old new : D) (held now : Output W) (done : Result ⊤ ScriptFault) : Type 0 where
+-- was clean before if it is now, and the output has the same writer still. A fault of writing came only where the last call on it failed.
+pub record HasAsked {D W : Type 0} (desk : Desk.Ghosts D) (writer : SinkGhosts W) (lines : List ℕ) (old new : D) (held now : Output W) (done : Result ⊤ ScriptFault) : Type 0 where
   pub asked : WasAsked (account_by desk old new) (request_lines lines) (writer.contents held.writer.now) (writer.contents now.writer.now) done
   pub falls : desk.clean new → desk.clean old
   pub same_writer : now.writer.ghost_name ≡ held.writer.ghost_name
+  pub stops : StopsSo writer now.writer.now done
 
 -- how many bytes a line that comes in has at most, without its line feed
 abbrev pub max_line : ℕ
@@ -92,10 +94,11 @@ abbrev pub account_over : {D R : Type 0} {g : Ghosts D} → Desk.Ghosts R → Im
 account_over desk file last old new = both (account_of (IsCleanLeft last) (Held file) (IsLeftWith last)) (account_by desk old new)
 
 -- The register was not opened, and nothing was read or written; or its file, which held a register, was opened and closed, and the
--- input's requests were answered: as long as nobody else wrote to the file, from the book that it held, and what is left holds the book after them. From
+-- input's requests were answered, as far as no write failed: as long as nobody else wrote to the file, from the book that it held, and what is left holds the book after them. From
 -- the register that was opened over the file to the one that was closed there was one behind each line.
-unfoldable pub IsAsked : {D R : Type 0} {g : Ghosts D} → Desk.Ghosts R → Image → Option (Leftover D g) → Option (List ℕ) → Option (List ℕ) → Option (List ℕ) → Option (List ℕ) → Result ⊤ Fault → Type 0
-IsAsked {D} {R} {g} desk file rest input left a b done =
-    ((fault : Fault) × (done ≡ Err fault) × IsNotOpened file rest fault × Keeps input left × Keeps a b)
+unfoldable pub IsAsked : {D R O : Type 0} {g : Ghosts D} {printed : SinkGhosts O} → Desk.Ghosts R → Image → Option (Leftover D g) → Option (List ℕ) → Option (List ℕ) → Outlet printed
+    → Result ⊤ Fault → Type 0
+IsAsked {D} {R} {g = g} {printed = printed} desk file rest input left out done =
+    ((fault : Fault) × (done ≡ Err fault) × IsNotOpened file rest fault × Keeps input left × (out.new ≡ out.old))
     ⊎ ((asked : Result ⊤ ScriptFault) × (last : Leftover D g) × (old : R) × (new : R) × IsOver file rest last (desk.clean new) (desk.stands old) (desk.stands new)
-    × (done ≡ of_script asked) × OnOk asked (IsAtEnd left) × HasAnswered (account_over desk file last old new) input left a b asked)
+    × (done ≡ of_script asked) × OnOk asked (IsAtEnd left) × StopsSo printed out.new asked × HasAnswered (account_over desk file last old new) input left (held_before out) (held_behind out) asked)

@@ -13,6 +13,7 @@ use Rattle.fr_cli.specs.Endings.{IsTold, Tells, status_of}
 use Rattle.fr_cli.specs.Explaining.{IsExplained}
 use Rattle.fr_cli.specs.Faults.{IsNotCreated, IsNotDelivered, IsNotMigrated, IsNotReported}
 use Rattle.fr_cli.specs.Incoming.{IsAsked}
+use Rattle.fr_cli.specs.Outlets.{Outlet, StopsSo, held_before, held_behind, outlet}
 use Rattle.fr_cli.specs.Performing.{Says, of_script}
 use Rattle.fr_cli.specs.Picturing.{plans_for}
 use Rattle.fr_cli.specs.Queries.{reader_named}
@@ -21,64 +22,66 @@ use Rattle.fr_cli.specs.RegisterFiles.{IsAnswerOfFile, IsCreated, IsDeliveryToFi
 use Rattle.fr_cli.specs.Runs.{IsRunOf}
 use Rattle.fr_cli.specs.Serving.{IsAnnounced, IsServed}
 use Rattle.fr_cli.specs.Texts.{Readings}
-use Rattle.fr_cli.specs.Visits.{Comings}
+use Rattle.fr_cli.specs.Visits.{Comings, SinkGhosts}
 use Rattle.fr_cli.specs.declared.failure.Failure.{Failure}
 use Rattle.fr_cli.specs.declared.fault.Fault.{Fault}
 use Rattle.fr_cli.specs.declared.script_fault.ScriptFault.{ScriptFault}
 use Rattle.fr_cli.specs.declared.words.Job.{Job}
 use Rattle.fr_cli.specs.declared.words.Job.TheVariants as job
 
--- a stream before and after a job: what it has still to give, or what it was given
-pub record Stream : Type 0 where
+-- what an input has still to give, before and after a job
+pub record Inlet : Type 0 where
   pub old : Option (List ℕ)
   pub new : Option (List ℕ)
 
--- standard input, output and error
-pub record Streams : Type 0 where
-  pub input : Stream
-  pub out : Stream
-  pub err : Stream
+-- standard input, output and error, and what is said of the writers
+pub record Streams {O E : Type 0} (printed : SinkGhosts O) (told : SinkGhosts E) : Type 0 where
+  pub input : Inlet
+  pub out : Outlet printed
+  pub err : Outlet told
 
 -- A job ended so: the status says whether it was done, and standard error has the word of the fault where it was not.
-abbrev pub Ends : Result ⊤ Fault → Streams → ℕ → Type 0
-Ends done s status = (status ≡ status_of done) × Tells s.err.old s.err.new done
+abbrev pub Ends : {O E : Type 0} {printed : SinkGhosts O} {told : SinkGhosts E} → Result ⊤ Fault → Streams printed told → ℕ → Type 0
+Ends {told = told} done s status = (status ≡ status_of done) × Tells told s.err.old s.err.new done
 
 -- A job that gives a text ended so: the text is printed, or why there is none is told.
-abbrev pub Shows : Result (Vec ℕ) Failure → Streams → ℕ → Type 0
-Shows done s status = IsTold done s.out.old s.out.new s.err.old s.err.new status
+abbrev pub Shows : {O E : Type 0} {printed : SinkGhosts O} {told : SinkGhosts E} → Result (Vec ℕ) Failure → Streams printed told → ℕ → Type 0
+Shows done s status = IsTold s.out s.err done status
 
 -- What is said of a register that is open; what a job's register file held, and what is left of it; what was read of text files; and the connections
 -- that came in.
-module _ {D R : Type 0} {g : Ghosts D} (desk : Desk.Ghosts R) (held : Image) (rest : Option (Leftover D g)) (read : Readings) (comings : Comings) where
+module _ {D R O E : Type 0} {g : Ghosts D} {printed : SinkGhosts O} {told : SinkGhosts E} (desk : Desk.Ghosts R) (held : Image) (rest : Option (Leftover D g)) (read : Readings)
+    (comings : Comings) where
   -- a register file was made of the cluster file at this path
-  abbrev pub Creates : List ℕ → Streams → ℕ → Type 0
+  abbrev pub Creates : List ℕ → Streams printed told → ℕ → Type 0
   Creates config s status = (done : Result ⊤ Fault) × IfErr done (IsNotCreated held rest read config) × IsCreated held rest read config done
-      × Keeps s.out.old s.out.new × Ends done s status
+      × (s.out.new ≡ s.out.old) × Ends done s status
 
   -- a register file was brought to this schema
-  abbrev pub Migrates : Streams → ℕ → Type 0
+  abbrev pub Migrates : Streams printed told → ℕ → Type 0
   Migrates s status = (done : Result ⊤ Fault) × IfErr done (IsNotMigrated held rest) × IsMoved held rest done
-      × Keeps s.out.old s.out.new × Ends done s status
+      × (s.out.new ≡ s.out.old) × Ends done s status
 
   -- connections were served
-  abbrev pub Serves : ℕ → ℕ → ℕ → Streams → ℕ → Type 0
-  Serves port count seconds s status = (done : Result ⊤ Fault) × (told : Option (List ℕ)) × (status ≡ status_of done)
-      × IsAnnounced (comings.heard port) port s.out.old s.out.new done
-      × IsServed desk held rest port count comings.none (comings.deaf port) (comings.at port seconds) s.out.old s.out.new s.err.old told done
-      × Tells told s.err.new done
+  abbrev pub Serves : ℕ → ℕ → ℕ → Streams printed told → ℕ → Type 0
+  Serves port count seconds s status = (done : Result ⊤ Fault) × (mid : E) × (status ≡ status_of done)
+      × IsAnnounced (comings.heard port) port s.out done
+      × IsServed desk held rest port count comings.none (comings.deaf port) (comings.at port seconds) s.out (outlet told s.err.old mid) done
+      × Tells told mid s.err.new done
 
   -- Standard input stays, and no connection came in.
-  abbrev Quiet : Streams → Type 0
+  abbrev Quiet : Streams printed told → Type 0
   Quiet s = Keeps s.input.old s.input.new × comings.none
 
   -- What the job does.
-  unfoldable pub IsPerformed : Job → Streams → ℕ → Type 0
-  IsPerformed job.Run s status = (done : Result ⊤ ScriptFault) × IsRunOf s.input.old s.input.new s.out.old s.out.new done
+  unfoldable pub IsPerformed : Job → Streams printed told → ℕ → Type 0
+  IsPerformed job.Run s status = (done : Result ⊤ ScriptFault) × IsRunOf s.input.old s.input.new (held_before s.out) (held_behind s.out) done
+      × StopsSo printed s.out.new done
       × Ends (of_script done) s status × read.none × comings.none × (rest ≡ None)
   IsPerformed (job.Create db config) s status = Creates config.now s status × Quiet s
   IsPerformed (job.Migrate db) s status = Migrates s status × read.none × Quiet s
   IsPerformed (job.Serve db port count seconds) s status = Serves port count seconds s status × read.none × Keeps s.input.old s.input.new
-  IsPerformed (job.Ask db) s status = (done : Result ⊤ Fault) × IsAsked desk held rest s.input.old s.input.new s.out.old s.out.new done
+  IsPerformed (job.Ask db) s status = (done : Result ⊤ Fault) × IsAsked desk held rest s.input.old s.input.new s.out done
       × Ends done s status × read.none × comings.none
   IsPerformed (job.Report db query) s status = (done : Result (Vec ℕ) Failure) × Shows done s status
       × Says (IsNotReported held rest) (IsForReader (IsAnswerOfFile held rest (query_of query))) done × read.none × Quiet s

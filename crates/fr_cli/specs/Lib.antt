@@ -25,6 +25,7 @@ pub mod Performing
 pub mod Incoming
 pub mod Guarding
 pub mod Visits
+pub mod Outlets
 pub mod Serving
 pub mod Stops
 pub mod Errands

@@ -101,19 +101,20 @@ IsClear (left.Store it) fault = ⊤
 
 -- The job ended by this fault, and told it, as one that did not open the file does: nothing was printed, and no connection came in. What is
 -- left, where that is clear, holds next each book that the file held.
-abbrev pub WasNotOpened : {D : Type 0} {g : Ghosts D} → Image → Option (Leftover D g) → Comings → Streams → ℕ → Type 0
-WasNotOpened {D} {g} held rest comings s status =
+abbrev pub WasNotOpened : {D O E : Type 0} {g : Ghosts D} {printed : SinkGhosts O} {told : SinkGhosts E} → Image → Option (Leftover D g) → Comings → Streams printed told → ℕ
+    → Type 0
+WasNotOpened {D} {g = g} held rest comings s status =
     (fault : Fault) × ((rest ≡ None) ⊎ IsNotOpened held rest fault) × Shows (Err (failure.Fault fault)) s status × comings.none
     × ((left : Leftover D g) (next : Image) → rest ≡ Some left → IsClear left fault → IsCleanLeft left → IsNextOf left next → HoldsOn held next)
 
 -- While a job was done, these files of text became those, and this listener that one. What is said of a register that is open; and of a job that was
 -- done, and left this of its file.
-module _ {D K F R L I O : Type 0} (g : Ghosts D) (desk : Desk.Ghosts K) (texts : TextFiles.Ghosts F R) (reader : Read.Ghosts R)
-    (listener : Listener.Ghosts L I O) (from : SourceGhosts I) (to : SinkGhosts O) where
+module _ {D K F R L I W O E : Type 0} (g : Ghosts D) (desk : Desk.Ghosts K) (texts : TextFiles.Ghosts F R) (reader : Read.Ghosts R)
+    (listener : Listener.Ghosts L I W) (from : SourceGhosts I) (to : SinkGhosts W) (printed : SinkGhosts O) (told : SinkGhosts E) where
   -- Where a register's file was made, it was of the cluster file that was read at the path, and holds next the book of its new register, which is
   -- sound.
   abbrev pub MadeIsHeld : Type 0
-  MadeIsHeld = (held next : Image) (left : Leftover D g) (before after : F) (old new : L) (db config : Bor (List ℕ)) (s : Streams)
+  MadeIsHeld = (held next : Image) (left : Leftover D g) (before after : F) (old new : L) (db config : Bor (List ℕ)) (s : Streams printed told)
       → IsPerformed desk held (Some left) (readings texts reader before after) (comings listener from to old new) (job.Create db config) s 0
       → IsCleanLeft left → IsNextOf left next
       → (f : ClusterFile) × IsClusterAt (readings texts reader before after) config.now f × Held next f.cluster (opening f) × IsSound f.cluster (opening f)
@@ -121,7 +122,7 @@ module _ {D K F R L I O : Type 0} (g : Ghosts D) (desk : Desk.Ghosts K) (texts :
   -- A job that asks the register of a file did such a deed, and that leads from what the file held to what it holds next; or it ended as one
   -- that did not open the file, and asked nothing.
   abbrev pub JobLeads : Type 0
-  JobLeads = (held : Image) (rest : Option (Leftover D g)) (before after : F) (old new : L) (job : Job) (s : Streams) (status : ℕ)
+  JobLeads = (held : Image) (rest : Option (Leftover D g)) (before after : F) (old new : L) (job : Job) (s : Streams printed told) (status : ℕ)
       → IsPerformed desk held rest (readings texts reader before after) (comings listener from to old new) job s status → AsksRegister job
       → WasNotOpened held rest (comings listener from to old new) s status
       ⊎ ((left : Leftover D g) × (rest ≡ Some left)

@@ -65,12 +65,12 @@ module _ {D K : Type 0} (g : Ghosts D) (desk : Desk.Ghosts K) (leaves : K → Le
   StopsBehindEach held deed first last = (front : Deed) (more : Deed) → IsJoined deed front more
       → (it : K) × desk.clean it × WasDoneFrom first front it × WasDoneFrom it more last × StoodBehind held front it × StopsBehind held front it
 
-module _ {D K F R L I O : Type 0} (g : Ghosts D) (desk : Desk.Ghosts K) (leaves : K → Leaving) (texts : TextFiles.Ghosts F R) (reader : Read.Ghosts R)
-    (listener : Listener.Ghosts L I O) (from : SourceGhosts I) (to : SinkGhosts O) where
+module _ {D K F R L I W O E : Type 0} (g : Ghosts D) (desk : Desk.Ghosts K) (leaves : K → Leaving) (texts : TextFiles.Ghosts F R) (reader : Read.Ghosts R)
+    (listener : Listener.Ghosts L I W) (from : SourceGhosts I) (to : SinkGhosts W) (printed : SinkGhosts O) (told : SinkGhosts E) where
   -- A job that answers lines or serves connections did a deed, from the register that was opened over its file to the one that was closed. If nobody
   -- else wrote to the file before that, a stop behind any answer leaves what the deed had led to. Or the job did not open the file.
   abbrev pub JobStops : Type 0
-  JobStops = (held : Image) (rest : Option (Leftover D g)) (before after : F) (old new : L) (job : Job) (s : Streams) (status : ℕ)
+  JobStops = (held : Image) (rest : Option (Leftover D g)) (before after : F) (old new : L) (job : Job) (s : Streams printed told) (status : ℕ)
       → IsPerformed desk held rest (readings texts reader before after) (comings listener from to old new) job s status → AnswersOn job
       → WasNotOpened held rest (comings listener from to old new) s status
       ⊎ ((left : Leftover D g) × (deed : Deed) × IsDeedOf (readings texts reader before after) (comings listener from to old new) s status job deed

@@ -8,6 +8,7 @@ use Rattle.fr_http.specs.Connection.{ReadsNoMore, WasFlushed, is_silent}
 use Rattle.fr_http.specs.Exchanges.{Exchanged, IsInterim}
 use Rattle.fr_http.specs.Outcome.{IsOutcome}
 use Rattle.fr_http.specs.Reads.{IsReadWithin, Reads}
+use Rattle.fr_http.specs.Writes.{MayFail}
 use Rattle.fr_http.specs.declared.fault.LinkFault.{LinkFault}
 use Rattle.fr_http.specs.declared.fault.LinkFault.TheVariants.{Truncated}
 use Rattle.fr_http.specs.declared.fault.Unasked.TheVariants.{Fault}
@@ -41,7 +42,8 @@ module _ {L R W : Type 0} (listener : Listener.Ghosts L R W) (reader : SourceGho
   -- A connection came in, which is to last so many seconds at most. Exactly these bytes were read of it, and exactly these were written
   -- to it, and then it was closed, as one that ended so. No more was read than a request may have, and in no more reads than a connection may take. A
   -- fault of reading comes only for its cause: that of an input cut short only where the input was at its end, and more had to come. Behind a fault
-  -- that is none of writing no more than the interim reply was written. Where it was served, the last call of its sink was a flush.
+  -- that is none of writing no more than the interim reply was written; one of writing comes only where the last call of its sink failed. Where it was
+  -- served, that was a flush.
   pub record IsVisited (seconds : ℕ) (old : L) (visit : Visit) (new : L) : Type 0 where
     pub input : R
     pub output : W
@@ -57,6 +59,7 @@ module _ {L R W : Type 0} (listener : Listener.Ghosts L R W) (reader : SourceGho
         → IsAtEnd (reader.remaining input_left) × ((who : List ℕ → Option Actor) → IsOutcome who visit.read visit.written (Err (Fault Truncated)))
     pub silent : IfErr visit.done (λ fault. is_silent fault ≡ true → IsInterim visit.read visit.written)
     pub flushed : OnOk visit.done (WasFlushed writer.flushes output_made)
+    pub failed : IfErr visit.done (λ fault. MayFail writer.writes writer.flushes fault output_made)
     pub closed : listener.closes between input_left output_made visit.done new
 
   -- So connections came in, one after another, and no other.

@@ -9,19 +9,18 @@ use crate::lines::{RequestLines, key_and_text};
 use crate::lines_out::line_of;
 use crate::script_fault::ScriptFault;
 use fr_base::{Actor, Answer, Ask, Desk, Refusal};
-use fr_text::{Output, read_command};
+use fr_text::{Output, Sink, read_command};
 use std::alloc::Global;
-use std::io::Write;
 use std::str;
 
 /// Writes the answer to each request, before the next one is read. Behind each there is a desk that stands for the book after it.
-pub fn write_answers<D: Desk, W: Write>(
+pub fn write_answers<D: Desk, W: Sink>(
     alloc: Global,
     desk: &mut D,
     lines: &[u8],
     output: &mut Output<'_, W>,
 ) -> Result<(), ScriptFault>
-    ensures { HasWritten D.Desk W.Write lines.now desk.old desk.new output.old output.new result }
+    ensures { HasWritten D.Desk W.Sink lines.now desk.old desk.new output.old output.new result }
 {
     for line in RequestLines::new(lines) {
         let answer = answer_line(alloc, desk, line)?;

@@ -1,6 +1,7 @@
 //! Requests on standard input, asked of a register in a file.
 ghost use Rattle.sqlite_wal.specs.Files.{image_at};
 ghost use Rattle.fr_cli.specs.Incoming.{IsAsked};
+ghost use Rattle.fr_cli.specs.Outlets.{outlet};
 
 use crate::fault::{Fault, of_script};
 use crate::guarded::Guarded;
@@ -10,9 +11,10 @@ use crate::script_fault::ScriptFault;
 use fr_base::Desk;
 use fr_desks::{FileDesk, Left};
 use fr_office::Office;
+use fr_text::Sink;
 use fr_world::Records;
 use sqlite::Start;
-use std::io::{Read, Write};
+use std::io::Read;
 
 /// The requests on an input, and the output on which they are answered. Where another file stands in the place of the
 /// register's, a request is answered `Unavailable`, and the run ends with that fault.
@@ -22,9 +24,10 @@ pub(crate) struct Asking<'a, I, O> {
     pub out: &'a mut O,
 }
 
-impl<I: Read, O: Write> Errand for Asking<'_, I, O> {
+impl<I: Read, O: Sink> Errand for Asking<'_, I, O> {
     ghost use Rattle.std.specs.Prelude.{◌≡◌};
     ghost use Rattle.fr_cli.specs.Errands.{AnswersInput};
+    ghost use Rattle.fr_cli.specs.Outlets.{outlet};
 
     type Done = ();
 
@@ -32,7 +35,7 @@ impl<I: Read, O: Write> Errand for Asking<'_, I, O> {
 
     ghost does = { λ it then desks desk old new done.
         AnswersInput (I.remaining it.input.now) (I.remaining then.input.now)
-        (O.contents it.out.now) (O.contents then.out.now) desks desk old new done
+        (outlet O.Sink it.out.now then.out.now) desks desk old new done
         × ((then.input.ghost_name ≡ it.input.ghost_name)
         × (then.out.ghost_name ≡ it.out.ghost_name)) };
 
@@ -54,7 +57,7 @@ impl<I: Read, O: Write> Errand for Asking<'_, I, O> {
 
 /// Answers the requests on the input of the register in the file at `db`, as [`Asking`] says. Closes the file, and gives what
 /// is left of it. `start` says what the file held as it was opened.
-pub(crate) fn ask<S: Start, I: Read, O: Write>(
+pub(crate) fn ask<S: Start, I: Read, O: Sink>(
     rt: &HostRuntime,
     db: &str,
     start: S,
@@ -62,7 +65,7 @@ pub(crate) fn ask<S: Start, I: Read, O: Write>(
     out: &mut O,
 ) -> (Result<(), Fault>, Left<S>)
     ensures { IsAsked ⟦<FileDesk<S> as Desk>⟧ (image_at S.Start) result.1 (I.remaining input.old)
-        (I.remaining input.new) (O.contents out.old) (O.contents out.new) result.0 }
+        (I.remaining input.new) (outlet O.Sink out.old out.new) result.0 }
 {
     let mut asking = Asking { input, out };
     over_file(rt, db, start, &mut asking)

@@ -1,25 +1,22 @@
 //! What is told where the register file of a job fails to close.
 ghost use Rattle.std.specs.Prelude.{◌≡◌, ◌≢◌, ◌⊎◌};
-ghost use Rattle.std.specs.Io.KnownBytes.{Keeps};
-ghost use Rattle.fr_cli.specs.Endings.{FailedToClose, word_line};
+ghost use Rattle.fr_cli.specs.Endings.{FailedToClose, NamesFault};
 ghost use Rattle.fr_cli.specs.Faults.{store_word};
-ghost use Rattle.fr_http.specs.Connection.{AppendsFront};
 
 use crate::fault::Fault;
 use crate::printing::end;
 use fr_desks::Left;
 use fr_store::StoreFault;
+use fr_text::Sink;
 use sqlite::{Leftover, Start};
-use std::io::Write;
 
 /// The process's status, by the job's status and what the job left of its register file. Where the job was done and the file
 /// failed to close, the process's status is 1, and the fault's word is printed; what the job printed stands.
-pub fn end_closed<S: Start, E: Write>(status: u8, left: &Left<S>, err: &mut E) -> u8
+pub fn end_closed<S: Start, E: Sink>(status: u8, left: &Left<S>, err: &mut E) -> u8
     ensures failed { status ≡ 0 → FailedToClose left.now
-        → (result ≡ 1) × AppendsFront (E.contents err.old) (E.contents err.new)
-        (word_line (store_word StoreFault.Unavailable)) }
+        → (result ≡ 1) × NamesFault E.Sink (store_word StoreFault.Unavailable) err.old err.new }
     ensures closed { (status ≢ 0) ⊎ (¬ FailedToClose left.now)
-        → (result ≡ status) × Keeps (E.contents err.old) (E.contents err.new) }
+        → (result ≡ status) × (err.new ≡ err.old) }
 {
     match left {
         Some(Leftover::Store(_)) if status == 0 => {

@@ -3,6 +3,7 @@ ghost use Rattle.std.specs.Prelude.{◌≡◌, ◌⊎◌, ◌≤◌, ◌++◌, v
 ghost use Rattle.std.specs.Io.KnownBytes.{IsAtEnd};
 ghost use Rattle.fr_cli.specs.Answering.{account_by};
 ghost use Rattle.fr_cli.specs.Incoming.{EndsAsking, HasAnswered, HasAsked, HasHeard};
+ghost use Rattle.fr_cli.specs.Outlets.{StopsSo};
 ghost use Rattle.fr_cli.specs.Script.{HasNo};
 ghost use Rattle.fr_cli.specs.declared.input.InputFault.{InputFault};
 
@@ -11,9 +12,9 @@ use crate::input::{InputFault, PIECE_BYTES, SCRIPT_BYTES, SCRIPT_READS, append};
 use crate::lasting::Lasting;
 use crate::lines::{RequestLines, split_once};
 use crate::script_fault::ScriptFault;
-use fr_text::{Output, try_again};
+use fr_text::{Output, Sink, try_again};
 use std::alloc::Global;
-use std::io::{Read, Write};
+use std::io::Read;
 
 /// How many bytes a line has at most, without its line feed.
 pub const LINE_BYTES: usize = 1_048_576;
@@ -27,7 +28,7 @@ pub const LINE_BYTES: usize = 1_048_576;
 ///
 /// The answer to a line is written before more than what came with it is read. No clause speaks of that order, nor says when
 /// a read fails or the reads are too many.
-pub fn answer_input<D: Lasting, R: Read, W: Write>(
+pub fn answer_input<D: Lasting, R: Read, W: Sink>(
     alloc: Global,
     desk: &mut D,
     reader: &mut R,
@@ -38,13 +39,14 @@ pub fn answer_input<D: Lasting, R: Read, W: Write>(
         (R.remaining reader.old) (R.remaining reader.new) (W.contents writer.old)
         (W.contents writer.new) result }
     ensures end { OnOk result (IsAtEnd (R.remaining reader.new)) }
+    ensures stops { StopsSo W.Sink writer.new result }
 {
     let mut output = Output::new(writer);
     answer_pieces(alloc, desk, reader, &mut output)
 }
 
 // Answers what the reader gives, piece by piece.
-fn answer_pieces<D: Lasting, R: Read, W: Write>(
+fn answer_pieces<D: Lasting, R: Read, W: Sink>(
     alloc: Global,
     desk: &mut D,
     reader: &mut R,
@@ -55,6 +57,7 @@ fn answer_pieces<D: Lasting, R: Read, W: Write>(
         (R.remaining reader.old) (R.remaining reader.new) (W.contents output.old.writer.now)
         (W.contents output.new.writer.now) result }
     ensures end { OnOk result (IsAtEnd (R.remaining reader.new)) }
+    ensures stops { StopsSo W.Sink output.new.writer.now result }
     ensures same { output.new.writer.ghost_name ≡ output.old.writer.ghost_name }
 {
     let mut begun = Vec::new(alloc);
@@ -75,7 +78,7 @@ fn answer_pieces<D: Lasting, R: Read, W: Write>(
 
 // Answers each line that ends in the piece; the first of them begins with `begun`. What follows the last of them is begun
 // then. No line ends in `begun`, before and after.
-fn answer_piece<D: Lasting, W: Write>(
+fn answer_piece<D: Lasting, W: Sink>(
     alloc: Global,
     desk: &mut D,
     begun: &mut Vec<u8>,
@@ -90,6 +93,7 @@ fn answer_piece<D: Lasting, W: Write>(
         (begun.old.items ++ piece.now) begun.new.items (W.contents output.old.writer.now)
         (W.contents output.new.writer.now) result }
     ensures faults { IfErr result (λ fault. (fault ≡ ScriptFault.TooLong) ⊎ EndsAsking fault) }
+    ensures stops { StopsSo W.Sink output.new.writer.now result }
     ensures same { output.new.writer.ghost_name ≡ output.old.writer.ghost_name }
 {
     let mut rest = piece;
@@ -104,13 +108,13 @@ fn answer_piece<D: Lasting, W: Write>(
 }
 
 // Answers the requests. If there were any, and the register cannot be asked any more, the fault is `Unavailable`.
-fn answer_requests<D: Lasting, W: Write>(
+fn answer_requests<D: Lasting, W: Sink>(
     alloc: Global,
     desk: &mut D,
     requests: &[u8],
     output: &mut Output<'_, W>,
 ) -> Result<(), ScriptFault>
-    ensures { HasAsked D.Desk W.Write requests.now desk.old desk.new output.old output.new result }
+    ensures { HasAsked D.Desk W.Sink requests.now desk.old desk.new output.old output.new result }
 {
     write_answers(alloc, desk, requests, output)?;
     if RequestLines::new(requests).next().is_none() {

@@ -13,6 +13,7 @@ use crate::text_files::TextFiles;
 use fr_base::Desk;
 use fr_office::Office;
 use fr_store::Store;
+use fr_text::Sink;
 use fr_world::Records;
 use sqlite::FileStore;
 use sqlite_disk::Disk;
@@ -50,27 +51,27 @@ pub fn each_fault_is_explained()
 
 /// A register's file that was made, and that is opened next as it is or as a crash left it, holds the book of a new register. That is
 /// the register of the cluster file that was read.
-pub fn made_is_held<D: Disk, K: Desk, F: TextFiles, L: Listener>()
+pub fn made_is_held<D: Disk, K: Desk, F: TextFiles, L: Listener, O: Sink, E: Sink>()
     ensures { MadeIsHeld D.Disk K.Desk F.TextFiles F.Reader.Read L.Listener L.Reader.Source
-        L.Writer.Sink }
+        L.Writer.Sink O.Sink E.Sink }
 {}
 
 /// What a job asked the register of a file, by what the job read and printed, leads from the book that the file held to the one that
 /// it holds next: the book after what was asked, and where the file failed to close at most one request more. Or the job ended as one
 /// that did not open the file, and asked nothing. Then what is left holds next what the file held, where it is clear what is left.
-pub fn job_leads<D: Disk, K: Desk, F: TextFiles, L: Listener>()
+pub fn job_leads<D: Disk, K: Desk, F: TextFiles, L: Listener, O: Sink, E: Sink>()
     ensures { JobLeads D.Disk K.Desk F.TextFiles F.Reader.Read L.Listener L.Reader.Source
-        L.Writer.Sink }
+        L.Writer.Sink O.Sink E.Sink }
 {}
 
 /// Behind each line that a job answered, and each connection that it served, there was a register that stood for the book after it. So
 /// there was before the first. If the program stops there, a crash leaves that book, or the one after one request more. Nobody else may
 /// have written to the file before the job closed it. The job came to its end: that the same holds of one that was stopped is argued.
 /// Or the job did not open the file.
-pub fn job_stops<D: Disk, F: TextFiles, L: Listener>()
+pub fn job_stops<D: Disk, F: TextFiles, L: Listener, O: Sink, E: Sink>()
     ensures { JobStops D.Disk ⟦<Office<Store<FileStore<D>>> as Desk>⟧
         (leaves_of ⟦<Store<FileStore<D>> as Records>⟧.leaves) F.TextFiles F.Reader.Read L.Listener
-        L.Reader.Source L.Writer.Sink }
+        L.Reader.Source L.Writer.Sink O.Sink E.Sink }
 {}
 
 /// What jobs did, one after another at one file, with crashes in them and between them, leads from the book that the file held at

@@ -1,18 +1,15 @@
 //! What is printed of a job on standard output and standard error, and its status.
-ghost use Rattle.std.specs.Prelude.{◌≡◌, ◌≤◌, OnOk};
-ghost use Rattle.std.specs.Io.KnownBytes.{Appends};
-ghost use Rattle.fr_http.specs.Calls.{WritesTo};
-ghost use Rattle.fr_cli.specs.Endings.{IsPrinted, IsTold, NamesFault, Prints, Tells, status_of, word_line};
+ghost use Rattle.std.specs.Prelude.{◌≡◌};
+ghost use Rattle.fr_cli.specs.Endings.{IsPrinted, IsTold, Tells, status_of, word_line, word_pieces};
+ghost use Rattle.fr_cli.specs.Outlets.{IsPut, IsWritten, outlet};
 
 use crate::failure::Failure;
 use crate::fault::Fault;
-use fr_text::{Output, WRITE_RETRIES, WriteFailed};
-use std::io::Write;
+use fr_text::{Output, Sink, WriteFailed};
 
 /// Prints the text of a job, or why it was not done, and gives its status.
-pub fn tell<O: Write, E: Write>(done: Result<Vec<u8>, Failure>, out: &mut O, err: &mut E) -> u8
-    ensures { IsTold done (O.contents out.old) (O.contents out.new) (E.contents err.old)
-        (E.contents err.new) result }
+pub fn tell<O: Sink, E: Sink>(done: Result<Vec<u8>, Failure>, out: &mut O, err: &mut E) -> u8
+    ensures { IsTold (outlet O.Sink out.old out.new) (outlet E.Sink err.old err.new) done result }
 {
     match done {
         Ok(text) => print_all(&text, out, err),
@@ -21,7 +18,7 @@ pub fn tell<O: Write, E: Write>(done: Result<Vec<u8>, Failure>, out: &mut O, err
             1
         }
         Err(Failure::Refused { line }) => {
-            let _ = print(&line, &mut Output::new(err));
+            let _ = print(&line, err);
             1
         }
         Err(Failure::Fault(fault)) => end(Err(fault), err),
@@ -29,45 +26,43 @@ pub fn tell<O: Write, E: Write>(done: Result<Vec<u8>, Failure>, out: &mut O, err
 }
 
 /// Prints a whole text, and gives the status.
-pub fn print_all<O: Write, E: Write>(text: &[u8], out: &mut O, err: &mut E) -> u8
-    ensures { IsPrinted text.now (O.contents out.old) (O.contents out.new) (E.contents err.old)
-        (E.contents err.new) result }
+pub fn print_all<O: Sink, E: Sink>(text: &[u8], out: &mut O, err: &mut E) -> u8
+    ensures { IsPrinted (outlet O.Sink out.old out.new) (outlet E.Sink err.old err.new) text.now
+        result }
 {
-    match print(text, &mut Output::new(out)) {
+    match print(text, out) {
         Ok(()) => 0,
         Err(WriteFailed) => end(Err(Fault::WriteFailed), err),
     }
 }
 
 /// The status of a job that ended so. The fault's word is printed.
-pub fn end<E: Write>(done: Result<(), Fault>, err: &mut E) -> u8
+pub fn end<E: Sink>(done: Result<(), Fault>, err: &mut E) -> u8
     ensures status { result ≡ status_of done }
-    ensures tells { Tells (E.contents err.old) (E.contents err.new) done }
+    ensures tells { Tells E.Sink err.old err.new done }
 {
     match done {
         Ok(()) => 0,
         Err(fault) => {
-            let _ = print_word(fault.word(), &mut Output::new(err));
+            let _ = print_word(fault.word(), err);
             1
         }
     }
 }
 
-/// Writes the text.
-pub fn print<W: Write>(text: &[u8], output: &mut Output<'_, W>) -> Result<(), WriteFailed>
-    ensures { WritesTo W.Write (Prints text.now) output.old output.new result }
+/// Writes the text, as far as no write fails. It has [`WRITE_RETRIES`](fr_text::WRITE_RETRIES) retries of its own.
+pub fn print<W: Sink>(text: &[u8], writer: &mut W) -> Result<(), WriteFailed>
+    ensures { IsPut (outlet W.Sink writer.old writer.new) text.now result }
 {
-    output.write_all(text)
+    Output::new(writer).write_all(text)
 }
 
-/// Writes the line that names a fault. The line has retries of its own.
-pub fn print_word<W: Write>(word: &str, output: &mut Output<'_, W>) -> Result<(), WriteFailed>
-    ensures front { WritesTo W.Write (NamesFault word.now) output.old output.new result }
-    ensures whole { OnOk result (Appends (W.contents output.old.writer.now)
-        (W.contents output.new.writer.now) (word_line word.now)) }
-    ensures retries { output.new.retries ≤ WRITE_RETRIES }
+/// Writes the line that names a fault, as far as no write fails. The line has retries of its own.
+pub fn print_word<W: Sink>(word: &str, writer: &mut W) -> Result<(), WriteFailed>
+    ensures { IsWritten W.Sink (word_line word.now) (word_pieces word.now) writer.old writer.new
+        result }
 {
-    output.restore_retries();
+    let mut output = Output::new(writer);
     output.write_all(b"slotplan: ")?;
     output.write_all(word.as_bytes())?;
     output.write_all(b"\n")

@@ -1,4 +1,5 @@
 //! Runs a script: reads it whole, splits it, and writes the answer to each of its requests.
+ghost use Rattle.fr_cli.specs.Outlets.{StopsSo};
 ghost use Rattle.fr_cli.specs.Runs.{IsRunOf};
 
 use crate::answering::write_answers;
@@ -6,9 +7,9 @@ use crate::input::read_all;
 use crate::lines::split_script;
 use crate::script_fault::ScriptFault;
 use fr_desks::MemoryDesk;
-use fr_text::{Output, read_config};
+use fr_text::{Output, Sink, read_config};
 use std::alloc::Global;
-use std::io::{Read, Write};
+use std::io::Read;
 
 /// Reads a whole script, and answers its requests in order, each on a line of its own. What it
 /// writes is the output of the script. A fault of reading, a missing separator, a fault of the
@@ -22,13 +23,14 @@ use std::io::{Read, Write};
 /// It answers them alike, line by line; a line that was answered `Unavailable` is left out. And after each
 /// line at most one frame is sent in a cycle, slot and channel of a variant, by the node that holds the
 /// grant.
-pub fn run_script<R: Read, W: Write>(
+pub fn run_script<R: Read, W: Sink>(
     alloc: Global,
     reader: &mut R,
     writer: &mut W,
 ) -> Result<(), ScriptFault>
-    ensures { IsRunOf (R.remaining reader.old) (R.remaining reader.new) (W.contents writer.old)
+    ensures run { IsRunOf (R.remaining reader.old) (R.remaining reader.new) (W.contents writer.old)
         (W.contents writer.new) result }
+    ensures stops { StopsSo W.Sink writer.new result }
 {
     let script = read_all(alloc, reader)?;
     let (cluster, requests) = split_script(&script).ok_or(ScriptFault::NoSeparator)?;

@@ -6,8 +6,8 @@ use fr_base::NoMemory;
 use fr_text::{ConfigFault, WriteFailed};
 use std::fmt;
 
-/// Why the run of a script, or of requests that come in, ended before all lines were answered. When a read or a write fails, or the reads are too
-/// many, no clause says.
+/// Why the run of a script, or of requests that come in, ended before all lines were answered. When a read fails, or the
+/// reads are too many, no clause says.
 #[derive(Clone, Copy, Debug, PartialEq, Eq)]
 pub enum ScriptFault {
     /// The script has more than 16,777,216 bytes.

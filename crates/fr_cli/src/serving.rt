@@ -1,9 +1,9 @@
 //! Serves a register file over HTTP: connections are accepted, served and closed, one after another.
 ghost use Rattle.std.specs.Prelude.{◌≡◌, ◌⊎◌, ◌∷◌, [], false, IfErr, IfOk, OnErr, OnOk, ⊤};
-ghost use Rattle.std.specs.Io.KnownBytes.{Appends};
 ghost use Rattle.sqlite_wal.specs.Files.{image_at};
+ghost use Rattle.fr_cli.specs.Outlets.{IsCutShort, outlet};
 ghost use Rattle.fr_cli.specs.Performing.{listening};
-ghost use Rattle.fr_cli.specs.Serving.{Announces, HasServed, IsAnnounced, IsServedOver, ServesEach, ServesOne, TellsEach, TellsEnd};
+ghost use Rattle.fr_cli.specs.Serving.{Announces, HasServed, IsAnnounced, IsServedOver, ServesEach, ServesOne, TellsEach, TellsEnd, WasAnnounced};
 ghost use Rattle.fr_cli.specs.Visits.{AreVisited, IsVisited, Visit, comings};
 ghost use Rattle.fr_cli.specs.declared.fault.Fault.TheVariants.{CannotListen, Register};
 ghost use Rattle.fr_http.specs.Exchanges.{was_asked};
@@ -20,11 +20,11 @@ use fr_desks::{FileDesk, Left};
 use fr_http::{LinkFault, Served, Source, serve_one};
 use fr_office::Office;
 use fr_store::StoreFault;
-use fr_text::{Output, Sink};
+use fr_text::Sink;
 use fr_world::Records;
 use sqlite::Start;
 use std::alloc::Global;
-use std::io::{self, Write};
+use std::io;
 
 /// How a register is served.
 #[derive(Clone, Copy)]
@@ -55,11 +55,12 @@ where
     R: Source + Drop,
     W: Sink + Drop,
     L: Listener<Reader = R, Writer = W>,
-    O: Write,
-    E: Write,
+    O: Sink,
+    E: Sink,
 {
     ghost use Rattle.std.specs.Prelude.{◌≡◌};
     ghost use Rattle.fr_cli.specs.Errands.{ServesConnections};
+    ghost use Rattle.fr_cli.specs.Outlets.{outlet};
     ghost use Rattle.fr_cli.specs.Visits.{comings};
 
     type Done = ();
@@ -68,8 +69,8 @@ where
 
     ghost does = { λ it then desks desk old new done. ServesConnections it.service
         (comings L.Listener R.Source W.Sink it.listener.now then.listener.now)
-        (O.contents it.out.now) (O.contents then.out.now)
-        (E.contents it.err.now) (E.contents then.err.now) desks desk old new done
+        (outlet O.Sink it.out.now then.out.now) (outlet E.Sink it.err.now then.err.now)
+        desks desk old new done
         × ((then.listener.ghost_name ≡ it.listener.ghost_name)
         × ((then.out.ghost_name ≡ it.out.ghost_name)
         × (then.err.ghost_name ≡ it.err.ghost_name))) };
@@ -99,7 +100,7 @@ where
 
 /// Serves the register in the file at `db`, as [`Serving`] says. Closes the file, and gives what is left of it. `start` says what
 /// the file held as it was opened.
-pub(crate) fn serve<S: Start, L: Listener, O: Write, E: Write>(
+pub(crate) fn serve<S: Start, L: Listener, O: Sink, E: Sink>(
     rt: &HostRuntime,
     db: &str,
     start: S,
@@ -109,8 +110,8 @@ pub(crate) fn serve<S: Start, L: Listener, O: Write, E: Write>(
     err: &mut E,
 ) -> (Result<(), Fault>, Left<S>)
     ensures { let came = comings L.Listener L.Reader.Source L.Writer.Sink listener.old listener.new in
-        IsServedOver ⟦<FileDesk<S> as Desk>⟧ (image_at S.Start) result.1 service came (O.contents out.old)
-        (O.contents out.new) (E.contents err.old) (E.contents err.new) result.0 }
+        IsServedOver ⟦<FileDesk<S> as Desk>⟧ (image_at S.Start) result.1 service came
+        (outlet O.Sink out.old out.new) (outlet E.Sink err.old err.new) result.0 }
 {
     let mut serving = Serving {
         service,
@@ -122,7 +123,7 @@ pub(crate) fn serve<S: Start, L: Listener, O: Write, E: Write>(
 }
 
 // Listens, and serves as many connections as the service has. Behind each there is a desk that stands for the book after it.
-fn listen<D: Lasting, L: Listener, O: Write, E: Write>(
+fn listen<D: Lasting, L: Listener, O: Sink, E: Sink>(
     alloc: Global,
     desk: &mut D,
     service: Service,
@@ -131,13 +132,15 @@ fn listen<D: Lasting, L: Listener, O: Write, E: Write>(
     err: &mut E,
 ) -> Result<(), Fault>
     ensures falls { D.clean desk.new → D.clean desk.old }
-    ensures announced { Announces L.Listener O.Write service listener.old out.old out.new result }
+    ensures announced { Announces L.Listener service listener.old (outlet O.Sink out.old out.new)
+        result }
     ensures served { let came = comings L.Listener L.Reader.Source L.Writer.Sink listener.old
         listener.new in
         HasServed (ServesEach D.clean D.stands desk.old desk.new) service.count
-        (Appends (O.contents out.old) (O.contents out.new) (listening service.port))
+        (WasAnnounced service.port (outlet O.Sink out.old out.new))
+        (IsCutShort (outlet O.Sink out.old out.new) (listening service.port))
         (came.deaf service.port) (came.at service.port service.seconds)
-        (E.contents err.old) (E.contents err.new) result }
+        (outlet E.Sink err.old err.new) result }
 {
     begin(listener, service.port)?;
     announce(alloc, service.port, out)?;
@@ -154,17 +157,18 @@ fn begin<L: Listener>(listener: &mut L, port: u16) -> Result<(), Fault>
 }
 
 // Prints where it listens.
-fn announce<O: Write>(alloc: Global, port: u16, out: &mut O) -> Result<(), Fault>
-    ensures announced { IsAnnounced ⊤ port (O.contents out.old) (O.contents out.new) result }
-    ensures fault { IfErr result (λ fault. (fault ≡ Fault.NoMemory) ⊎ (fault ≡ Fault.WriteFailed)) }
+fn announce<O: Sink>(alloc: Global, port: u16, out: &mut O) -> Result<(), Fault>
+    ensures announced { IsAnnounced ⊤ port (outlet O.Sink out.old out.new) result }
+    ensures fault { IfErr result (λ fault. (fault ≡ Fault.NoMemory) ⊎ ((fault ≡ Fault.WriteFailed)
+        × IsCutShort (outlet O.Sink out.old out.new) (listening port))) }
 {
     let line = format!(in alloc; "listening on 127.0.0.1:{port}\n").map_err(|_| Fault::NoMemory)?;
-    Ok(print(line.as_bytes(), &mut Output::new(out))?)
+    Ok(print(line.as_bytes(), out)?)
 }
 
 // Serves as many connections as the service has; or fewer, where the register comes to an end. Behind each there is a desk
 // that stands for the book after it.
-fn answer_all<D: Lasting, L: Listener, E: Write>(
+fn answer_all<D: Lasting, L: Listener, E: Sink>(
     alloc: Global,
     listener: &mut L,
     service: &Service,
@@ -173,9 +177,9 @@ fn answer_all<D: Lasting, L: Listener, E: Write>(
 ) -> Result<(), Fault>
     ensures falls { D.clean desk.new → D.clean desk.old }
     ensures served { HasServed (ServesEach D.clean D.stands desk.old desk.new)
-        service.now.count ⊤ (L.ends listener.new) (λ visits.
+        service.now.count ⊤ ⊥ (L.ends listener.new) (λ visits.
         AreVisited L.Listener L.Reader.Source L.Writer.Sink service.now.seconds listener.old visits
-        listener.new) (E.contents err.old) (E.contents err.new) result }
+        listener.new) (outlet E.Sink err.old err.new) result }
     ensures fault { IfErr result (λ fault. (fault ≡ CannotListen) ⊎ (fault ≡ Register Unavailable)) }
 {
     for _ in 0..service.count {
@@ -188,7 +192,7 @@ fn answer_all<D: Lasting, L: Listener, E: Write>(
 }
 
 // Serves the next connection, and prints the word of its fault, if it has one. Gives whether another can be served.
-fn answer_next<D: Lasting, L: Listener, E: Write>(
+fn answer_next<D: Lasting, L: Listener, E: Sink>(
     alloc: Global,
     listener: &mut L,
     seconds: u32,
@@ -199,11 +203,11 @@ fn answer_next<D: Lasting, L: Listener, E: Write>(
     ensures served { OnOk result ((visit : Visit)
         × IsVisited L.Listener L.Reader.Source L.Writer.Sink seconds listener.old visit listener.new
         × ServesOne (D.clean desk.new) (D.stands desk.old) (D.stands desk.new) visit
-        × TellsEach (E.contents err.old) (E.contents err.new) (visit ∷ [])) }
+        × TellsEach E.Sink err.old err.new (visit ∷ [])) }
     ensures fault { IfErr result (λ fault. fault ≡ CannotListen) }
     ensures ended { OnErr result (L.ends listener.old × (listener.new ≡ listener.old)) }
     ensures stays { OnErr result (desk.new ≡ desk.old) }
-    ensures quiet { OnErr result (E.contents err.new ≡ E.contents err.old) }
+    ensures quiet { OnErr result (err.new ≡ err.old) }
 {
     match serve_next(alloc, listener, seconds, desk) {
         Ok(done) => {
@@ -215,11 +219,11 @@ fn answer_next<D: Lasting, L: Listener, E: Write>(
 }
 
 // Prints the word of the fault that ended a connection, if one did.
-fn tell_end<E: Write>(done: Result<Served, LinkFault>, err: &mut E)
-    ensures told { TellsEnd (E.contents err.old) (E.contents err.new) done }
+fn tell_end<E: Sink>(done: Result<Served, LinkFault>, err: &mut E)
+    ensures told { TellsEnd E.Sink err.old err.new done }
 {
     if let Err(fault) = done {
-        let _ = print_word(link_word(fault), &mut Output::new(err));
+        let _ = print_word(link_word(fault), err);
     }
 }
 

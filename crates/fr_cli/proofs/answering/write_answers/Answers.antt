@@ -1,11 +1,15 @@
-use Rattle.std.proofs.Common.{◌≡◌, ◌++◌, ◌∷◌, [], Err, refl, sym, ap, ◌∙◌, subst, append_assoc, append-nil, take, drop, take-append-drop, rules, inl, inr}
+use Rattle.std.proofs.Common.{◌≡◌, ◌++◌, ◌∷◌, [], Err, OnErr, refl, sym, ap, ◌∙◌, subst, append_assoc, append-nil, take, drop, take-append-drop, rules, inl, inr}
 use Rattle.std.proofs.KnownBytes.{Appends-nil, Appends-trans, Appends-kept}
 use Rattle.fr_base.specs.declared.answer.Answer.TheVariants.{Done}
 use Rattle.fr_cli.specs.Answering.{AnswersEach, AnswersLines, WasWritten}
 use Rattle.fr_cli.specs.Outcomes.{line_of}
 use Rattle.fr_cli.specs.Script.{request_lines}
 use Rattle.fr_cli.specs.declared.script_fault.ScriptFault.TheVariants.{NoMemory, WriteFailed}
+use Rattle.fr_cli.specs.Outlets.{StopsSo}
 use Rattle.fr_cli.proofs.AnsweringLaws.{cut_here, lines_kept, lines_then, no_lines, one_line}
+use Rattle.fr_cli.proofs.VisitLaws.{sink}
+use Rattle.fr_http.proofs.WritesLaws.{flush_failed, write_failed}
+use Rattle.fr_http.specs.Writes.{LastFailed}
 use Rattle.fr_cli.proofs.answering.write_answers.Goals as goal
 
 pub loop-line-init : goal.loop-line-init
@@ -38,6 +42,7 @@ returns-in_err-answer g c =
       });
       falls = search rules;
       same_writer = search rules;
+      stops = subst (StopsSo (sink g.W.Write g.W.Sink) _) (sym is) tt;
     }
 
 pub returns-in_err-text : goal.returns-in_err-text
@@ -66,6 +71,7 @@ returns-in_err-text g c =
       });
       falls = search rules;
       same_writer = search rules;
+      stops = subst (StopsSo (sink g.W.Write g.W.Sink) _) (sym is) tt;
     }
 
 pub returns-in_err-write_all : goal.returns-in_err-write_all
@@ -78,6 +84,9 @@ returns-in_err-write_all g c =
     let answer = c.in_ok-answer.answer in
     let is : text ≡ line_of answer = c.deref.ensures.value ∙ c.in_ok-text.ensures in
     let fails : c.from_residual-in_err-write_all.result ≡ Err WriteFailed = search rules in
+    let why = c.in_err-write_all.field-0.0 in
+    let last = c.write_all.new.self.writer.now in
+    let was : c.write_all.result ≡ Err why = search rules in
     record {
       written = subst (WasWritten _ _ _ _) (sym fails) (record {
         all = tt;
@@ -98,6 +107,7 @@ returns-in_err-write_all g c =
       });
       falls = search rules;
       same_writer = search rules;
+      stops = subst (StopsSo (sink g.W.Write g.W.Sink) last) (sym fails) (write_failed g.W.Sink.writes g.W.Sink.flushes _ c.write_all.result why last _ was c.write_all.ensures.writing);
     }
 
 pub loop-line-preserved : goal.loop-line-preserved
@@ -123,6 +133,10 @@ pub returns-in_err-flush : goal.returns-in_err-flush
 returns-in_err-flush g c =
     let l = c.loop-line.invariant in
     let fails : c.from_residual-in_err-flush.result ≡ Err WriteFailed = search rules in
+    let why = c.in_err-flush.field-0.0 in
+    let last = c.flush.new.self.writer.now in
+    let was : c.flush.result ≡ Err why = search rules in
+    let (given, went, alike) = c.flush.ensures.flushed in
     record {
       written = subst (WasWritten _ _ _ _) (sym fails) (record {
         all = tt;
@@ -140,6 +154,8 @@ returns-in_err-flush g c =
       });
       falls = search rules;
       same_writer = search rules;
+      stops = subst (StopsSo (sink g.W.Write g.W.Sink) last) (sym fails)
+          (subst (λ r. OnErr r (LastFailed g.W.Sink.writes g.W.Sink.flushes last)) was (flush_failed g.W.Sink.writes g.W.Sink.flushes _ last c.flush.result given went alike));
     }
 
 pub returns : goal.returns
@@ -154,4 +170,5 @@ returns g c =
       };
       falls = search rules;
       same_writer = search rules;
+      stops = tt;
     }

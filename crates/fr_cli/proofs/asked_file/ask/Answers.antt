@@ -1,11 +1,11 @@
 use Rattle.std.proofs.Common.{ap, rules}
 use Rattle.fr_cli.proofs.IncomingLaws.{asked_over}
+use Rattle.fr_cli.proofs.VisitLaws.{sink}
 use Rattle.fr_cli.proofs.asked_file.ask.Goals as goal
 
 pub returns : goal.returns
 returns g c =
     let it = c.over_file.new.errand in
     let input = g.I.Read.remaining in
-    let out = g.O.Write.contents in
-    asked_over {input = input c.args.input.now} {left = input it.input.now} {a = out c.args.out.now} {b = out it.out.now} (search rules) (search rules)
-    (λ same. (ap (λ e. input e.input.now) same, ap (λ e. out e.out.now) same)) c.over_file.ensures
+    asked_over (sink g.O.Write g.O.Sink) {input = input c.args.input.now} {left = input it.input.now} {a = c.args.out.now} {b = it.out.now} (search rules) (search rules)
+    (λ same. (ap (λ e. input e.input.now) same, ap (λ e. e.out.now) same)) c.over_file.ensures

@@ -7,7 +7,9 @@ use Rattle.fr_cli.specs.ScriptFault.{script_fault_of}
 use Rattle.fr_cli.specs.declared.script_fault.ScriptFault.TheVariants.{NoMemory}
 use Rattle.fr_cli.proofs.AnsweringLaws.{cut_after, cut_here, no_lines}
 use Rattle.fr_cli.proofs.EndedLines.{requests-append}
-use Rattle.fr_cli.proofs.IncomingLaws.{ends-none, ends-then, first_begin, first_then, first_whole, heard_cut, heard_more, long_by, not_long, short-then}
+use Rattle.fr_cli.specs.Outlets.{StopsSo}
+use Rattle.fr_cli.proofs.IncomingLaws.{ends-none, ends-then, first_begin, first_then, first_whole, heard_cut, heard_more, long_by, not_long, short-then, unread_stops}
+use Rattle.fr_cli.proofs.VisitLaws.{sink}
 use Rattle.fr_cli.proofs.LineLemmas.{has_no-append, no_feed, request_lines-none, short_ended, split_by, split_clear}
 use Rattle.fr_cli.proofs.incoming.answer_piece.Goals as goal
 
@@ -140,3 +142,22 @@ returns-clause-heard g c =
     let rest : HasNo 10 c.loop-line.rest.now = no_feed c.loop-line.rest.now left in
     let open_ended : HasNo 10 c.append-2.new.input.items = subst (HasNo 10) (sym more) (has_no-append 10 c.loop-line.begun.items c.loop-line.rest.now l.open_ended rest) in
     record { heard = (l.front, l.written, l.split ∙ ap (λ r. l.front ++ r) (sym more), l.ends, open_ended, l.short, l.appended, l.answered); early = tt; too_long = λ e. absurd cc }
+
+pub returns-in_err-append-clause-stops : goal.returns-in_err-append-clause-stops
+returns-in_err-append-clause-stops g c =
+    let is : c.from_residual.result ≡ Err (script_fault_of c.in_err-append.field-0.0) = search rules in
+    subst (StopsSo (sink g.W.Write g.W.Sink) _) (sym is) (unread_stops (sink g.W.Write g.W.Sink) c.in_err-append.field-0.0 _)
+
+pub returns-in_err-extend_from_slice-clause-stops : goal.returns-in_err-extend_from_slice-clause-stops
+returns-in_err-extend_from_slice-clause-stops g c =
+    let is : c.from_residual-in_err-extend_from_slice.result ≡ Err NoMemory = search rules in subst (StopsSo (sink g.W.Write g.W.Sink) _) (sym is) tt
+
+pub returns-in_err-answer_requests-clause-stops : goal.returns-in_err-answer_requests-clause-stops
+returns-in_err-answer_requests-clause-stops g c =
+    let is : c.from_residual-in_err-answer_requests.result ≡ Err c.in_err-answer_requests.field-0.0 = search rules in
+    subst (StopsSo (sink g.W.Write g.W.Sink) _) (sym is) c.in_err-answer_requests.ensures.stops
+
+pub returns-in_err-append-2-clause-stops : goal.returns-in_err-append-2-clause-stops
+returns-in_err-append-2-clause-stops g c =
+    let is : c.from_residual-in_err-append-2.result ≡ Err (script_fault_of c.in_err-append-2.field-0.0) = search rules in
+    subst (StopsSo (sink g.W.Write g.W.Sink) _) (sym is) (unread_stops (sink g.W.Write g.W.Sink) c.in_err-append-2.field-0.0 _)

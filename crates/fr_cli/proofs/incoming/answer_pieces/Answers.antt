@@ -8,7 +8,9 @@ use Rattle.fr_cli.specs.declared.input.InputFault.TheVariants.{ReadFailed, TooLo
 use Rattle.fr_cli.specs.declared.script_fault.ScriptFault.TheVariants as fault
 use Rattle.fr_cli.proofs.AnsweringLaws.{no_lines}
 use Rattle.fr_cli.proofs.IncomingLaws.{at_end, cut_between, cut_within, ends-none, ends-then, heard_more, on_input, short-then, split_then}
+use Rattle.fr_cli.specs.Outlets.{StopsSo}
 use Rattle.fr_cli.proofs.LineLemmas.{request_lines-none, short_open}
+use Rattle.fr_cli.proofs.VisitLaws.{sink}
 use Rattle.fr_cli.proofs.incoming.answer_pieces.Goals as goal
 use Rattle.fr_cli.proofs.incoming.answer_pieces.Goals.{in-Ok+in_ok-room-in-Ok+in_ok-answer_piece-in-Ok, in-Err+in_ok-try_again-in-Err}
 
@@ -153,3 +155,16 @@ returns-clause-answered g c =
     cut_between g.D.Desk c.args.desk.now c.loop.desk (g.R.Read.remaining c.args.reader.now) (g.R.Read.remaining c.loop.reader)
     (g.W.Write.contents c.args.output.now.writer.now) (g.W.Write.contents c.loop.output.writer.now) l.front c.loop.begun.items l.written fault.TooManyReads TooManyReads refl
     l.taken l.ends l.appended l.answered (λ is. absurd cc) (λ is. l.open_ended)
+
+pub returns-in_err-room-in-Ok-clause-stops : goal.returns-in_err-room-in-Ok-clause-stops
+returns-in_err-room-in-Ok-clause-stops g c =
+    let is : c.from_residual.result ≡ Err fault.TooLong = search rules in subst (StopsSo (sink g.W.Write g.W.Sink) _) (sym is) tt
+
+pub returns-in_err-answer_piece-in-Ok-clause-stops : goal.returns-in_err-answer_piece-in-Ok-clause-stops
+returns-in_err-answer_piece-in-Ok-clause-stops g c =
+    let is : c.from_residual-in_err-answer_piece-in-Ok.result ≡ Err c.in_err-answer_piece-in-Ok.field-0.0 = search rules in
+    subst (StopsSo (sink g.W.Write g.W.Sink) _) (sym is) c.in_err-answer_piece-in-Ok.ensures.stops
+
+pub returns-in_err-try_again-in-Err-clause-stops : goal.returns-in_err-try_again-in-Err-clause-stops
+returns-in_err-try_again-in-Err-clause-stops g c =
+    let is : c.from_residual-in_err-try_again-in-Err.result ≡ Err fault.ReadFailed = search rules in subst (StopsSo (sink g.W.Write g.W.Sink) _) (sym is) tt

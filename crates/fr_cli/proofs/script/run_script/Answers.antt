@@ -6,8 +6,8 @@ use Rattle.fr_cli.specs.Script.{max_script, parts_of, request_lines}
 use Rattle.fr_cli.proofs.RunLaws.{run_of, written_at}
 use Rattle.fr_cli.proofs.script.run_script.Goals as goal
 
-pub returns : goal.returns
-returns g c =
+pub returns-clause-run : goal.returns-clause-run
+returns-clause-run g c =
     let contents = g.W.Write.contents in
     let remaining = g.R.Read.remaining in
     let bytes = c.in_ok-script.script.items in

@@ -12,5 +12,5 @@ invariant-loop g l = record {
   each : length visits ≡ l.counter;
   came_in : AreVisited g.L.Listener (source g.L.Reader.Read g.L.Reader.Source) (sink g.L.Writer.Write g.L.Writer.Sink) l.service.seconds l.fn.listener visits l.listener;
   served : ServesEach g.D.Desk.clean g.D.Desk.stands l.fn.desk l.desk visits;
-  told : TellsEach (g.E.Write.contents l.fn.err) (g.E.Write.contents l.err) visits;
+  told : TellsEach (sink g.E.Write g.E.Sink) l.fn.err l.err visits;
 }

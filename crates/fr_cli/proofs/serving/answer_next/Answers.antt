@@ -1,4 +1,5 @@
 use Rattle.fr_cli.proofs.ServingLaws.{serves_stay, tells_one}
+use Rattle.fr_cli.proofs.VisitLaws.{sink}
 use Rattle.fr_cli.proofs.serving.answer_next.Goals as goal
 
 pub returns-in-Ok-clause-served : goal.returns-in-Ok-clause-served
@@ -7,5 +8,5 @@ returns-in-Ok-clause-served g c =
       visit,
       came,
       serves_stay _ _ _ _ _ visit c.lasts.ensures.falls c.lasts.ensures.stays serves,
-      tells_one _ _ visit c.in-Ok.done is c.tell_end.ensures.told,
+      tells_one (sink g.E.Write g.E.Sink) _ _ visit c.in-Ok.done is c.tell_end.ensures.told,
     )

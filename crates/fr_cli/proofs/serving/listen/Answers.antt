@@ -1,4 +1,5 @@
 use Rattle.std.proofs.Common.{◌≡◌, List, Err, inl, inr, refl, rules}
+use Rattle.fr_cli.specs.Outlets.{outlet}
 use Rattle.fr_cli.specs.Visits.{AreVisitedAt, Visit}
 use Rattle.fr_cli.proofs.ServingLaws.{served_early, served_said}
 use Rattle.fr_cli.proofs.VisitLaws.{sink, source}
@@ -11,8 +12,8 @@ returns-in_err-begin-clause-served g c =
     let (refused, stood) = c.in_err-begin.ensures.refused in
     let came_in = λ (visits : List Visit).
     AreVisitedAt g.L.Listener (source g.L.Reader.Read g.L.Reader.Source) (sink g.L.Writer.Write g.L.Writer.Sink) c.args.service.port c.args.service.seconds c.args.listener.now visits c.begin.new.listener in
-    served_early _ c.args.service.count _ _ came_in (g.E.Write.contents c.args.err.now) c.from_residual.result fault refl is
-    (inl (c.in_err-begin.ensures.fault, inl (refused, stood))) (inl (refl, stood))
+    served_early _ c.args.service.count _ _ _ came_in (outlet (sink g.E.Write g.E.Sink) c.args.err.now c.args.err.now) c.from_residual.result fault refl is
+    (inl (c.in_err-begin.ensures.fault, inl (refused, stood))) (inl (refl, stood)) refl
 
 pub returns-in_err-announce-clause-served : goal.returns-in_err-announce-clause-served
 returns-in_err-announce-clause-served g c =
@@ -20,8 +21,8 @@ returns-in_err-announce-clause-served g c =
     let is : c.from_residual-in_err-announce.result ≡ Err fault = search rules in
     let came_in = λ (visits : List Visit).
     AreVisitedAt g.L.Listener (source g.L.Reader.Read g.L.Reader.Source) (sink g.L.Writer.Write g.L.Writer.Sink) c.args.service.port c.args.service.seconds c.args.listener.now visits c.begin.new.listener in
-    served_early _ c.args.service.count _ _ came_in (g.E.Write.contents c.args.err.now)
-    c.from_residual-in_err-announce.result fault refl is (inr (inr (refl, c.in_err-announce.ensures.fault))) (inr (c.begin.new.listener, c.in_ok-begin.ensures.ok, refl))
+    served_early _ c.args.service.count _ _ _ came_in (outlet (sink g.E.Write g.E.Sink) c.args.err.now c.args.err.now)
+    c.from_residual-in_err-announce.result fault refl is (inr (inr (refl, c.in_err-announce.ensures.fault))) (inr (c.begin.new.listener, c.in_ok-begin.ensures.ok, refl)) refl
 
 pub returns-clause-served : goal.returns-clause-served
 returns-clause-served g c =

@@ -22,6 +22,7 @@ returns-clause-served g c =
       truncated = one.truncated;
       silent = one.silent;
       flushed = c.serve_one-done.ensures.flushed;
+      failed = c.serve_one-done.ensures.failed;
       closed = c.close.ensures;
     } in
     (visit, refl, visited, serves_connection _ _ _ _ _ _ _ c.serve_one-done.result one)

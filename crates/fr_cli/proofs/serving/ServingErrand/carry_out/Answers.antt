@@ -1,8 +1,8 @@
-use Rattle.std.proofs.Common.{[], inl, refl}
-use Rattle.std.proofs.KnownBytes.{Appends-nil, Keeps-refl}
+use Rattle.std.proofs.Common.{inl, refl}
 use Rattle.fr_cli.specs.Guarding.{office_of}
-use Rattle.fr_cli.specs.Performing.{listening}
+use Rattle.fr_cli.specs.Outlets.{outlet}
 use Rattle.fr_cli.proofs.ServingLaws.{each_guarded, served_as, served_early, stops_unwatched}
+use Rattle.fr_cli.proofs.VisitLaws.{sink}
 use Rattle.fr_cli.proofs.serving.ServingErrand.carry_out.Goals as goal
 
 pub returns-in-Ok-clause-does : goal.returns-in-Ok-clause-does
@@ -13,7 +13,6 @@ returns-in-Ok-clause-does g c =
 pub returns-in-Err-clause-does : goal.returns-in-Err-clause-does
 returns-in-Err-clause-does g c =
     let it = c.args.self.now in
-    let out = g.O.Write.contents it.out.now in
-    let served = served_early _ it.service.count _ _ _ (g.E.Write.contents it.err.now) _ c.from.result refl refl
-    (stops_unwatched _ c.in-Err.fault c.from.result c.from.ensures) (inl (refl, refl)) in
-    rw (c.in-Err.ensures.err) (((([], (listening it.service.port, refl), Appends-nil out), tt, inl (Keeps-refl out)), served), (refl, (refl, refl)))
+    let served = served_early _ it.service.count _ _ _ _ (outlet (sink g.E.Write g.E.Sink) it.err.now it.err.now) _ c.from.result refl refl
+    (stops_unwatched _ _ c.in-Err.fault c.from.result c.from.ensures) (inl (refl, refl)) refl in
+    rw (c.in-Err.ensures.err) (((inl refl, tt), served), (refl, (refl, refl)))
