@@ -18,7 +18,7 @@ pub const WRITE_RETRIES: u32 = 1_000;
 pub struct WriteFailed;
 
 /// A writer, and how many more of its interrupted writes are tried again. It alone has the writer, so all
-/// that is written shares these retries, until [`Output::restore_retries`] gives new ones.
+/// that is written shares these retries.
 #[derive(Drop)]
 pub struct Output<'a, W> {
     writer: &'a mut W,
@@ -36,14 +36,6 @@ impl<'a, W: Sink> Output<'a, W> {
             writer,
             retries: WRITE_RETRIES,
         }
-    }
-
-    /// Gives what is written from here on [`WRITE_RETRIES`] retries of its own.
-    pub fn restore_retries(&mut self)
-        ensures retries { self.new.retries ≡ WRITE_RETRIES }
-        ensures same { self.new.writer ≡ self.old.writer }
-    {
-        self.retries = WRITE_RETRIES;
     }
 
     /// Writes all the bytes; or fails, and a front of them was written, but not all. A write that is interrupted is tried
