@@ -1,5 +1,5 @@
 -- Connections are served, and then one more; what is told of their ends; and what that is for the file of the register.
-use Rattle.std.proofs.Common.{◌≡◌, ◌≤◌, length, inl, inr, ℕ, List, [], ◌∷◌, ◌++◌, Option, Some, None, Result, Ok, Err, refl, sym, ap, ap₂, ◌∙◌, subst, arith}
+use Rattle.std.proofs.Common.{◌≡◌, ◌≤◌, length, inl, inr, ℕ, List, [], ◌∷◌, ◌++◌, Option, Result, Err, refl, sym, ap, ap₂, subst, arith}
 use Rattle.std.specs.Prelude.{⊤}
 use Rattle.sqlite.specs.declared.file.Leftover.{Leftover}
 use Rattle.sqlite_disk.specs.declared.Disk.{Ghosts}
