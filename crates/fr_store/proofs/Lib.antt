@@ -52,3 +52,4 @@ pub mod CountedLemmas
 pub mod BeforeLemmas
 pub mod StoredLaws
 pub mod JoinedLemmas
+pub mod RisingLemmas

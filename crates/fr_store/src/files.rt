@@ -15,7 +15,6 @@ ghost use Rattle.fr_store.specs.StoreFiles.{HoldsRegister, KeepsBook, SurvivesSi
 use crate::fault::StoreFault;
 use crate::store::Store;
 use fr_base::Config;
-use fr_tables::reopen::reopen;
 use sqlite::{Connection, Error, ErrorCode, FileStore, Files, Options};
 use sqlite_disk::Disk;
 use std::alloc::Global;
@@ -57,16 +56,12 @@ pub(crate) fn connect<D: Disk + Drop>(
     ensures refused { IfErr result (λ e.
         IsUnopened IsOther (image_of D.Disk files) e.0 (Some (files_alone D.Disk e.1))) }
 {
-    let conn = match Connection::open_files(alloc, files, options) {
-        Ok(conn) => conn,
-        Err((Error::SqliteFailure(ErrorCode::NotADatabase), left)) => {
-            return Err((StoreFault::NotARegister, left.into_files()));
-        }
-        Err((_, left)) => return Err((StoreFault::Unavailable, left.into_files())),
-    };
-    match reopen(alloc, conn) {
+    match Connection::open_files(alloc, files, options) {
         Ok(conn) => Ok(conn),
-        Err((_, store)) => Err((StoreFault::Unavailable, store.close())),
+        Err((Error::SqliteFailure(ErrorCode::NotADatabase), left)) => {
+            Err((StoreFault::NotARegister, left.into_files()))
+        }
+        Err((_, left)) => Err((StoreFault::Unavailable, left.into_files())),
     }
 }
 

@@ -14,7 +14,6 @@ use crate::fault::StoreFault;
 use crate::files::close_connection;
 use crate::store::Store;
 use fr_base::Config;
-use fr_tables::reopen::reopen;
 use sqlite::{Connection, Error, ErrorCode, FileFrom, FileStore, Leftover, Start};
 use std::rt::HostRuntime;
 
@@ -28,16 +27,12 @@ pub(crate) fn connect_at<S: Start>(
         → IsConnected (image_at S.Start) (file_state c)) }
     ensures refused { IfErr result (λ e. IsUnopened IsSpared (image_at S.Start) e.0 e.1) }
 {
-    let conn = match Connection::open_from(rt, path, false, start) {
-        Ok(conn) => conn,
-        Err((Error::SqliteFailure(ErrorCode::NotADatabase), Some(left))) => {
-            return Err((StoreFault::NotARegister, Some(left)));
-        }
-        Err((_, left)) => return Err((StoreFault::Unavailable, left)),
-    };
-    match reopen(rt.alloc(), conn) {
+    match Connection::open_from(rt, path, false, start) {
         Ok(conn) => Ok(conn),
-        Err((_, store)) => Err((StoreFault::Unavailable, Some(Leftover::Store(store)))),
+        Err((Error::SqliteFailure(ErrorCode::NotADatabase), Some(left))) => {
+            Err((StoreFault::NotARegister, Some(left)))
+        }
+        Err((_, left)) => Err((StoreFault::Unavailable, left)),
     }
 }
 

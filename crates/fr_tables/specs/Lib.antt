@@ -8,4 +8,3 @@ pub mod Making
 pub mod Filling
 pub mod ClusterRows
 pub mod Asking
-pub mod Reopened

@@ -6,7 +6,6 @@ pub mod cluster;
 pub mod filling;
 pub mod frame_key;
 pub mod making;
-pub mod reopen;
 pub mod schema;
 pub mod tables;
 pub mod values;

@@ -1,6 +1,8 @@
-use Rattle.std.proofs.Common.{rules, ◌≡◌, ◌∙◌, arith, refl}
+use Rattle.std.proofs.Common.{rules, ◌≡◌, ◌∙◌, ap, refl, subst, sym}
 use Rattle.sqlite.specs.State.{HasCleanDisk}
-use Rattle.sqlite.specs.Files.{file_state, image_of}
+use Rattle.sqlite.specs.Effect.{Database}
+use Rattle.sqlite.specs.Files.{AreFoundIn, file_state, image_of}
+use Rattle.fr_store.proofs.RisingLemmas.{found_ordered, found_ordered_before}
 use Rattle.sqlite.specs.declared.error.Error.TheVariants.{SqliteFailure}
 use Rattle.sqlite.specs.declared.error.ErrorCode.TheVariants.{NotADatabase}
 use Rattle.fr_store.specs.declared.fault.StoreFault.TheVariants.{NotARegister, Unavailable}
@@ -19,22 +21,22 @@ returns-in-Err-SqliteFailure-NotADatabase-default-clause-refused g c =
 pub returns-in-Err-clause-refused : goal.returns-in-Err-clause-refused
 returns-in-Err-clause-refused g c = unopened_files (image_of g.D.Disk c.args.files) Unavailable _ (λ clean db held. refl) (λ other. cc) (λ other. cc)
 
-pub returns-in-Ok-reopen-clause-connected : goal.returns-in-Ok-reopen-clause-connected
-returns-in-Ok-reopen-clause-connected g c clean =
-    let before : HasCleanDisk (file_state c.in-Ok.conn) = omega (arith, c.in-Ok-reopen.ensures.reopened.clean, clean) in
+pub returns-in-Ok-clause-connected : goal.returns-in-Ok-clause-connected
+returns-in-Ok-clause-connected g c clean =
     let image = image_of g.D.Disk c.args.files in
-    let opens = c.in-Ok-reopen.ensures.reopened.opens clean in
-    let trees = c.in-Ok-reopen.ensures.reopened.trees clean in
-    let finds = c.in-Ok.ensures.found before in
+    let s = file_state c.in-Ok.conn in
+    let opens = c.in-Ok.ensures.opened clean in
+    let finds = c.in-Ok.ensures.found clean in
+    let is : s.now.trees ≡ s.committed.trees = ap (λ (db : Database). db.trees) opens.0.clean in
+    let reads : AreFoundIn image s.now.trees = subst (AreFoundIn image) (sym is) finds.reads in
+    let sound = (opens.1 opens.0.is_open).0 in
     record {
       opens = opens;
-      ordered = c.in-Ok-reopen.ensures.reopened.ordered clean;
-      ordered_before = c.in-Ok-reopen.ensures.reopened.ordered_before clean;
-      found = λ db held. trees ∙ finds.holds db held;
-      reads = found_opened image (file_state c.in-Ok-reopen.conn) opens.0.is_open opens.1 (file_state c.in-Ok.conn).committed.trees trees finds.reads finds.holds;
+      ordered = found_ordered image s.now sound reads;
+      ordered_before = found_ordered_before image s.now sound reads;
+      found = λ db held. is ∙ finds.holds db held;
+      reads = found_opened image s opens.0.is_open opens.1 s.committed.trees is finds.reads finds.holds;
     }
 
-pub returns-in-Ok-reopen-clause-honest : goal.returns-in-Ok-reopen-clause-honest
-returns-in-Ok-reopen-clause-honest g c clean =
-    let before : HasCleanDisk (file_state c.in-Ok.conn) = omega (arith, c.in-Ok-reopen.ensures.reopened.clean, clean) in
-    (c.in-Ok.ensures.found before).honest
+pub returns-in-Ok-clause-honest : goal.returns-in-Ok-clause-honest
+returns-in-Ok-clause-honest g c clean = (c.in-Ok.ensures.found clean).honest

@@ -1,6 +1,8 @@
-use Rattle.std.proofs.Common.{rules, IfSome, Some, ◌≡◌, ◌∙◌, arith, false, true, inl, refl, sym, subst}
+use Rattle.std.proofs.Common.{rules, ap, IfSome, Some, ◌≡◌, ◌∙◌, arith, false, true, inl, refl, sym, subst}
 use Rattle.sqlite.specs.State.{HasCleanDisk}
+use Rattle.sqlite.specs.Effect.{Database}
 use Rattle.sqlite.specs.Files.{AreFoundIn, file_state}
+use Rattle.fr_store.proofs.RisingLemmas.{found_ordered, found_ordered_before}
 use Rattle.sqlite_wal.specs.Files.{image_at}
 use Rattle.sqlite.specs.declared.error.Error.TheVariants.{SqliteFailure}
 use Rattle.sqlite.specs.declared.error.ErrorCode.TheVariants.{NotADatabase}
@@ -11,18 +13,21 @@ use Rattle.fr_store.proofs.FileLemmas.{found_opened}
 use Rattle.fr_store.proofs.LeftLemmas.{IsLeftOf, IsSettled, left_no_database, left_store, left_unavailable, settled_left}
 use Rattle.fr_store.proofs.paths.connect_at.Goals as goal
 
-pub returns-in-Ok-reopen-clause-connected : goal.returns-in-Ok-reopen-clause-connected
-returns-in-Ok-reopen-clause-connected g c clean =
-    let before : HasCleanDisk (file_state c.in-Ok.conn) = omega (arith, c.in-Ok-reopen.ensures.reopened.clean, clean) in
-    let opens = c.in-Ok-reopen.ensures.reopened.opens clean in
-    let trees = c.in-Ok-reopen.ensures.reopened.trees clean in
-    let finds = c.in-Ok.ensures.found before in
+pub returns-in-Ok-clause-connected : goal.returns-in-Ok-clause-connected
+returns-in-Ok-clause-connected g c clean =
+    let image = image_at g.S.Start in
+    let s = file_state c.in-Ok.conn in
+    let opens = c.in-Ok.ensures.opened clean in
+    let finds = c.in-Ok.ensures.found clean in
+    let is : s.now.trees ≡ s.committed.trees = ap (λ (db : Database). db.trees) opens.0.clean in
+    let reads : AreFoundIn image s.now.trees = subst (AreFoundIn image) (sym is) finds.reads in
+    let sound = (opens.1 opens.0.is_open).0 in
     record {
       opens = opens;
-      ordered = c.in-Ok-reopen.ensures.reopened.ordered clean;
-      ordered_before = c.in-Ok-reopen.ensures.reopened.ordered_before clean;
-      found = λ db held. trees ∙ finds.holds db held;
-      reads = found_opened (image_at g.S.Start) (file_state c.in-Ok-reopen.conn) opens.0.is_open opens.1 (file_state c.in-Ok.conn).committed.trees trees finds.reads finds.holds;
+      ordered = found_ordered image s.now sound reads;
+      ordered_before = found_ordered_before image s.now sound reads;
+      found = λ db held. is ∙ finds.holds db held;
+      reads = found_opened image s opens.0.is_open opens.1 s.committed.trees is finds.reads finds.holds;
     }
 
 pub returns-in-Err-SqliteFailure-NotADatabase-Some-clause-refused : goal.returns-in-Err-SqliteFailure-NotADatabase-Some-clause-refused
@@ -40,13 +45,3 @@ returns-in-Err-clause-refused g c =
     let left : IsUnopened IsSpared (image_at g.S.Start) Unavailable it.left = left_unavailable (image_at g.S.Start) (IsSettled true) (IsSettled false) (λ file. inl refl)
     (λ files log db image may. (settled_left g.S.Start files.log true log image.log may.0, settled_left g.S.Start files.db false db image.db may.1)) it.left it.field-0-0 rest in
     search (rules, left)
-
-pub returns-in-Err-reopen-clause-refused : goal.returns-in-Err-reopen-clause-refused
-returns-in-Err-reopen-clause-refused g c =
-    let held = image_at g.S.Start in
-    let it = c.in-Err-reopen in
-    left_store held it.store (λ clean db may.
-    let before : HasCleanDisk (file_state c.in-Ok.conn) = omega (arith, it.ensures.given_back.unharmed.clean, no_doubt _ clean) in
-    let finds = c.in-Ok.ensures.found before in
-    let is = it.ensures.given_back.left db (c.in-Ok.ensures.opened before).0.is_open may in
-    record { recovered = subst (AreFoundIn held) (sym is) finds.reads; only = λ trees there. is ∙ finds.holds trees there })
