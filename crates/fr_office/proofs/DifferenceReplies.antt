@@ -1,7 +1,6 @@
 -- In what two variants differ, as it is gathered of one after the other, is what the register shows.
 use Rattle.std.proofs.Common.{◌≡◌, ℕ, Bool, true, false, ◌||◌, List, [], ◌∷◌, ◌++◌, map, Option, Some, None, is_some, Result, Ok, Err, refl, sym, ap, ◌∙◌, inl, inr, append_assoc, append-nil}
 use Rattle.std.specs.List.{flat_map}
-use Rattle.std.specs.Prelude.{⊤}
 use Rattle.fr_base.specs.Book as book
 use Rattle.fr_base.specs.Book.{Book, Frame, Variant, own, own_grants}
 use Rattle.fr_base.specs.Cluster.{Cluster}
@@ -30,14 +29,14 @@ use Rattle.fr_base.specs.declared.refusal.Refusal.{Refusal}
 use Rattle.fr_base.specs.declared.refusal.Refusal.TheVariants.{NoVariant}
 use Rattle.fr_base.proofs.SoundTables.{value_of}
 use Rattle.fr_office.specs.Carried.{Replies}
-use Rattle.fr_office.specs.Compared.{Compares, SeesDifferences, frames_rows, grants_told, kind_told, rows_among}
+use Rattle.fr_office.specs.Compared.{Compares, SeesDifferences, kind_told, rows_among}
 use Rattle.fr_office.specs.Shared.{grants_among}
-use Rattle.fr_office.specs.Shown.{Gathers}
 use Rattle.fr_office.proofs.AllReplies.{In-filter}
 use Rattle.fr_office.proofs.FlatRows.{Rise, frame-keys, gap-keys, placement-keys, signal-keys, signals-rise}
 use Rattle.fr_office.proofs.GrantLaws.{grants-all}
 use Rattle.fr_office.proofs.PageRows.{FrameEntry}
-use Rattle.fr_office.proofs.SplitLaws.{flat-flat_map, frames-split, supplier_names}
+use Rattle.fr_office.proofs.SplitLaws.{flat-flat_map, frames-split}
+use Rattle.fr_office.proofs.SupplierMerges.{frames-told, gaps-told, placements-told, rows_in, seen_names, signals-told}
 use Rattle.fr_world.specs.Held.{Standing}
 use Rattle.fr_world.specs.KeyedRows.{by_key, frame_entry, gap_entry, grant_entry, placement_entry, same_at, signal_entry}
 use Rattle.fr_world.proofs.AmongLaws.{In}
@@ -54,67 +53,12 @@ grant-keys t = again t.rows
     again (e ∷ es) = ap (λ rest. e ∷ rest) (again es)
 
 -- what a merge of grants tells
-abbrev grants_merged : List GrantRow → List GrantRow → List DifferenceRow
+abbrev pub grants_merged : List GrantRow → List GrantRow → List DifferenceRow
 grants_merged before new = merge (by_key channel_slots grant_entry) (same_at same_holder grant_entry) (λ r. grant_seen (grant_entry r)) before new
 
-grants-merged : (before new : Table channel_slots book.Holder) → grants_merged (grants_of before) (grants_of new) ≡ grants_differ before new
+pub grants-merged : (before new : Table channel_slots book.Holder) → grants_merged (grants_of before) (grants_of new) ≡ grants_differ before new
 unfolding grants_differ
 grants-merged before new = merge-between channel_slots same_holder grant_seen grant_entry before new (grants_of before) (grants_of new) (grant-keys before) (grant-keys new)
-
--- grants were gathered of the earlier variant, and then of the other
-pub grants-compared : (old mid now : Standing) (v w : Name) (ss : List Name) (before new : List GrantRow) (rows : List DifferenceRow) →
-    Gathers w (λ p x rows. rows ≡ grants_of (grants_among ss x.grants)) old mid (Ok before) →
-    Gathers v (λ p x rows. rows ≡ grants_of (grants_among ss x.grants)) mid now (Ok new) → rows ≡ grants_merged before new →
-    Compares v w (λ p new before rows. rows ≡ grants_told ss before new) old now (Ok rows)
-grants-compared old mid now v w ss before new rows first second told c b stood =
-    let start = first c b stood in
-    let last = second c b start.0 in (
-      last.0,
-      λ x y is was. told
-          ∙ (λ i. grants_merged (start.1 y was i) (last.1 x is i))
-          ∙ grants-merged (grants_among ss y.grants) (grants_among ss x.grants),
-    )
-
--- ---- all that was told
-
--- this was told behind other rows
-abbrev Follows : Standing → Standing → Name → Name → List DifferenceRow → List DifferenceRow → (Params → Variant → Variant → List DifferenceRow) → Type 0
-Follows old now v w rows all told = Compares {X = ⊤} v w (λ p new before _. all ≡ rows ++ told p before new) old now (Ok tt)
-
-module _ (v w : Name) (ss : List Name) (old first second third fourth last : Standing) (grants frames placements signals all : List DifferenceRow) where
-  abbrev told_frames : Params → Variant → Variant → List DifferenceRow
-  told_frames p before new = kind_told owned same_text frame_seen frame_entry frame_records ss before new
-
-  abbrev told_placements : Params → Variant → Variant → List DifferenceRow
-  told_placements p before new = kind_told placed_frames (λ _ _. true) placement_seen placement_entry placement_records ss before new
-
-  abbrev told_signals : Params → Variant → Variant → List DifferenceRow
-  told_signals p before new = kind_told starts same_signal signal_seen signal_entry signal_records ss before new
-
-  abbrev told_gaps : Params → Variant → Variant → List DifferenceRow
-  told_gaps p before new = kind_told owned same_gap gap_seen gap_entry (λ e. gap_row p e ∷ []) ss before new
-
-  -- grants, frames, placements, signals and gaps
-  pub all-told : Compares v w (λ p new before rows. rows ≡ grants_told ss before new) old first (Ok grants) →
-      Follows first second v w grants frames told_frames → Follows second third v w frames placements told_placements → Follows third fourth v w placements signals told_signals →
-      Follows fourth last v w signals all told_gaps → Compares v w (λ p new before rows. rows ≡ rows_among p ss before new) old last (Ok all)
-  all-told of_grants of_frames of_placements of_signals of_gaps c b stood =
-      let p = c.params in
-      let g = of_grants c b stood in
-      let f = of_frames c b g.0 in
-      let q = of_placements c b f.0 in
-      let s = of_signals c b q.0 in
-      let l = of_gaps c b s.0 in (
-        l.0,
-        λ x y is was. l.1 x y is was
-            ∙ ap (λ rows. rows ++ told_gaps p y x)
-            (s.1 x y is was
-            ∙ ap (λ rows. rows ++ told_signals p y x)
-            (q.1 x y is was
-            ∙ ap (λ rows. rows ++ told_placements p y x)
-            (f.1 x y is was
-            ∙ ap (λ rows. rows ++ told_frames p y x) (g.1 x y is was)))),
-      )
 
 -- ---- the frames of both
 
@@ -138,11 +82,6 @@ module _ (p : Params) (before new : Table owned Frame) where
 
 -- ---- as the actor sees them
 
--- the suppliers whose rows the actor sees
-abbrev pub seen_names : Actor → Book → List Name
-seen_names Integrator b = supplier_names b
-seen_names (Supplier s) b = s ∷ []
-
 append-five : {X : Type 0} (vs ws xs ys zs : List X) → vs ++ ws ++ xs ++ ys ++ zs ≡ vs ++ (ws ++ xs ++ ys ++ zs)
 append-five vs ws xs ys zs =
     ap (λ l. l ++ ys ++ zs) (append_assoc vs ws xs)
@@ -165,7 +104,7 @@ module _ (c : Cluster) (b : Book) (v : Name) (x : Variant) (sound : IsSound c b)
   rows-seen Integrator = frames-split c b v x sound there x.frames (λ e i. i)
   rows-seen (Supplier s) = append-nil (own s x.frames).rows
 
-  frames-seen : {X : Type 0} (actor : Actor) (rows : FrameEntry → List X) → frames_rows rows (seen_names actor b) x ≡ flat_map rows (seen_frames actor x.frames).rows
+  frames-seen : {X : Type 0} (actor : Actor) (rows : FrameEntry → List X) → flat_map (rows_in rows x) (seen_names actor b) ≡ flat_map rows (seen_frames actor x.frames).rows
   frames-seen actor rows = flat-flat_map rows (λ s. (own s x.frames).rows) (seen_names actor b) ∙ ap (flat_map rows) (rows-seen actor)
 
   signals-seen : (actor : Actor) (e : FrameEntry) → In e (seen_frames actor x.frames).rows → Rise e
@@ -181,18 +120,18 @@ rows-differ c b v w new before actor sound is was =
     let p = c.params in
     (λ i.
     grants_differ (grants-seen c b w before sound was actor i) (grants-seen c b v new sound is actor i)
-    ++ of_kind owned same_text frame_seen frame_entry frame_records i
-    ++ of_kind placed_frames (λ _ _. true) placement_seen placement_entry placement_records i
-    ++ of_kind starts same_signal signal_seen signal_entry signal_records i
-    ++ of_kind owned same_gap gap_seen gap_entry (λ e. gap_row p e ∷ []) i)
+    ++ (frames-told b before new actor p ∙ of_kind owned same_text frame_seen frame_entry frame_records) i
+    ++ (placements-told b before new actor p ∙ of_kind placed_frames (λ _ _. true) placement_seen placement_entry placement_records) i
+    ++ (signals-told b before new actor p ∙ of_kind starts same_signal signal_seen signal_entry signal_records) i
+    ++ (gaps-told b before new actor p ∙ of_kind owned same_gap gap_seen gap_entry (λ e. gap_row p e ∷ [])) i)
     ∙ append-five (grants_differ (seen_grants actor before.grants) (seen_grants actor new.grants)) _ _ _ _
     ∙ ap (λ rest. grants_differ (seen_grants actor before.grants) (seen_grants actor new.grants) ++ rest)
     (frames-merged p (seen_frames actor before.frames) (seen_frames actor new.frames) (signals-seen c b w before sound was actor) (signals-seen c b v new sound is actor))
   where
     of_kind : {X K V : Type 0} (o : Order K) (same : V → V → Bool) (seen : K × V → SeenRow) (entry : X → K × V) (rows : FrameEntry → List X) →
-        kind_told o same seen entry rows (seen_names actor b) before new ≡ told c.params (seen_frames actor before.frames) (seen_frames actor new.frames) o same seen entry rows
-    of_kind o same seen entry rows = λ i.
-        merge (by_key o entry) (same_at same entry) (λ r. seen (entry r)) (frames-seen c b w before sound was actor rows i) (frames-seen c b v new sound is actor rows i)
+        kind_told o same seen entry (flat_map (rows_in rows before) (seen_names actor b)) (flat_map (rows_in rows new) (seen_names actor b))
+        ≡ told c.params (seen_frames actor before.frames) (seen_frames actor new.frames) o same seen entry rows
+    of_kind o same seen entry rows = λ i. kind_told o same seen entry (frames-seen c b w before sound was actor rows i) (frames-seen c b v new sound is actor rows i)
 
 -- what was gathered of those whom the actor sees
 pub gathered-seen : (old now : Standing) (actor : Actor) (v w : Name) (suppliers : List Name) (r : Result (List DifferenceRow) Refusal) →

@@ -11,7 +11,7 @@ use Rattle.std.specs.Ordering.{eq_by_cmp}
 use Rattle.std.proofs.lemmas.Bool.{cases_Bool}
 use Rattle.std.proofs.lemmas.List.{take_all}
 use Rattle.fr_base.specs.Book as book
-use Rattle.fr_base.specs.Book.{Book, Variant, held_by, own_grants}
+use Rattle.fr_base.specs.Book.{Book, Sender, Variant, held_by, own_grants}
 use Rattle.fr_base.specs.Cluster.{Cluster}
 use Rattle.fr_base.specs.Keys.{channel_slots}
 use Rattle.fr_base.specs.Names.{same_text}
@@ -22,19 +22,21 @@ use Rattle.fr_base.specs.TableRows.{first, second}
 use Rattle.fr_base.specs.Tables.{Order, Table, from_rows, get, insert}
 use Rattle.fr_base.specs.declared.answer.GrantRow.{GrantRow}
 use Rattle.fr_base.specs.declared.answer.LaneHolder.{LaneHolder}
+use Rattle.fr_base.specs.declared.answer.LoadRow.{LoadRow}
 use Rattle.fr_base.specs.declared.channel.Channel.{Channel}
 use Rattle.fr_base.specs.declared.name.Name.{Name}
 use Rattle.fr_base.specs.declared.params.Params.{Params}
+use Rattle.fr_base.specs.declared.placement.Placement.{Placement}
 use Rattle.fr_base.proofs.AloneCells.{same_text-itself}
 use Rattle.fr_base.proofs.TableLaws.{equal, get-empty, get-insert, get-only, kept, none_above, same_table}
 use Rattle.fr_world.specs.Held.{Standing}
-use Rattle.fr_office.specs.Shared.{grants_among, with_rows}
+use Rattle.fr_office.specs.Shared.{grants_among, placements_among, with_rows}
 use Rattle.fr_office.specs.Shown.{FindsPage, Gathers}
 use Rattle.fr_office.proofs.GatherLaws.{IsSoFar, page-rows}
 use Rattle.fr_office.proofs.PageRows.{grant_entry}
 use Rattle.fr_office.proofs.ShownLaws.{flat-map}
 use Rattle.fr_office.proofs.SplitLaws.{among_names, supplier_names}
-use Rattle.fr_world.specs.Loads.{grants_in_lanes, holder_in}
+use Rattle.fr_world.specs.Loads.{filled_load, grants_in_lanes, holder_in}
 use Rattle.fr_world.specs.Maps.{table_of}
 use Rattle.fr_world.specs.Pages.{PageData, own_rows_of}
 use Rattle.fr_world.specs.declared.page.ChannelSlot.{ChannelSlot}
@@ -136,18 +138,25 @@ none-among : (k : ℕ × Channel) (o : Option book.Holder) → None ≡ kept (λ
 none-among k None = refl
 none-among k (Some h) = refl
 
+-- the grants of no supplier
+pub lanes-none : (es : List (ChannelSlot × LaneHolder)) → es ≡ [] → (grants : Table channel_slots book.Holder) → grants_in_lanes es ≡ grants_among [] grants
+unfolding table_of from_rows
+lanes-none es e grants =
+    ap grants_in_lanes e ∙ same_table _ _ (λ k. get-empty channel_slots k ∙ none-among k (get grants k) ∙ sym (get-only channel_slots (λ _ h. list_any (same_text h.supplier) []) grants k))
+
+-- the grants of some suppliers, with those of one more
+pub lanes-more : (s : Name) (before after : List Name) (grants : Table channel_slots book.Holder) (es fs : List (ChannelSlot × LaneHolder)) → grants_in_lanes es ≡ grants_among before grants →
+    grants_in_lanes fs ≡ with_rows (grants_in_lanes es) (own_grants s grants).rows → after ≡ before ++ s ∷ [] → grants_in_lanes fs ≡ grants_among after grants
+lanes-more s before after grants es fs is e more =
+    e ∙ ap (λ t. with_rows t (own_grants s grants).rows) is ∙ grants-more s before grants ∙ ap (λ ss. grants_among ss grants) (sym more)
+
 -- what is held so far
 abbrev pub HoldsSoFar : Standing → Standing → Name → List Name → List (ChannelSlot × LaneHolder) → Type 0
 HoldsSoFar old new v ss es = IsSoFar old new v (λ p x. grants_in_lanes es ≡ grants_among ss x.grants)
 
 module _ (old : Standing) (v : Name) where
   pub held-none : (es : List (ChannelSlot × LaneHolder)) → es ≡ [] → HoldsSoFar old old v [] es
-  unfolding table_of from_rows
-  held-none es e c b stood = (
-    stood,
-    λ x there.
-        ap grants_in_lanes e ∙ same_table _ _ (λ k. get-empty channel_slots k ∙ none-among k (get x.grants k) ∙ sym (get-only channel_slots (λ _ h. list_any (same_text h.supplier) []) x.grants k)),
-  )
+  held-none es e c b stood = (stood, λ x there. lanes-none es e x.grants)
 
   pub held-more : (mid new : Standing) (s : Name) (before after : List Name) (page : PageData) (es fs : List (ChannelSlot × LaneHolder)) →
       HoldsSoFar old mid v before es → FindsPage (Some page) s v mid new (Ok tt) →
@@ -158,7 +167,7 @@ module _ (old : Standing) (v : Name) where
     where
       next : (p : Params) (b : Book) (x : Variant) → grants_in_lanes es ≡ grants_among before x.grants → page.params ≡ p → own_rows_of page ≡ own_rows p b s x → grants_in_lanes fs ≡ grants_among after x.grants
       next p b x is of_p same =
-          e ∙ (λ i. with_rows (is i) (same i).grants.rows) ∙ grants-more s before x.grants ∙ ap (λ ss. grants_among ss x.grants) (sym more)
+          lanes-more s before after x.grants es fs is (e ∙ (λ i. with_rows (grants_in_lanes es) (same i).grants.rows)) more
 
   pub held-all : (new : Standing) (i : ℕ) (ss : List Name) (es : List (ChannelSlot × LaneHolder)) → length ss ≤ i → HoldsSoFar old new v (take i ss) es → HoldsSoFar old new v ss es
   held-all new i ss es last so = subst (λ ts. HoldsSoFar old new v ts es) (take_all i ss last) so
@@ -192,3 +201,13 @@ pub held-shown : (old new : Standing) (v : Name) (ss : List Name) (es : List (Ch
 held-shown old new v ss es rows e so c b stood =
     let told = so c b stood in
     (told.0, λ x there. e ∙ ap grants_of (told.1 x there))
+
+-- ---- how full lanes are
+
+pub load-gathered : (old new : Standing) (v : Name) (ss : List Name) (p : Params) (es : List (ChannelSlot × LaneHolder)) (placed : List (Sender × Placement)) (rows : List LoadRow) →
+    HoldsSoFar old new v ss es → Gathers v (λ _ x placed. placed ≡ placements_among ss x) old new (Ok placed) → rows ≡ filled_load p (grants_in_lanes es) placed →
+    Gathers v (λ _ x rows. rows ≡ filled_load p (grants_among ss x.grants) (placements_among ss x)) old new (Ok rows)
+load-gathered old new v ss p es placed rows holds sends e c b stood =
+    let held = holds c b stood in
+    let sent = sends c b stood in
+    (held.0, λ x there. e ∙ (λ i. filled_load p (held.1 x there i) (sent.1 x there i)))

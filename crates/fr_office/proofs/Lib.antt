@@ -8,6 +8,7 @@ pub mod RunLaws
 pub mod PageBack
 pub mod FreshLaws
 pub mod CountLaws
+pub mod PageBytes
 pub mod ShelfLaws
 pub mod KeptLaws
 pub mod WarmLaws
@@ -28,4 +29,7 @@ pub mod DoneLaws
 pub mod CrashedLaws
 pub mod ListingLaws
 pub mod FlatRows
+pub mod ApartMerges
+pub mod SupplierMerges
+pub mod ComparedLaws
 pub mod DifferenceReplies

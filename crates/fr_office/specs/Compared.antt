@@ -1,8 +1,7 @@
 -- Compared: what was gathered of two variants.
 use Rattle.std.specs.List.{flat_map}
 use Rattle.std.specs.Prelude.{◌≡◌, ◌⊎◌, Bool, true, List, [], ◌∷◌, ◌++◌, None, Some, Result, MatchResult}
-use Rattle.std.specs.declared.cmp.Ordering.{Ordering}
-use Rattle.fr_base.specs.Book.{Book, Frame, Variant, own}
+use Rattle.fr_base.specs.Book.{Book, Frame, Variant, own, own_grants}
 use Rattle.fr_base.specs.Cluster.{Cluster}
 use Rattle.fr_base.specs.Differences.{differences, frame_seen, gap_seen, grants_differ, placed_frames, placement_seen, same_gap, same_signal, signal_seen, starts}
 use Rattle.fr_base.specs.Exports.{frame_records, placement_records, signal_records}
@@ -11,17 +10,22 @@ use Rattle.fr_base.specs.Merging.{merge}
 use Rattle.fr_base.specs.Names.{same_text}
 use Rattle.fr_base.specs.Queries.{gap_row}
 use Rattle.fr_base.specs.Sound.{IsSound}
-use Rattle.fr_base.specs.Tables.{Order, get}
+use Rattle.fr_base.specs.Tables.{Order, Table, get}
 use Rattle.fr_base.specs.declared.actor.Actor.{Actor}
 use Rattle.fr_base.specs.declared.answer.DifferenceRow.{DifferenceRow}
+use Rattle.fr_base.specs.declared.answer.LaneHolder.{LaneHolder}
 use Rattle.fr_base.specs.declared.answer.SeenRow.{SeenRow}
 use Rattle.fr_base.specs.declared.name.Name.{Name}
 use Rattle.fr_base.specs.declared.params.Params.{Params}
 use Rattle.fr_base.specs.declared.refusal.Refusal.{Refusal}
 use Rattle.fr_base.specs.declared.refusal.Refusal.TheVariants.{NoVariant, Unavailable}
-use Rattle.fr_office.specs.Shared.{grants_among}
+use Rattle.fr_office.specs.Shared.{grants_among, with_rows}
+use Rattle.fr_office.specs.declared.queries.compared.ComparedRows.{ComparedRows}
+use Rattle.fr_office.specs.declared.queries.frame_differences.FrameDifferences.{FrameDifferences}
 use Rattle.fr_world.specs.Held.{Standing}
 use Rattle.fr_world.specs.KeyedRows.{by_key, frame_entry, gap_entry, placement_entry, same_at, signal_entry}
+use Rattle.fr_world.specs.Loads.{grants_in_lanes}
+use Rattle.fr_world.specs.declared.page.ChannelSlot.{ChannelSlot}
 
 -- This was gathered of two variants that are there; or one is not there, or the answer is
 -- Unavailable. The records stand for the same book as before.
@@ -37,27 +41,64 @@ SeesDifferences actor v w old now r = (c : Cluster) (b : Book) → old c b → I
     (λ rows. rows ≡ differences c.params actor before new)
     (λ e. e ≡ Unavailable))
 
--- the rows of these suppliers' frames in the variant, supplier after supplier
-abbrev pub frames_rows : {X : Type 0} → ((Name × Name) × Frame → List X) → List Name → Variant → List X
-frames_rows rows ss x = flat_map (λ s. flat_map rows (own s x.frames).rows) ss
+-- the rows of frames that a difference compares, of each kind one frame's after another's
+abbrev pub compared_rows : Params → Table owned Frame → ComparedRows
+compared_rows p frames = record {
+  frames = flat_map frame_records frames.rows;
+  placements = flat_map placement_records frames.rows;
+  signals = flat_map signal_records frames.rows;
+  gaps = flat_map (λ e. gap_row p e ∷ []) frames.rows;
+}
+
+-- The rows of the supplier's frames in the variant were taken, and its grants were added to those that were held.
+pub record AreTaken (p : Params) (s : Name) (x : Variant) (held after : List (ChannelSlot × LaneHolder)) (rows : ComparedRows) : Type 0 where
+  pub rows_are : rows ≡ compared_rows p (own s x.frames)
+  pub holders : grants_in_lanes after ≡ with_rows (grants_in_lanes held) (own_grants s x.grants).rows
 
 -- the grants of these suppliers in which the variants differ
 abbrev pub grants_told : List Name → Variant → Variant → List DifferenceRow
 grants_told ss before new = grants_differ (grants_among ss before.grants) (grants_among ss new.grants)
 
--- what a merge tells of the rows of a kind, of these suppliers' frames
-abbrev pub frames_told : {X : Type 0} → (X → X → Ordering) → (X → X → Bool) → (X → SeenRow) → ((Name × Name) × Frame → List X) → List Name → Variant → Variant → List DifferenceRow
-frames_told compare same told rows ss before new = merge compare same told (frames_rows rows ss before) (frames_rows rows ss new)
+-- what a merge tells of the rows of a kind, by their keys
+abbrev pub kind_told : {X K V : Type 0} → Order K → (V → V → Bool) → (K × V → SeenRow) → (X → K × V) → List X → List X → List DifferenceRow
+kind_told o same told entry before new = merge (by_key o entry) (same_at same entry) (λ r. told (entry r)) before new
 
--- what a merge tells of the rows of a kind, by their keys, of these suppliers' frames
-abbrev pub kind_told : {X K V : Type 0} → Order K → (V → V → Bool) → (K × V → SeenRow) → (X → K × V) → ((Name × Name) × Frame → List X) → List Name → Variant → Variant → List DifferenceRow
-kind_told o same told entry rows ss before new = frames_told (by_key o entry) (same_at same entry) (λ r. told (entry r)) rows ss before new
+-- what merges tell of the rows of frames, of each kind
+abbrev pub rows_told : ComparedRows → ComparedRows → FrameDifferences
+rows_told before new = record {
+  frames = kind_told owned same_text frame_seen frame_entry before.frames new.frames;
+  placements = kind_told placed_frames (λ _ _. true) placement_seen placement_entry before.placements new.placements;
+  signals = kind_told starts same_signal signal_seen signal_entry before.signals new.signals;
+  gaps = kind_told owned same_gap gap_seen gap_entry before.gaps new.gaps;
+}
+
+-- rows of each kind, and more behind them
+abbrev pub with_told : FrameDifferences → FrameDifferences → FrameDifferences
+with_told told more = record {
+  frames = told.frames ++ more.frames;
+  placements = told.placements ++ more.placements;
+  signals = told.signals ++ more.signals;
+  gaps = told.gaps ++ more.gaps;
+}
+
+-- what merges tell of the rows of a supplier's frames
+abbrev pub supplier_told : Params → Variant → Variant → Name → FrameDifferences
+supplier_told p before new s = rows_told (compared_rows p (own s before.frames)) (compared_rows p (own s new.frames))
+
+-- what merges tell of the rows of these suppliers' frames, of each kind supplier after supplier
+abbrev pub suppliers_told : Params → List Name → Variant → Variant → FrameDifferences
+suppliers_told p ss before new = record {
+  frames = flat_map (λ s. (supplier_told p before new s).frames) ss;
+  placements = flat_map (λ s. (supplier_told p before new s).placements) ss;
+  signals = flat_map (λ s. (supplier_told p before new s).signals) ss;
+  gaps = flat_map (λ s. (supplier_told p before new s).gaps) ss;
+}
 
 -- the rows of these suppliers in which the variants differ: grants, frames, placements, signals and gaps
 abbrev pub rows_among : Params → List Name → Variant → Variant → List DifferenceRow
 rows_among p ss before new =
     grants_told ss before new
-    ++ kind_told owned same_text frame_seen frame_entry frame_records ss before new
-    ++ kind_told placed_frames (λ _ _. true) placement_seen placement_entry placement_records ss before new
-    ++ kind_told starts same_signal signal_seen signal_entry signal_records ss before new
-    ++ kind_told owned same_gap gap_seen gap_entry (λ e. gap_row p e ∷ []) ss before new
+    ++ (suppliers_told p ss before new).frames
+    ++ (suppliers_told p ss before new).placements
+    ++ (suppliers_told p ss before new).signals
+    ++ (suppliers_told p ss before new).gaps

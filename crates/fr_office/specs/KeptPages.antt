@@ -13,11 +13,12 @@ use Rattle.fr_base.specs.declared.name.Name.{Name}
 use Rattle.fr_base.specs.declared.params.Params.{Params}
 use Rattle.fr_world.specs.BookEdits.{SparesOthers}
 use Rattle.fr_world.specs.Edits.{IsOf, all_edited, edited, releases}
-use Rattle.fr_world.specs.Pages.{IsKept, PageData, own_rows_of}
+use Rattle.fr_world.specs.Pages.{FrameData, IsKept, PageData, own_rows_of}
 use Rattle.fr_world.specs.Held.{IsFresh, Standing}
 use Rattle.fr_office.specs.ImportCounts.{AreCounted}
 use Rattle.fr_office.specs.declared.import_counts.ImportCount.{ImportCount}
-use Rattle.fr_office.specs.declared.shelf.TheConstants.{FRAME_BYTES, GRANT_BYTES, MAX_BYTES, MOST_FRAMES, MOST_GRANTS, PAGE_BYTES}
+use Rattle.fr_office.specs.declared.page_bytes.TheConstants.{FRAME_BYTES, GRANT_BYTES, MOST_GRANTS, MOST_PLACEMENTS, MOST_SIGNALS, PAGE_BYTES, PLACEMENT_BYTES, SIGNAL_BYTES}
+use Rattle.fr_office.specs.declared.shelf.TheConstants.{MAX_BYTES}
 use Rattle.fr_world.specs.declared.edit.Edit.{Edit}
 use Rattle.fr_world.specs.declared.edit.Edit.TheVariants.{NewVariant, SetReleased, NewSupplier, SetKey, NewNode, Rows, KeepImport}
 
@@ -74,9 +75,13 @@ abbrev pub with_page : PageData → List PageData → List PageData
 with_page page [] = page ∷ []
 with_page page (other ∷ pages) = match_ordering (owned.compare (whose page) (whose other)) (page ∷ other ∷ pages) (page ∷ pages) (other ∷ with_page page pages)
 
--- how many bytes a page takes at most; it has no more frames and grants than are counted
-abbrev pub bytes_of : PageData → ℕ
-bytes_of page = PAGE_BYTES + min (length page.frames) MOST_FRAMES * FRAME_BYTES + min (length page.grants) MOST_GRANTS * GRANT_BYTES
+-- how many bytes a frame takes at most; it has no more placements and signals than are counted
+unfoldable pub frame_bytes : FrameData → ℕ
+frame_bytes f = FRAME_BYTES + min (length f.placements) MOST_PLACEMENTS * PLACEMENT_BYTES + min (length f.layout.signals) MOST_SIGNALS * SIGNAL_BYTES
+
+-- how many bytes a page takes at most; it has no more grants than are counted, and takes no more than a shelf may
+unfoldable pub bytes_of : PageData → ℕ
+bytes_of page = min (PAGE_BYTES + min (length page.grants) MOST_GRANTS * GRANT_BYTES + sum_by (λ e. frame_bytes e.1) page.frames) MAX_BYTES
 
 -- ---- pages that are kept
 

@@ -11,6 +11,7 @@ mod laws;
 mod lender;
 mod listing;
 mod office;
+mod page_bytes;
 mod pages;
 mod queries;
 mod replacing;

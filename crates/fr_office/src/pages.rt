@@ -9,7 +9,8 @@ ghost use Rattle.fr_office.specs.declared.shelf.TheConstants.{MAX_BYTES};
 ghost use Rattle.fr_world.specs.Edits.{Takes};
 ghost use Rattle.fr_world.specs.Pages.{own_rows_of};
 
-use crate::shelf::{MAX_BYTES, Shelf, bytes_of};
+use crate::page_bytes::Weighed;
+use crate::shelf::{MAX_BYTES, Shelf};
 use fr_base::{Name, NoMemory};
 use fr_world::{Edit, Page};
 use std::alloc::Global;
@@ -112,7 +113,8 @@ impl Pages {
     {
         match self.lent.take() {
             Some(page) => {
-                self.make_room(bytes_of(&page));
+                let page = Weighed::new(page);
+                self.make_room(page.bytes());
                 self.recent.put(page)
             }
             None => Ok(()),

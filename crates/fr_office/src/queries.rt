@@ -13,6 +13,7 @@ mod cluster;
 mod compared;
 mod differences;
 mod exports;
+mod frame_differences;
 mod frames;
 mod gaps;
 mod grants;

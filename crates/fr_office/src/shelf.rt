@@ -4,6 +4,7 @@ ghost use Rattle.fr_office.specs.KeptPages.{bytes_of, others_than, page_at, with
 ghost use Rattle.std.specs.Map.{values_of};
 ghost use Rattle.fr_base.specs.Names.{same_text};
 
+use crate::page_bytes::Weighed;
 use fr_base::{Name, NoMemory};
 use fr_world::Page;
 use std::alloc::Global;
@@ -13,21 +14,6 @@ use std::marker::Model;
 /// The most bytes that the pages of a shelf take, 64 MiB, reckoned page by page. No clause ties what is reckoned to what
 /// memory they have.
 pub const MAX_BYTES: usize = 67_108_864;
-
-/// The bytes that a page takes at most beside its frames and grants: its names, its nodes, and its place on the shelf.
-const PAGE_BYTES: usize = 8_192;
-
-/// The bytes that a frame takes at most, with its placements and signals.
-const FRAME_BYTES: usize = 8_192;
-
-/// The bytes that a grant takes at most.
-const GRANT_BYTES: usize = 160;
-
-/// The most frames of a page.
-const MOST_FRAMES: usize = 256;
-
-/// The most grants of a page: of 1,023 slots on two channels.
-const MOST_GRANTS: usize = 2_046;
 
 /// Whose page it is: a supplier's, in a variant.
 #[derive(Clone, Copy, PartialEq, Eq, PartialOrd, Ord)]
@@ -39,7 +25,7 @@ struct PageKey {
 /// Pages, at most one of each supplier and variant, which take at most [`MAX_BYTES`].
 #[derive(Drop)]
 pub(crate) struct Shelf {
-    pages: BTreeMap<PageKey, Page>,
+    pages: BTreeMap<PageKey, Weighed>,
     bytes: usize,
 }
 
@@ -84,26 +70,26 @@ impl Shelf {
         // Gives the proof that the keys are in order.
         let _len = self.pages.len();
         let page = self.pages.remove(&PageKey { supplier, variant })?;
-        self.bytes -= bytes_of(&page);
-        Some(page)
+        self.bytes -= page.bytes();
+        Some(page.into_page())
     }
 
     /// Puts a page in its place, and lets go of the page that lay there. Where memory is refused,
     /// the page is given up.
-    pub(crate) fn put(&mut self, page: Page) -> Result<(), NoMemory>
+    pub(crate) fn put(&mut self, page: Weighed) -> Result<(), NoMemory>
         requires fits { sum_by bytes_of self.old + bytes_of page ≤ MAX_BYTES }
         ensures ok { OnOk result (self.new ≡ with_page page self.old) }
         ensures err { OnErr result (self.new ≡ self.old) }
     {
-        let bytes = bytes_of(&page);
+        let bytes = page.bytes();
         let key = PageKey {
-            supplier: page.supplier(),
-            variant: page.variant(),
+            supplier: page.page().supplier(),
+            variant: page.page().variant(),
         };
         let former = self.pages.insert(key, page)?;
         self.bytes += bytes;
         if let Some(former) = former {
-            self.bytes -= bytes_of(&former);
+            self.bytes -= former.bytes();
         }
         Ok(())
     }
@@ -124,7 +110,7 @@ impl Shelf {
             |_, page|
                 ensures value { result ≡ not (same_text page.old.variant variant) }
                 ensures same { page.new ≡ page.old }
-            { page.variant() != variant },
+            { page.page().variant() != variant },
         );
         self.bytes = total(&self.pages);
     }
@@ -137,30 +123,20 @@ impl Shelf {
             |_, page|
                 ensures value { result ≡ not (same_text page.old.supplier supplier) }
                 ensures same { page.new ≡ page.old }
-            { page.supplier() != supplier },
+            { page.page().supplier() != supplier },
         );
         self.bytes = total(&self.pages);
     }
 }
 
 // How many bytes the pages take at most.
-fn total(pages: &BTreeMap<PageKey, Page>) -> usize
+fn total(pages: &BTreeMap<PageKey, Weighed>) -> usize
     requires { sum_by bytes_of (values_of pages.now.entries) ≤ MAX_BYTES }
     ensures { result ≡ sum_by bytes_of (values_of pages.now.entries) }
 {
     let mut bytes = 0;
     for page in pages.values() {
-        bytes += bytes_of(page);
+        bytes += page.bytes();
     }
     bytes
-}
-
-/// How many bytes a page takes at most.
-pub(crate) fn bytes_of(page: &Page) -> usize
-    ensures value { result ≡ bytes_of page.now }
-    ensures bound { result ≤ MAX_BYTES }
-{
-    let frames = page.frames().len().min(MOST_FRAMES);
-    let grants = page.grants().len().min(MOST_GRANTS);
-    PAGE_BYTES + frames * FRAME_BYTES + grants * GRANT_BYTES
 }

@@ -1,18 +1,11 @@
-//! The rows of a variant that a difference compares: for each kind of row a list, by supplier and
-//! frame.
-#![tactic(auto, using(fr_world::proofs::ReadLaws::reads_none, fr_world::proofs::ReadLaws::reads_then))]
-
-ghost use Rattle.std.specs.Prelude.{◌≡◌, ◌++◌, OnOk};
+//! The rows of a page that a difference compares: for each kind of row a list, by frame.
+ghost use Rattle.std.specs.Prelude.{◌≡◌, ◌++◌, IfOk, OnOk};
 ghost use Rattle.std.specs.List.{flat_map};
-ghost use Rattle.fr_office.specs.Carried.{OnlyReads};
-ghost use Rattle.fr_office.specs.Compared.{frames_rows};
-ghost use Rattle.fr_office.specs.Shown.{Gathers};
+ghost use Rattle.fr_office.specs.Compared.{compared_rows};
 ghost use Rattle.fr_world.specs.Pages.{own_rows_of};
 
-use crate::lender::Lender;
-use crate::queries::find_page;
 use crate::queries::gaps::push_gaps;
-use fr_base::{FrameRecord, GapRow, Name, NoMemory, PlacementRecord, Refusal, Rows, SignalRecord};
+use fr_base::{FrameRecord, GapRow, NoMemory, PlacementRecord, Rows, SignalRecord};
 use fr_world::{FileRecord, KeyedRow, Page};
 use std::alloc::Global;
 
@@ -87,21 +80,40 @@ fn push_records<T: FileRecord + Drop>(page: &Page, rows: &mut Rows<T>) -> Result
     Ok(())
 }
 
-/// The rows of a kind of these suppliers' frames in the variant, supplier after supplier.
-pub(crate) fn gather_rows<T: ComparedRow + Drop, R: Lender>(
-    alloc: Global,
-    records: &mut R,
-    suppliers: &[Name],
-    variant: Name,
-) -> Result<Rows<T>, Refusal>
-    ensures { OnlyReads R.Records
-        (Gathers variant (λ p x rows. rows ≡ frames_rows (T.compared p) suppliers.now x))
-        records.old records.new result }
+// The rows of a kind of the page's frames, in order.
+fn page_rows<T: ComparedRow + Drop>(alloc: Global, page: &Page) -> Result<Rows<T>, NoMemory>
+    ensures { IfOk result (λ rows.
+        rows ≡ flat_map (T.compared page.now.params) (own_rows_of page.now).frames.rows) }
 {
     let mut rows = Rows::new(alloc);
-    for supplier in suppliers {
-        find_page(alloc, records, *supplier, variant)?;
-        T::push_page(records.lent(), &mut rows)?;
-    }
+    T::push_page(page, &mut rows)?;
     Ok(rows)
+}
+
+/// The rows of a page's frames that a difference compares: of each kind a list, in order.
+#[derive(Drop)]
+pub(crate) struct ComparedRows {
+    /// The frames.
+    pub(crate) frames: Rows<FrameRecord>,
+    /// Their placements.
+    pub(crate) placements: Rows<PlacementRecord>,
+    /// Their signals.
+    pub(crate) signals: Rows<SignalRecord>,
+    /// Their greatest gaps.
+    pub(crate) gaps: Rows<GapRow>,
+}
+
+impl ComparedRows {
+    /// The rows of this page.
+    pub(crate) fn of_page(alloc: Global, page: &Page) -> Result<ComparedRows, NoMemory>
+        ensures { IfOk result (λ rows.
+            rows ≡ compared_rows page.now.params (own_rows_of page.now).frames) }
+    {
+        Ok(ComparedRows {
+            frames: page_rows(alloc, page)?,
+            placements: page_rows(alloc, page)?,
+            signals: page_rows(alloc, page)?,
+            gaps: page_rows(alloc, page)?,
+        })
+    }
 }

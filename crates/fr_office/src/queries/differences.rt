@@ -1,22 +1,25 @@
 //! The difference of two variants, as a query shows it.
 #![tactic(auto, using(fr_world::proofs::ReadLaws::reads_none, fr_world::proofs::ReadLaws::reads_then))]
 
-ghost use Rattle.std.specs.Prelude.{◌≡◌, ◌++◌};
+ghost use Rattle.std.specs.Prelude.{◌≡◌, IfOk};
+ghost use Rattle.fr_base.specs.Differences.{grants_differ};
 ghost use Rattle.fr_base.specs.Queries.{found};
 ghost use Rattle.fr_base.specs.declared.query.Query.TheVariants.{Difference};
 ghost use Rattle.fr_office.specs.Carried.{OnlyReads, Replies};
-ghost use Rattle.fr_office.specs.Compared.{Compares, SeesDifferences, frames_told, grants_told, rows_among};
+ghost use Rattle.fr_office.specs.Compared.{AreTaken, Compares, SeesDifferences, rows_among};
+ghost use Rattle.fr_office.specs.Shown.{Gathers};
+ghost use Rattle.fr_world.specs.Loads.{grants_in_lanes};
 
 use crate::lender::Lender;
-use crate::queries::compared::{ComparedRow, gather_rows};
-use crate::queries::grants::gather_grants;
+use crate::queries::compared::ComparedRows;
+use crate::queries::find_page;
+use crate::queries::frame_differences::FrameDifferences;
+use crate::queries::grants::{add_grants, grant_rows};
 use crate::queries::suppliers::supplier_names;
-use fr_base::{
-    Actor, DifferenceRow, FrameRecord, GapRow, Name, PlacementRecord, Refusal, ReportRows, Rows,
-    SignalRecord,
-};
-use fr_world::push_differences;
+use fr_base::{Actor, DifferenceRow, LaneHolder, Name, NoMemory, Refusal, ReportRows, Rows};
+use fr_world::{ChannelSlot, push_differences};
 use std::alloc::Global;
+use std::collections::BTreeMap;
 
 /// The rows in which the variant differs from another one, as the actor sees them: a supplier its
 /// own, the integrator those of all. `NoVariant` where one of the variants is not there.
@@ -61,7 +64,7 @@ fn gather_seen<R: Lender>(
     }
 }
 
-// The rows of these suppliers in which the variants differ, by kind, then key.
+// The rows of these suppliers in which the variants differ, by kind, then key. Each page is lent once.
 fn gather<R: Lender>(
     alloc: Global,
     records: &mut R,
@@ -73,50 +76,50 @@ fn gather<R: Lender>(
         (Compares variant from (λ p new old rows. rows ≡ rows_among p suppliers.now old new))
         records.old records.new result }
 {
-    let mut rows = compare_grants(alloc, records, suppliers, variant, from)?;
-    push_compared::<FrameRecord, R>(alloc, records, suppliers, variant, from, &mut rows)?;
-    push_compared::<PlacementRecord, R>(alloc, records, suppliers, variant, from, &mut rows)?;
-    push_compared::<SignalRecord, R>(alloc, records, suppliers, variant, from, &mut rows)?;
-    push_compared::<GapRow, R>(alloc, records, suppliers, variant, from, &mut rows)?;
+    let mut old_holders = BTreeMap::new(alloc);
+    let mut new_holders = BTreeMap::new(alloc);
+    let mut told = FrameDifferences::new(alloc);
+    for supplier in suppliers {
+        let old = take_rows(alloc, records, *supplier, from, &mut old_holders)?;
+        let new = take_rows(alloc, records, *supplier, variant, &mut new_holders)?;
+        told.push(&old, &new)?;
+    }
+    let mut rows = compare_grants(alloc, &old_holders, &new_holders)?;
+    told.append_to(&mut rows)?;
     Ok(rows)
 }
 
-// The grants of these suppliers in which the variants differ, by slot and channel.
-fn compare_grants<R: Lender>(
+// The rows of the supplier's frames in the variant that a difference compares. Its grants are added to those that are
+// held. Where memory or the records are refused, some of them may have been added.
+fn take_rows<R: Lender>(
     alloc: Global,
     records: &mut R,
-    suppliers: &[Name],
+    supplier: Name,
     variant: Name,
-    from: Name,
-) -> Result<Rows<DifferenceRow>, Refusal>
+    held: &mut BTreeMap<ChannelSlot, LaneHolder>,
+) -> Result<ComparedRows, Refusal>
     ensures { OnlyReads R.Records
-        (Compares variant from (λ p new old rows. rows ≡ grants_told suppliers.now old new))
+        (Gathers variant (λ p x rows. AreTaken p supplier x held.old.entries held.new.entries rows))
         records.old records.new result }
 {
-    let old = gather_grants(alloc, records, suppliers, from)?;
-    let new = gather_grants(alloc, records, suppliers, variant)?;
+    find_page(alloc, records, supplier, variant)?;
+    let page = records.lent();
+    add_grants(page, held)?;
+    Ok(ComparedRows::of_page(alloc, page)?)
+}
+
+// The rows in which these grants differ, by slot and channel.
+fn compare_grants(
+    alloc: Global,
+    old: &BTreeMap<ChannelSlot, LaneHolder>,
+    new: &BTreeMap<ChannelSlot, LaneHolder>,
+) -> Result<Rows<DifferenceRow>, NoMemory>
+    ensures { IfOk result (λ rows. rows
+        ≡ grants_differ (grants_in_lanes old.now.entries) (grants_in_lanes new.now.entries)) }
+{
+    let old_rows = grant_rows(alloc, old)?;
+    let new_rows = grant_rows(alloc, new)?;
     let mut rows = Rows::new(alloc);
-    push_differences(old.as_slice(), new.as_slice(), &mut rows)?;
+    push_differences(old_rows.as_slice(), new_rows.as_slice(), &mut rows)?;
     Ok(rows)
-}
-
-// Appends the rows of a kind, of these suppliers' frames, in which the variants differ. Where
-// memory or the records are refused, some of them may have been appended.
-fn push_compared<T: ComparedRow + Drop, R: Lender>(
-    alloc: Global,
-    records: &mut R,
-    suppliers: &[Name],
-    variant: Name,
-    from: Name,
-    rows: &mut Rows<DifferenceRow>,
-) -> Result<(), Refusal>
-    ensures { OnlyReads R.Records
-        (Compares variant from (λ p new old _. rows.new
-        ≡ rows.old ++ frames_told T.compare T.same T.told (T.compared p) suppliers.now old new))
-        records.old records.new result }
-{
-    let old = gather_rows::<T, R>(alloc, records, suppliers, from)?;
-    let new = gather_rows::<T, R>(alloc, records, suppliers, variant)?;
-    push_differences(old.as_slice(), new.as_slice(), rows)?;
-    Ok(())
 }

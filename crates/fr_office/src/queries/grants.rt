@@ -68,8 +68,8 @@ pub(crate) fn gather_holders<R: Lender>(
     Ok(held)
 }
 
-// The rows of these grants, by slot and channel.
-fn grant_rows(
+/// The rows of these grants, by slot and channel.
+pub(crate) fn grant_rows(
     alloc: Global,
     held: &BTreeMap<ChannelSlot, LaneHolder>,
 ) -> Result<Rows<GrantRow>, NoMemory>
@@ -87,8 +87,11 @@ fn grant_rows(
     Ok(rows)
 }
 
-// Adds the page's grants. Where memory is refused, some of them may have been added.
-fn add_grants(page: &Page, held: &mut BTreeMap<ChannelSlot, LaneHolder>) -> Result<(), NoMemory>
+/// Adds the page's grants. Where memory is refused, some of them may have been added.
+pub(crate) fn add_grants(
+    page: &Page,
+    held: &mut BTreeMap<ChannelSlot, LaneHolder>,
+) -> Result<(), NoMemory>
     ensures { OnOk result (grants_in_lanes held.new.entries
         ≡ with_rows (grants_in_lanes held.old.entries) (own_rows_of page.now).grants.rows) }
 {

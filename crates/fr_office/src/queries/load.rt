@@ -8,13 +8,15 @@ ghost use Rattle.fr_office.specs.Shown.{Gathers};
 ghost use Rattle.fr_world.specs.Loads.{filled_load};
 
 use crate::lender::Lender;
-use crate::queries::grants::gather_holders;
-use crate::queries::schedule::gather_triggerings;
+use crate::queries::find_page;
+use crate::queries::grants::add_grants;
 use fr_base::{LoadRow, Name, Params, Refusal, Rows};
+use fr_world::Triggerings;
 use std::alloc::Global;
+use std::collections::BTreeMap;
 
 /// How full each lane of the cluster is in the variant, by the frames of these suppliers, and which
-/// of them holds it.
+/// of them holds it. Each page is lent once.
 pub(crate) fn gather_load<R: Lender>(
     alloc: Global,
     records: &mut R,
@@ -28,7 +30,13 @@ pub(crate) fn gather_load<R: Lender>(
         (placements_among suppliers.now x)))
         records.old records.new result }
 {
-    let holders = gather_holders(alloc, records, suppliers, variant)?;
-    let triggerings = gather_triggerings(alloc, records, suppliers, variant)?;
-    Ok(triggerings.load(alloc, params, &holders)?)
+    let mut held = BTreeMap::new(alloc);
+    let mut triggerings = Triggerings::new(alloc);
+    for supplier in suppliers {
+        find_page(alloc, records, *supplier, variant)?;
+        let page = records.lent();
+        add_grants(page, &mut held)?;
+        triggerings.push_page(page)?;
+    }
+    Ok(triggerings.load(alloc, params, &held)?)
 }

@@ -1,13 +1,11 @@
-use Rattle.std.proofs.Common.{rules}
-use Rattle.fr_office.proofs.DifferenceReplies.{grants-compared}
-use Rattle.fr_world.proofs.ReadLaws.{reads_then}
+use Rattle.std.proofs.Common.{◌≡◌, ◌∙◌, rules}
+use Rattle.fr_world.specs.Loads.{grants_in_lanes}
+use Rattle.fr_office.proofs.DifferenceReplies.{grants-merged, grants_merged}
 use Rattle.fr_office.proofs.queries.differences.compare_grants.Goals as goal
 
 pub returns : goal.returns
-returns g c = record {
-  reads = search (rules, reads_then);
-  told = λ now.
-      let stands = g.R.Records.stands in
-      grants-compared (stands c.args.records.now) (stands c.gather_grants.new.records) (stands c.gather_grants-2.new.records) c.args.variant c.args.from c.args.suppliers.now
-      c.in_ok-old.old c.in_ok-new.new c.push_differences.new.rows (c.in_ok-old.ensures.told (c.gather_grants-2.ensures.reads.falls now)) (c.in_ok-new.ensures.told now) (search rules);
-}
+returns c =
+    let told : c.push_differences.new.rows ≡ grants_merged c.in_ok-old_rows.old_rows c.in_ok-new_rows.new_rows = search rules in
+    told
+    ∙ (λ i. grants_merged (c.in_ok-old_rows.ensures i) (c.in_ok-new_rows.ensures i))
+    ∙ grants-merged (grants_in_lanes c.args.old.now.entries) (grants_in_lanes c.args.new.now.entries)

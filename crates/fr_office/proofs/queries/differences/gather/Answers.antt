@@ -1,20 +1,39 @@
-use Rattle.std.proofs.Common.{rules}
-use Rattle.fr_office.proofs.DifferenceReplies.{all-told}
-use Rattle.fr_world.proofs.ReadLaws.{reads_then}
+use Rattle.std.proofs.Common.{rules, ◌+◌, ◌∙◌, ◌++◌, [], ◌∷◌, take, sym, ap}
+use Rattle.std.proofs.lemmas.List.{take_more}
+use Rattle.fr_office.proofs.ComparedLaws.{compared-all, compared-more, compared-none}
+use Rattle.fr_world.proofs.ReadLaws.{reads_none, reads_then}
 use Rattle.fr_office.proofs.queries.differences.gather.Goals as goal
+
+pub loop-supplier-init : goal.loop-supplier-init
+loop-supplier-init g c = record {
+  reads = reads_none _ _ _ _;
+  gathered = λ now.
+      compared-none (g.R.Records.stands c.args.records.now) c.args.variant c.args.from c.new-old_holders.result.entries c.new-new_holders.result.entries c.new-told.result
+      c.new-old_holders.ensures.empty c.new-new_holders.ensures.empty c.new-told.ensures;
+}
+
+pub loop-supplier-preserved : goal.loop-supplier-preserved
+loop-supplier-preserved g c =
+    let records = g.R.Records in
+    let i = c.loop-supplier.supplier-index in
+    let suppliers = c.args.suppliers.now in
+    record {
+      reads = reads_then _ _ _ _ _ _ (reads_then _ _ _ _ _ _ c.loop-supplier.invariant.reads c.take_rows.ensures.reads) c.take_rows-in-loop-supplier.ensures.reads;
+      gathered = λ now.
+          let was = c.take_rows-in-loop-supplier.ensures.reads.falls now in
+          compared-more (records.stands c.args.records.now) c.args.variant c.args.from (records.stands c.loop-supplier.records) (records.stands c.take_rows.new.records) (records.stands c.take_rows-in-loop-supplier.new.records)
+          c.supplier-item.result (take i suppliers) (take (i + 1) suppliers) c.loop-supplier.old_holders.entries c.loop-supplier.new_holders.entries c.take_rows.new.held.entries c.take_rows-in-loop-supplier.new.held.entries
+          c.loop-supplier.told c.push.new.self c.in_ok-old.old c.in_ok-new.new
+          (c.loop-supplier.invariant.gathered (c.take_rows.ensures.reads.falls was)) (c.in_ok-old.ensures.told was) (c.in_ok-new.ensures.told now) c.in_ok-push.ensures
+          (take_more suppliers i c.supplier-item.result c.loop-supplier-test.true ∙ ap (λ s. take i suppliers ++ s ∷ []) (sym c.supplier-item.is));
+    }
 
 pub returns : goal.returns
 returns g c = record {
   reads = search (rules, reads_then);
   told = λ now.
-      let stands = g.R.Records.stands in
-      let third = c.push_compared-4.ensures.reads.falls now in
-      let second = c.push_compared-3.ensures.reads.falls third in
-      let first = c.push_compared-2.ensures.reads.falls second in
-      let start = c.push_compared.ensures.reads.falls first in
-      all-told c.args.variant c.args.from c.args.suppliers.now (stands c.args.records.now) (stands c.compare_grants.new.records) (stands c.push_compared.new.records)
-      (stands c.push_compared-2.new.records) (stands c.push_compared-3.new.records) (stands c.push_compared-4.new.records)
-      c.in_ok-rows.rows c.push_compared.new.rows c.push_compared-2.new.rows c.push_compared-3.new.rows c.push_compared-4.new.rows
-      (c.in_ok-rows.ensures.told start) (c.in_ok-push_compared.ensures.told first) (c.in_ok-push_compared-2.ensures.told second)
-      (c.in_ok-push_compared-3.ensures.told third) (c.in_ok-push_compared-4.ensures.told now);
+      let records = g.R.Records in
+      compared-all (records.stands c.args.records.now) c.args.variant c.args.from (records.stands c.loop-supplier.records)
+      c.loop-supplier.supplier-index c.args.suppliers.now c.loop-supplier.old_holders.entries c.loop-supplier.new_holders.entries c.loop-supplier.told
+      c.in_ok-rows.rows c.append_to.new.rows c.loop-supplier-test.false (c.loop-supplier.invariant.gathered now) c.in_ok-rows.ensures c.in_ok-append_to.ensures;
 }

@@ -1,7 +1,8 @@
-use Rattle.std.proofs.Common.{◌∙◌, ap, sym}
+use Rattle.std.proofs.Common.{◌∙◌, Some, ap, sym}
 use Rattle.std.specs.Map.{values_of}
 use Rattle.fr_office.specs.KeptPages.{others_than, page_at}
 use Rattle.fr_office.specs.declared.shelf.PageKey.{PageKey}
+use Rattle.fr_world.specs.Pages.{PageData}
 use Rattle.fr_office.proofs.ShelfLaws.{left_there, looked_up, shelf_taken}
 use Rattle.fr_office.proofs.shelf.Shelf.take.Goals as goal
 
@@ -20,17 +21,17 @@ returns-in_err-page-clause-others c =
 pub overflow_sub-self : goal.overflow_sub-self
 overflow_sub-self c =
     let key : PageKey = record { supplier = c.args.supplier; variant = c.args.variant } in
-    (shelf_taken key c.self.inside.pages.entries c.remove.new.self.entries c.self.inside.bytes c.bytes_of.result c.in_ok-page.page c.self.invariant c.remove.ensures.entries (sym c.remove.ensures.value ∙ c.in_ok-page.was) c.bytes_of.ensures.value).0
+    (shelf_taken key c.self.inside.pages.entries c.remove.new.self.entries c.self.inside.bytes c.bytes.result c.in_ok-page.page c.self.invariant c.remove.ensures.entries (sym c.remove.ensures.value ∙ c.in_ok-page.was) c.bytes.ensures.value).0
 
 pub invariant_of-self-2 : goal.invariant_of-self-2
 invariant_of-self-2 c =
     let key : PageKey = record { supplier = c.args.supplier; variant = c.args.variant } in
-    (shelf_taken key c.self.inside.pages.entries c.remove.new.self.entries c.self.inside.bytes c.bytes_of.result c.in_ok-page.page c.self.invariant c.remove.ensures.entries (sym c.remove.ensures.value ∙ c.in_ok-page.was) c.bytes_of.ensures.value).1
+    (shelf_taken key c.self.inside.pages.entries c.remove.new.self.entries c.self.inside.bytes c.bytes.result c.in_ok-page.page c.self.invariant c.remove.ensures.entries (sym c.remove.ensures.value ∙ c.in_ok-page.was) c.bytes.ensures.value).1
 
 pub returns-clause-value : goal.returns-clause-value
 returns-clause-value c =
     let key : PageKey = record { supplier = c.args.supplier; variant = c.args.variant } in
-    sym c.in_ok-page.was ∙ c.remove.ensures.value ∙ looked_up key c.self.inside.pages.entries c.self.invariant.keyed
+    ap (λ (page : PageData). Some page) c.into_page.ensures ∙ sym c.in_ok-page.was ∙ c.remove.ensures.value ∙ looked_up key c.self.inside.pages.entries c.self.invariant.keyed
     ∙ ap (page_at c.args.supplier c.args.variant) c.self.view_is
 
 pub returns-clause-others : goal.returns-clause-others
