@@ -16,6 +16,8 @@ use std::alloc::Global;
 pub(crate) struct Guarded<'a, R: Records> {
     office: Office<R>,
     watch: Watch<'a>,
+    // Whether other files were found in the place of its own.
+    is_gone: bool,
     // Whether the last answer was `Unavailable`.
     has_failed: bool,
 }
@@ -34,6 +36,7 @@ impl<'a, R: Records> Guarded<'a, R> {
             Ok(watch) => Ok(Guarded {
                 office,
                 watch,
+                is_gone: false,
                 has_failed: false,
             }),
             Err(fault) => Err((fault, office)),
@@ -47,6 +50,7 @@ impl<'a, R: Records> Guarded<'a, R> {
         let Guarded {
             office,
             watch: _,
+            is_gone: _,
             has_failed: _,
         } = self;
         office
@@ -79,20 +83,21 @@ impl<R: Records> Desk for Guarded<'_, R> {
 
     fn ask(&mut self, alloc: Global, ask: &Ask) -> Answer {
         if !self.watch.holds() {
+            self.is_gone = true;
             return self.office.decline(ask);
         }
         let answer = self.office.ask(alloc, ask);
-        self.watch.note_own_writes();
+        self.is_gone = !self.watch.note_own_writes();
         self.has_failed = matches!(&answer, Answer::Refused(Refusal::Unavailable));
         answer
     }
 }
 
-// The register comes to an end where other files stand in the place of its own; or where its last answer was `Unavailable`
-// and it cannot list its variants, since a fault has shut it.
+// The register comes to an end where a request found other files in the place of its own; or where its last answer was
+// `Unavailable` and it cannot list its variants, since a fault has shut it.
 impl<R: Records> Lasting for Guarded<'_, R> {
     fn lasts(&mut self, alloc: Global) -> bool {
-        if !self.watch.holds() {
+        if self.is_gone {
             return false;
         }
         if !self.has_failed {

@@ -38,7 +38,6 @@ mod serving;
 mod telling;
 mod text_file;
 mod text_files;
-mod timed_stream;
 mod watch;
 mod words;
 

@@ -1,36 +1,58 @@
-//! The connections that come in at a TCP port of this machine.
+//! The connections that come in at a TCP port of this machine, many side by side.
 ghost use Rattle.std.specs.Prelude.{◌≡◌, None, Some};
 
 use crate::listener::Listener;
-use crate::timed_stream::TimedStream;
-use fr_http::{LinkFault, Served};
-use std::io::{self, ErrorKind, Read};
-use std::net::{Ipv4Addr, Shutdown, TcpListener, TcpStream};
-use std::time::Duration;
+use fr_http::{Engine, LinkFault, Need, Served};
+use fr_links::{Given, Judge, Judgement, Links, Reply};
+use mio::net::TcpStream;
+use std::io::{self, ErrorKind};
+use std::marker::Model;
+use std::net::{Ipv4Addr, TcpListener};
 
-/// How many bytes of what a client sends behind its request are read at once. A socket that is closed before they are
-/// read might lose the reply.
-const REST_BYTES: usize = 4096;
+/// Tells how long a request is, by the server's own reading of it.
+#[derive(Drop)]
+struct Requests {
+    engine: Engine,
+}
 
-/// The most reads of what a client sends behind its request.
-const REST_READS: u32 = 256;
+impl Judge for Requests {
+    ghost use Rattle.std.specs.Prelude.{⊤};
 
-/// The most seconds for which what a client sends behind its request is read.
-const REST_SECONDS: u64 = 1;
+    ghost tells = { λ _ _ _. ⊤ };
 
-/// How many connections in a row may be given up by their clients before they are accepted.
-const ACCEPT_TRIES: u32 = 1_000_000;
+    fn judge(&self, bytes: &[u8]) -> Judgement {
+        match self.engine.need_of(bytes) {
+            Need::Open => Judgement::Open,
+            Need::Known { bytes, invites } => Judgement::Known { bytes, invites },
+        }
+    }
+}
 
-/// The number of the system's error of a connection whose protocol failed, for which there is no `ErrorKind`.
-const EPROTO: i32 = 71;
+// The connections at the port. What sockets give and take no clause sees.
+#[derive(Drop)]
+struct Port {
+    links: Links<Requests>,
+}
 
-/// A port on 127.0.0.1. No contract of the standard library says what a socket gives and takes, or that a port is the one that
-/// was asked for. So at this type a clause says nothing of a connection's bytes: that they are those of the wire rests on the system.
+impl Model for Port {
+    ghost Value = { Unit {0} };
+
+    ghost view = { λ _. tt };
+}
+
+/// A port on 127.0.0.1. Its connections are read and written side by side, and given out one after another, each as its request
+/// is complete, or no more of it comes. No contract of the standard library says what a socket gives and takes, or that a port
+/// is the one that was asked for. So at this type a clause says nothing of a connection's bytes: that they are those of the wire
+/// rests on the system.
 #[derive(Drop)]
 pub struct LocalListener<'a> {
     rt: &'a HostRuntime,
     /// The socket at which connections come in; none before it listens.
     pub listener: Option<TcpListener>,
+    /// How many connections are accepted at most.
+    pub most: u32,
+    // Its connections; none before the first is accepted.
+    port: Option<Port>,
 }
 
 impl<'a> LocalListener<'a> {
@@ -38,7 +60,12 @@ impl<'a> LocalListener<'a> {
     pub fn new(rt: &'a HostRuntime) -> LocalListener<'a>
         ensures { result.listener ≡ None }
     {
-        LocalListener { rt, listener: None }
+        LocalListener {
+            rt,
+            listener: None,
+            most: u32::MAX,
+            port: None,
+        }
     }
 
     /// One that listens at this socket.
@@ -48,16 +75,42 @@ impl<'a> LocalListener<'a> {
         LocalListener {
             rt,
             listener: Some(listener),
+            most: u32::MAX,
+            port: None,
         }
+    }
+
+    /// Sends what is still to go out, until each client took it or its time is over. What was not answered is let go.
+    pub fn finish(&mut self)
+        ensures listener { self.new.listener ≡ self.old.listener }
+        ensures most { self.new.most ≡ self.old.most }
+    {
+        if let Some(port) = &mut self.port {
+            let _ = port.links.finish(self.rt);
+        }
+    }
+
+    // Its connections, from now on.
+    fn open(&self) -> io::Result<Port> {
+        let Some(listener) = &self.listener else {
+            return Err(io::Error::from(ErrorKind::NotConnected));
+        };
+        let engine = match Engine::new(self.rt.alloc()) {
+            Ok(engine) => engine,
+            Err(_) => return Err(io::Error::from(ErrorKind::OutOfMemory)),
+        };
+        let requests = Requests { engine };
+        let links = Links::new(self.rt, listener.try_clone()?, requests, self.most)?;
+        Ok(Port { links })
     }
 }
 
 impl<'a> Listener for LocalListener<'a> {
     ghost use Rattle.std.specs.Prelude.{⊤};
 
-    type Reader = TimedStream<'a>;
+    type Reader = Given;
 
-    type Writer = TimedStream<'a>;
+    type Writer = Reply<TcpStream>;
 
     ghost listens = { λ _ _ _. ⊤ };
 
@@ -75,60 +128,28 @@ impl<'a> Listener for LocalListener<'a> {
         Ok(())
     }
 
-    fn accept(&mut self, seconds: u32) -> io::Result<(TimedStream<'a>, TimedStream<'a>)> {
-        let stream = match &self.listener {
-            Some(listener) => next_stream(listener)?,
-            None => return Err(io::Error::from(ErrorKind::NotConnected)),
-        };
-        let _ = stream.set_nodelay(true);
-        let time = Duration::from_secs(u64::from(seconds));
-        let writer = stream.try_clone()?;
-        Ok((
-            TimedStream::new(self.rt, stream, time),
-            TimedStream::new(self.rt, writer, time),
-        ))
+    fn accept(&mut self, seconds: u32) -> io::Result<(Given, Reply<TcpStream>)> {
+        if let Some(port) = &mut self.port {
+            return port.links.accept(self.rt, seconds);
+        }
+        let mut port = self.open()?;
+        let ends = port.links.accept(self.rt, seconds)?;
+        self.port = Some(port);
+        Ok(ends)
     }
 
     fn close(
         &mut self,
-        reader: TimedStream<'a>,
-        _writer: TimedStream<'a>,
+        _reader: Given,
+        writer: Reply<TcpStream>,
         done: &Result<Served, LinkFault>,
     ) {
-        if let Ok(served) = done {
-            let _ = finish(self.rt, reader.into_stream(), served.asked);
+        if let Some(port) = &mut self.port {
+            let served = match done {
+                Ok(served) => Some(served.asked),
+                Err(_) => None,
+            };
+            port.links.close(self.rt, writer, served);
         }
     }
-}
-
-// The next connection. One that its client gave up before it was accepted is passed over.
-fn next_stream(listener: &TcpListener) -> io::Result<TcpStream> {
-    for _ in 0..ACCEPT_TRIES {
-        match listener.accept() {
-            Ok((stream, _)) => return Ok(stream),
-            Err(error) if was_given_up(&error) => {}
-            Err(error) => return Err(error),
-        }
-    }
-    Err(io::Error::from(ErrorKind::ConnectionAborted))
-}
-
-// Whether the connection failed, and not the socket at which connections come in.
-fn was_given_up(error: &io::Error) -> bool {
-    error.kind() == ErrorKind::ConnectionAborted || error.raw_os_error() == Some(EPROTO)
-}
-
-// Ends the reply, and reads what the client sent behind its request. Where the request was not read to its
-// end, it waits for the rest.
-fn finish(rt: &HostRuntime, stream: TcpStream, was_read: bool) -> io::Result<()> {
-    stream.shutdown(Shutdown::Write)?;
-    stream.set_nonblocking(was_read)?;
-    let mut rest = TimedStream::new(rt, stream, Duration::from_secs(REST_SECONDS));
-    let mut piece = [0u8; REST_BYTES];
-    for _ in 0..REST_READS {
-        if rest.read(&mut piece)? == 0 {
-            break;
-        }
-    }
-    Ok(())
 }

@@ -17,7 +17,7 @@ use crate::over_file::{Errand, over_file};
 use crate::printing::{print, print_word};
 use fr_base::Desk;
 use fr_desks::{FileDesk, Left};
-use fr_http::{LinkFault, Served, Source, serve_one};
+use fr_http::{Engine, LinkFault, Served, Source, serve_one};
 use fr_office::Office;
 use fr_store::StoreFault;
 use fr_text::Sink;
@@ -142,9 +142,10 @@ fn listen<D: Lasting, L: Listener, O: Sink, E: Sink>(
         (came.deaf service.port) (came.at service.port service.seconds)
         (outlet E.Sink err.old err.new) result }
 {
+    let engine = Engine::new(alloc).map_err(|_| Fault::NoMemory)?;
     begin(listener, service.port)?;
     announce(alloc, service.port, out)?;
-    answer_all(alloc, listener, &service, desk, err)
+    answer_all(&engine, listener, &service, desk, err)
 }
 
 // Begins to listen at the port.
@@ -169,7 +170,7 @@ fn announce<O: Sink>(alloc: Global, port: u16, out: &mut O) -> Result<(), Fault>
 // Serves as many connections as the service has; or fewer, where the register comes to an end. Behind each there is a desk
 // that stands for the book after it.
 fn answer_all<D: Lasting, L: Listener, E: Sink>(
-    alloc: Global,
+    engine: &Engine,
     listener: &mut L,
     service: &Service,
     desk: &mut D,
@@ -183,7 +184,7 @@ fn answer_all<D: Lasting, L: Listener, E: Sink>(
     ensures fault { IfErr result (λ fault. (fault ≡ CannotListen) ⊎ (fault ≡ Register Unavailable)) }
 {
     for _ in 0..service.count {
-        let lasts = answer_next(alloc, listener, service.seconds, desk, err)?;
+        let lasts = answer_next(engine, listener, service.seconds, desk, err)?;
         if !lasts {
             return Err(Fault::Register(StoreFault::Unavailable));
         }
@@ -193,7 +194,7 @@ fn answer_all<D: Lasting, L: Listener, E: Sink>(
 
 // Serves the next connection, and prints the word of its fault, if it has one. Gives whether another can be served.
 fn answer_next<D: Lasting, L: Listener, E: Sink>(
-    alloc: Global,
+    engine: &Engine,
     listener: &mut L,
     seconds: u32,
     desk: &mut D,
@@ -209,10 +210,10 @@ fn answer_next<D: Lasting, L: Listener, E: Sink>(
     ensures stays { OnErr result (desk.new ≡ desk.old) }
     ensures quiet { OnErr result (err.new ≡ err.old) }
 {
-    match serve_next(alloc, listener, seconds, desk) {
+    match serve_next(engine, listener, seconds, desk) {
         Ok(done) => {
             tell_end(done, err);
-            Ok(desk.lasts(alloc))
+            Ok(desk.lasts(engine.alloc()))
         }
         Err(_) => Err(Fault::CannotListen),
     }
@@ -232,7 +233,7 @@ fn tell_end<E: Sink>(done: Result<Served, LinkFault>, err: &mut E)
 /// a fault and that its reply is flushed is promised as of [`serve_one`]. It is an error where no connection
 /// could be accepted; then all is as it was. The connection is to last so many seconds at most: no clause speaks of time.
 pub fn serve_next<D: Desk, L: Listener>(
-    alloc: Global,
+    engine: &Engine,
     listener: &mut L,
     seconds: u32,
     desk: &mut D,
@@ -248,7 +249,7 @@ pub fn serve_next<D: Desk, L: Listener>(
     ensures kept { OnErr result (desk.new ≡ desk.old) }
 {
     let (mut reader, mut writer) = listener.accept(seconds)?;
-    let done = serve_one(alloc, &mut reader, &mut writer, desk);
+    let done = serve_one(engine, &mut reader, &mut writer, desk);
     listener.close(reader, writer, &done);
     Ok(done)
 }

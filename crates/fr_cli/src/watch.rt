@@ -15,7 +15,11 @@ use std::path::PathBuf;
 pub(crate) struct Watch<'a> {
     rt: &'a HostRuntime,
     db: &'a str,
+    // Beside the file to which the path led first.
+    log: String,
     seen: Sight,
+    // Whether what the register wrote last was seen.
+    noted: bool,
 }
 
 /// Why a register's files are not watched.
@@ -115,52 +119,85 @@ impl Mark {
 impl<'a> Watch<'a> {
     /// Watches the files at this path from now on.
     pub fn new(rt: &'a HostRuntime, db: &'a str) -> Result<Watch<'a>, WatchFault> {
-        let seen = look(rt, db)?;
-        Ok(Watch { rt, db, seen })
+        let log = log_of(rt, db)?;
+        let seen = look(rt, db, &log)?;
+        Ok(Watch {
+            rt,
+            db,
+            log,
+            seen,
+            noted: true,
+        })
     }
 
     /// Takes the files' lengths and times as they are now, since the register itself wrote to them. It keeps which files
-    /// were seen first. So a file that was put in the place of one of these is still told from it.
-    pub fn note_own_writes(&mut self)
+    /// were seen first. So a file that was put in the place of one of these is still told from it. Where they cannot be
+    /// looked at, the next look takes them. Gives whether they are still those that were seen first, as `holds` does.
+    pub fn note_own_writes(&mut self) -> bool
         ensures db { let seen = self.old.seen.db in let now = self.new.seen.db in
             (now.device ≡ seen.device) × (now.inode ≡ seen.inode) }
         ensures log { let seen = self.old.seen.log in let now = self.new.seen.log in
             (now.device ≡ seen.device) × (now.inode ≡ seen.inode) }
         ensures path { self.new.db ≡ self.old.db }
     {
-        if let Ok(now) = look(self.rt, self.db) {
-            self.seen = self.seen.written_as(now);
-        }
+        self.noted = false;
+        self.holds()
+    }
+
+    // Takes the lengths and times that are seen now.
+    fn note(&mut self, now: Sight)
+        ensures db { let seen = self.old.seen.db in let now = self.new.seen.db in
+            (now.device ≡ seen.device) × (now.inode ≡ seen.inode) }
+        ensures log { let seen = self.old.seen.log in let now = self.new.seen.log in
+            (now.device ≡ seen.device) × (now.inode ≡ seen.inode) }
+        ensures path { self.new.db ≡ self.old.db }
+    {
+        self.seen = self.seen.written_as(now);
+        self.noted = true;
     }
 
     /// Whether the files are those that were seen first, as they were written last. Where they cannot be looked at,
     /// other than because one is missing, nothing tells against it.
-    pub fn holds(&self) -> bool {
-        match look(self.rt, self.db) {
-            Ok(now) => now == self.seen,
+    pub fn holds(&mut self) -> bool
+        ensures db { let seen = self.old.seen.db in let now = self.new.seen.db in
+            (now.device ≡ seen.device) × (now.inode ≡ seen.inode) }
+        ensures log { let seen = self.old.seen.log in let now = self.new.seen.log in
+            (now.device ≡ seen.device) × (now.inode ≡ seen.inode) }
+        ensures path { self.new.db ≡ self.old.db }
+    {
+        match look(self.rt, self.db, &self.log) {
+            Ok(now) => {
+                if !self.noted {
+                    self.note(now);
+                }
+                now == self.seen
+            }
             Err(fault) => fault.kind() != ErrorKind::NotFound,
         }
     }
 }
 
-// What is seen at a register's path, where it leads now, and of the log beside that.
-fn look(rt: &HostRuntime, path: &str) -> io::Result<Sight> {
+// The path of the log, which lies beside the file to which this path leads.
+fn log_of(rt: &HostRuntime, path: &str) -> io::Result<String> {
     let db: PathBuf = fs::canonicalize(rt, path)?;
-    let log = format!(in rt.alloc(); "{}-wal", db.as_str())?;
+    Ok(format!(in rt.alloc(); "{}-wal", db.as_str())?)
+}
+
+// What is seen of the file to which a path leads now, and of this log.
+fn look(rt: &HostRuntime, path: &str, log: &str) -> io::Result<Sight> {
     Ok(Sight {
-        db: mark_at(rt, db.as_str())?,
-        log: mark_at(rt, log.as_str())?,
+        db: mark_of(&fs::metadata(rt, path)?),
+        log: mark_of(&fs::symlink_metadata(rt, log)?),
     })
 }
 
-// What is seen at a path.
-fn mark_at(rt: &HostRuntime, path: &str) -> io::Result<Mark> {
-    let found = fs::symlink_metadata(rt, path)?;
-    Ok(Mark {
+// What is seen of a file.
+fn mark_of(found: &fs::Metadata) -> Mark {
+    Mark {
         device: found.dev(),
         inode: found.ino(),
         bytes: found.len(),
         seconds: found.mtime(),
         nanoseconds: found.mtime_nsec(),
-    })
+    }
 }

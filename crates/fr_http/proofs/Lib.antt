@@ -13,3 +13,4 @@ pub mod AlonePictures
 pub mod DealingLaws
 pub mod ExchangeLaws
 pub mod OutcomeLaws
+pub mod CompleteLaws

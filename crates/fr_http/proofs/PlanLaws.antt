@@ -1,6 +1,6 @@
 -- Laws of what a head asks for.
-use Rattle.std.proofs.Common.{◌≡◌, ℕ, ◌<◌, ◌≤◌, ◌+◌, ◌*◌, ◌-◌, Bool, true, false, List, [], ◌∷◌, length, take, get_or, Option, Some, None, Ok, Err, refl, sym, ap, ◌∙◌, arith, inl, inr, Bor, if◌then◌else◌}
-use Rattle.std.proofs.lemmas.Bool.{cases_Bool, lt-ltb, le-ltb, and_parts}
+use Rattle.std.proofs.Common.{◌≡◌, ℕ, ◌<◌, ◌≤◌, ◌+◌, ◌*◌, ◌-◌, Bool, true, false, List, [], ◌∷◌, length, take, get_or, Option, Some, None, Ok, Err, IfOk, nat_lt, refl, sym, ap, ◌∙◌, arith, inl, inr, Bor, if◌then◌else◌}
+use Rattle.std.proofs.lemmas.Bool.{cases_Bool, lt-ltb, le-ltb, ltb-false, and_parts}
 use Rattle.std.proofs.lemmas.Int.Digits.{digits_value_more}
 use Rattle.std.proofs.lemmas.List.{take_all}
 use Rattle.std.proofs.lemmas.List.Folds.{list_all_at}
@@ -13,12 +13,15 @@ use Rattle.std.specs.List.{list_all}
 use Rattle.std.specs.Prelude.{codes}
 use Rattle.std.specs.Str.Parse.{digits_value}
 use Rattle.fr_base.specs.Names.{same_text}
+use Rattle.fr_base.proofs.SoundRefusing.{gives_bind, gives_or, gives_unless, gives_when}
 use Rattle.fr_base.specs.Refusing.{◌>>=◌, ◌>>◌, ◌or◌, refuse◌when◌}
 use Rattle.fr_http.specs.Head.{HeadData, values}
 use Rattle.fr_http.specs.Outcome.{body_length, is_decimal, length_in, max_body, plan_of, route_to}
 use Rattle.fr_http.specs.Routes.{allowed, ascii_text, chosen, matched, method_of, path_of, route_of, text_of_method}
 use Rattle.fr_http.specs.declared.fault.Rejection.{Rejection}
 use Rattle.fr_http.specs.declared.fault.Rejection.TheVariants.{BadRequest, NotFound, MethodNotAllowed, LengthRequired, PayloadTooLarge, NotImplemented}
+use Rattle.fr_http.specs.declared.method.Method.{Method}
+use Rattle.fr_http.specs.declared.method.Method.TheVariants.{Get, Post, Put}
 use Rattle.fr_http.specs.declared.routes.Route.{Route}
 
 -- ---- the length of a body
@@ -110,6 +113,30 @@ pub planned : (head : HeadData) (route : Route) (n : ℕ) → Plain head → rou
     → plan_of head ≡ Ok (record { route = route; length = n })
 unfolding plan_of ◌>>=◌ ◌>>◌ ◌or◌ refuse◌when◌
 planned head route n plain found same fits = rw plain (rw found (rw same (rw fits refl)))
+
+-- ---- a body that is read keeps the bound
+
+length_fits : (values : List (List ℕ)) → IfOk (length_in values) (λ n. n ≤ max_body)
+unfolding length_in
+length_fits [] = tt
+length_fits (value ∷ []) =
+    gives_unless _ _ (is_decimal value) _ (λ is.
+    gives_when _ _ (nat_lt max_body (digits_value 10 value)) _ (λ fits. ltb-false max_body (digits_value 10 value) fits))
+length_fits (a ∷ b ∷ more) = tt
+
+body_fits : (method : Method) (head : HeadData) → IfOk (body_length method head) (λ n. n ≤ max_body)
+body_fits Get head = omega arith
+body_fits Post head = length_fits (values (codes "content-length") head.fields)
+body_fits Put head = length_fits (values (codes "content-length") head.fields)
+
+-- where a head wants a body, it is no longer than a body may be
+pub wanted_fits : (head : HeadData) → IfOk (plan_of head) (λ w. w.length ≤ max_body)
+unfolding plan_of
+wanted_fits head =
+    gives_when _ _ (nat_lt 0 (length (values (codes "transfer-encoding") head.fields))) _ (λ _.
+    gives_or _ (route_to head) _ _ (λ route _.
+    gives_unless _ _ (same_text head.method (text_of_method (method_of route))) _ (λ _.
+    gives_bind _ (λ n. n ≤ max_body) (body_length (method_of route) head) _ (body_fits (method_of route) head) (λ n fits. fits))))
 
 -- ---- the first of what is left
 

@@ -55,12 +55,12 @@ received_at : (bytes : List ℕ) (fields : List HeaderSpan) (spans : RequestSpan
 received_at bytes fields spans h at = λ i. record { method = at.method i; target = at.path i; minor = at.version i; fields = at.fields i }
 
 -- the spans of a whole head show it
-pub receives : (bytes : List ℕ) (fields : List HeaderSpan) (spans : RequestSpans) → length bytes ≤ max_head → length fields ≡ max_fields
+pub receives : (bytes : List ℕ) (fields : List HeaderSpan) (spans : RequestSpans) → spans.len ≤ max_head → length fields ≡ max_fields
     → IsRequestWithin bytes fields spans → IsRequestOf bytes fields spans → Receives bytes (shown bytes fields spans)
 receives bytes fields spans size room within (h, at) =
     let count : length (map (header_bytes bytes) (take spans.headers fields)) ≡ length (map name_and_value h.fields) = ap length at.fields in
     let lines : length h.fields ≤ max_fields = omega (arith, sym (length-map (take spans.headers fields) (header_bytes bytes)) ∙ count ∙ length-map h.fields name_and_value, length-take spans.headers fields, room) in
-    (h, record { reads = at.reads; size = omega (arith, at.len, within.section.len_fits, size); lines = lines }, received_at bytes fields spans h at)
+    (h, record { reads = at.reads; size = omega (arith, at.len, size); lines = lines }, received_at bytes fields spans h at)
 
 -- what is read into the room that is left stays within the bound
 pub within_room : (k n : ℕ) (bytes piece : List ℕ) → length bytes ≤ k → length piece ≡ k - length bytes → length (bytes ++ take n piece) ≤ k

@@ -1,5 +1,5 @@
 -- Laws of a connection's outcome.
-use Rattle.std.proofs.Common.{◌≡◌, ℕ, Bool, true, false, List, [], ◌∷◌, ◌++◌, length, ◌≤◌, ◌-◌, Option, Some, None, Result, Ok, Err, refl, sym, ap, ◌∙◌, subst, append_assoc, length-append, inl, inr, arith}
+use Rattle.std.proofs.Common.{◌≡◌, ℕ, Bool, true, false, List, [], ◌∷◌, ◌++◌, length, ◌≤◌, ◌-◌, ◌⊎◌, Option, Some, None, Result, Ok, Err, refl, sym, ap, ◌∙◌, subst, append_assoc, length-append, inl, inr, arith}
 use Rattle.std.proofs.KnownBytes.{Appends-kept, Appends-nil, Appends-trans, Consumes-trans, Keeps-refl}
 use Rattle.std.specs.Io.KnownBytes.{Appends, Consumes, Keeps}
 use Rattle.httparse.specs.Grammar.{RequestHead}
@@ -10,6 +10,7 @@ use Rattle.fr_base.specs.Refusing.{◌>>=◌, ◌>>◌, ◌or◌}
 use Rattle.fr_base.specs.Sound.{IsSound}
 use Rattle.fr_base.specs.declared.actor.Actor.{Actor}
 use Rattle.fr_base.specs.declared.refusal.Refusal.TheVariants.{BadText, UnknownKey}
+use Rattle.fr_base.specs.declared.request.Request.{Request}
 use Rattle.fr_picture.specs.Reports.{Standing}
 use Rattle.fr_http.specs.Asking.{FindsActor, MakesMatter}
 use Rattle.std.specs.Prelude.{IfOk}
@@ -21,53 +22,69 @@ use Rattle.fr_http.specs.Connection.{AppendsFront, HasAnswered, HasDealt, HasRep
 use Rattle.fr_http.specs.Exchanges.{Deals, Dealing, IsAnswered, IsBrokenOff, IsExchange, IsFront, IsInterim, IsTold, IsUnasked, unasked_reply}
 use Rattle.fr_http.specs.Head.{BeginsWith, HeadData, key_of, max_head, said}
 use Rattle.fr_http.specs.Outcome.{IsOutcome, Wanted, asked_before, asked_by, continue_if, continue_reply, due, front, holder, interim, outcome_of, plan_of}
-use Rattle.fr_http.specs.Planning.{Plans}
 use Rattle.fr_http.specs.Reading.{HasReceived, LacksBody}
-use Rattle.fr_http.specs.Routes.{matter_by, method_of, path_of}
+use Rattle.fr_http.specs.Routes.{asked_or_refused, matter_by, method_of, path_of}
 use Rattle.fr_http.specs.declared.asking.Exchange.{Exchange}
 use Rattle.fr_http.specs.declared.asking.Matter.{Matter}
 use Rattle.fr_http.specs.declared.fault.LinkFault.{LinkFault}
 use Rattle.fr_http.specs.declared.fault.LinkFault.TheVariants.{Truncated, ReadFailed, TooManyReads, WriteFailed, NoMemory}
 use Rattle.fr_http.specs.declared.fault.Rejection.{Rejection}
 use Rattle.fr_http.specs.declared.fault.Unasked.{Unasked}
-use Rattle.fr_http.specs.declared.fault.Unasked.TheVariants.{Engine, Refused, Fault}
+use Rattle.fr_http.specs.declared.fault.Unasked.TheVariants.{Engine, Page, Refused, Fault}
+use Rattle.fr_http.specs.declared.routes.Route.{Route}
+use Rattle.fr_http.specs.declared.routes.Route.TheVariants.{Commands, Import, Replace, Try, Query, Picture, Page as OwnPage}
 
 -- ---- outcomes, step by step
 
-rejected : (who : List ℕ → Option Actor) (head : HeadData) (rest : List ℕ) (r : Rejection) → plan_of head ≡ Err r → outcome_of who head rest ≡ Err (Engine r)
+pub rejected : (who : List ℕ → Option Actor) (head : HeadData) (rest : List ℕ) (r : Rejection) → plan_of head ≡ Err r → outcome_of who head rest ≡ Err (Engine r)
 unfolding outcome_of ◌>>=◌ ◌>>◌ ◌or◌
 rejected who head rest r h = rw h refl
 
-cut : (who : List ℕ → Option Actor) (head : HeadData) (rest : List ℕ) (w : Wanted) → plan_of head ≡ Ok w → front w.length rest ≡ None
+pub cut : (who : List ℕ → Option Actor) (head : HeadData) (rest : List ℕ) (w : Wanted) → plan_of head ≡ Ok w → front w.length rest ≡ None
     → outcome_of who head rest ≡ Err (Fault Truncated)
 unfolding outcome_of ◌>>=◌ ◌>>◌ ◌or◌
 cut who head rest w h none = rw h (rw none refl)
 
-no_text : (who : List ℕ → Option Actor) (head : HeadData) (rest body : List ℕ) (w : Wanted) → plan_of head ≡ Ok w → front w.length rest ≡ Some body
-    → matter_by w.route (path_of head.target) body ≡ None → outcome_of who head rest ≡ Err (Refused BadText)
+no_text : (who : List ℕ → Option Actor) (head : HeadData) (rest body : List ℕ) (w : Wanted) (unasked : Unasked) → plan_of head ≡ Ok w → front w.length rest ≡ Some body
+    → matter_by w.route (path_of head.target) body ≡ Err unasked → outcome_of who head rest ≡ Err unasked
 unfolding outcome_of ◌>>=◌ ◌>>◌ ◌or◌
-no_text who head rest body w h there none = rw h (rw there (rw none refl))
+no_text who head rest body w unasked h there none = rw h (rw there (rw none refl))
+
+-- a route asks nothing because it is that of the planner's page, or because a text is no request
+refused_or_page : (asked : Option Request) (unasked : Unasked) → asked_or_refused asked ≡ Err unasked → (unasked ≡ Page) ⊎ (unasked ≡ Refused BadText)
+refused_or_page (Some request) unasked is = grind (arith, is)
+refused_or_page None unasked is = grind (arith, is)
+
+pub why_not : (route : Route) (path body : List ℕ) (unasked : Unasked) → matter_by route path body ≡ Err unasked → (unasked ≡ Page) ⊎ (unasked ≡ Refused BadText)
+unfolding matter_by
+why_not OwnPage path body unasked is = grind (arith, is)
+why_not Commands path body unasked is = refused_or_page _ unasked is
+why_not Import path body unasked is = grind (arith, is)
+why_not Replace path body unasked is = grind (arith, is)
+why_not (Try replaces) path body unasked is = grind (arith, is)
+why_not (Query asked) path body unasked is = refused_or_page _ unasked is
+why_not Picture path body unasked is = grind (arith, is)
 
 nobody : (who : List ℕ → Option Actor) (head : HeadData) (rest body : List ℕ) (w : Wanted) (what : Matter) → plan_of head ≡ Ok w → front w.length rest ≡ Some body
-    → matter_by w.route (path_of head.target) body ≡ Some what → holder who (key_of head) ≡ None → outcome_of who head rest ≡ Err (Refused UnknownKey)
+    → matter_by w.route (path_of head.target) body ≡ Ok what → holder who (key_of head) ≡ None → outcome_of who head rest ≡ Err (Refused UnknownKey)
 unfolding outcome_of ◌>>=◌ ◌>>◌ ◌or◌
 nobody who head rest body w what h there made none = rw h (rw there (rw made (rw none refl)))
 
 asks : (who : List ℕ → Option Actor) (head : HeadData) (rest body : List ℕ) (w : Wanted) (what : Matter) (actor : Actor) → plan_of head ≡ Ok w
-    → front w.length rest ≡ Some body → matter_by w.route (path_of head.target) body ≡ Some what → holder who (key_of head) ≡ Some actor
+    → front w.length rest ≡ Some body → matter_by w.route (path_of head.target) body ≡ Ok what → holder who (key_of head) ≡ Some actor
     → outcome_of who head rest ≡ Ok (asked_by actor (method_of w.route) what)
 unfolding outcome_of ◌>>=◌ ◌>>◌ ◌or◌
 asks who head rest body w what actor h there made found = rw h (rw there (rw made (rw found refl)))
 
-interim_none : (head : HeadData) (r : Rejection) → plan_of head ≡ Err r → interim head ≡ []
+pub interim_none : (head : HeadData) (r : Rejection) → plan_of head ≡ Err r → interim head ≡ []
 unfolding interim
 interim_none head r h = rw h refl
 
-interim_planned : (head : HeadData) (w : Wanted) → plan_of head ≡ Ok w → interim head ≡ continue_if (due w.length head)
+pub interim_planned : (head : HeadData) (w : Wanted) → plan_of head ≡ Ok w → interim head ≡ continue_if (due w.length head)
 unfolding interim
 interim_planned head w h = rw h refl
 
-begins_more : (bytes more rest : List ℕ) (h : RequestHead) → BeginsWith bytes h rest → BeginsWith (bytes ++ more) h (rest ++ more)
+pub begins_more : (bytes more rest : List ℕ) (h : RequestHead) → BeginsWith bytes h rest → BeginsWith (bytes ++ more) h (rest ++ more)
 begins_more bytes more rest h begins = record {
   reads = (begins.reads.0, ap (λ b. b ++ more) begins.reads.1 ∙ append_assoc _ rest more);
   size = begins.size;
@@ -92,6 +109,7 @@ received_nothing stands input left held (Engine r) (bytes, consumed, fails, size
   takes = (tt, λ c b s i. inr (record { none = fails.none; unasked = Engine r; fails = fails.fails; asks = refl; interim = refl }));
   bound = inl size;
 }
+received_nothing stands input left held Page (bytes, consumed, fails, size) = absurd fails
 received_nothing stands input left held (Refused refusal) (bytes, consumed, fails, size) = absurd fails
 received_nothing stands input left held (Fault Truncated) (bytes, consumed, fails, size) = record {
   bytes = bytes;
@@ -127,25 +145,20 @@ received_nothing stands input left held (Fault (NoMemory asked)) (bytes, consume
   bound = inl size;
 }
 
--- the engine answers to the head, or memory was wanting
-pub planned_nothing : (stands : Standing) (input left held : Option (List ℕ)) (received : HeadData × List ℕ) (unasked : Unasked) → HasReceived input left (Ok received)
-    → Plans received.0 (Err unasked) → HasTaken stands input left held held (Err unasked)
-planned_nothing stands input left held received unasked (bytes, consumed, (h, begins, head), size) (inl lacks) = record {
-  bytes = bytes;
-  written = [];
-  consumed = consumed;
-  appended = Appends-nil held;
-  takes = subst (λ u. Takes stands bytes [] left (Err u)) (sym lacks) (refl, tt);
-  bound = inl size;
-}
-planned_nothing stands input left held received unasked (bytes, consumed, (h, begins, head), size) (inr (r, is, plan)) = record {
+-- the head that was received, by another name
+pub seen : (input left : Option (List ℕ)) (head received : HeadData × List ℕ) → head ≡ received → HasReceived input left (Ok received) → HasReceived input left (Ok head)
+seen input left head received is has = subst (λ h. HasReceived input left (Ok h)) (sym is) has
+
+-- the engine answers to the head
+pub planned_nothing : (stands : Standing) (input left held : Option (List ℕ)) (received : HeadData × List ℕ) (r : Rejection) → HasReceived input left (Ok received)
+    → plan_of received.0 ≡ Err r → HasTaken stands input left held held (Err (Engine r))
+planned_nothing stands input left held received r (bytes, consumed, (h, begins, head), size) plan = record {
   bytes = bytes;
   written = [];
   consumed = consumed;
   appended = Appends-nil held;
   takes =
-      let plan_h : plan_of (said h) ≡ Err r = ap plan_of (sym head) ∙ plan in
-      subst (λ u. Takes stands bytes [] left (Err u)) (sym is) (
+      let plan_h : plan_of (said h) ≡ Err r = ap plan_of (sym head) ∙ plan in (
         tt,
         λ c b s i.
             inl (record {
@@ -239,21 +252,29 @@ module _ (stands : Standing) (input mid left held now : Option (List ℕ)) (rece
   no_body invited behind (WriteFailed asked) lacks = absurd lacks
   no_body invited behind (NoMemory asked) lacks = by_head invited behind _ (lacks, is_interim invited)
 
-  -- a request's text is none, or memory was wanting
+  -- a request's text is none, or the planner's page is asked for, or memory was wanting
   pub no_matter : (invited : Invited input mid held now received w) → Behind mid left received w more → (body : List ℕ) → front w.length (received.1 ++ more) ≡ Some body
       → (unasked : Unasked) → MakesMatter w.route (path_of received.0.target) body (Err unasked) → HasTaken stands input left held now (Err unasked)
   no_matter invited behind body there unasked (inl lacks) =
       subst (λ u. HasTaken stands input left held now (Err u)) (sym lacks) (by_head invited behind _ (refl, is_interim invited))
-  no_matter invited behind body there unasked (inr (is, none)) =
-      subst (λ u. HasTaken stands input left held now (Err u)) (sym is) (by_head invited behind _ (
+  no_matter invited behind body there unasked (inr none) = because (why_not w.route (path_of received.0.target) body unasked none)
+    where
+      outcome : (c : Cluster) (b : Book) → stands c b → IsSound c b → IsOutcome (actor_of c b) (invited.has.0 ++ more) (continue_if (due w.length received.0)) (Err unasked)
+      outcome c b s i = outcome_with invited (actor_of c b) (Err unasked) (no_text (actor_of c b) received.0 (received.1 ++ more) body w unasked invited.plan there none)
+
+      because : (unasked ≡ Page) ⊎ (unasked ≡ Refused BadText) → HasTaken stands input left held now (Err unasked)
+      because (inl is) = subst (λ u. HasTaken stands input left held now (Err u)) (sym is) (by_head invited behind (Err Page) (
         is_interim invited,
-        λ c b s i.
-            outcome_with invited (actor_of c b) _ (no_text (actor_of c b) received.0 (received.1 ++ more) body w invited.plan there none),
+        λ c b s i. subst (λ u. IsOutcome (actor_of c b) (invited.has.0 ++ more) (continue_if (due w.length received.0)) (Err u)) is (outcome c b s i),
+      ))
+      because (inr is) = subst (λ u. HasTaken stands input left held now (Err u)) (sym is) (by_head invited behind (Err (Refused BadText)) (
+        is_interim invited,
+        λ c b s i. subst (λ u. IsOutcome (actor_of c b) (invited.has.0 ++ more) (continue_if (due w.length received.0)) (Err u)) is (outcome c b s i),
       ))
 
   -- the key is nobody's
   pub no_actor : (invited : Invited input mid held now received w) → Behind mid left received w more → (body : List ℕ) → front w.length (received.1 ++ more) ≡ Some body
-      → (what : Matter) → matter_by w.route (path_of received.0.target) body ≡ Some what → FindsActor stands received.0 None
+      → (what : Matter) → matter_by w.route (path_of received.0.target) body ≡ Ok what → FindsActor stands received.0 None
       → HasTaken stands input left held now (Err (Refused UnknownKey))
   no_actor invited behind body there what made none =
       by_head invited behind _ (
@@ -264,7 +285,7 @@ module _ (stands : Standing) (input mid left held now : Option (List ℕ)) (rece
 
   -- the register is to be asked
   pub to_ask : (invited : Invited input mid held now received w) → Behind mid left received w more → (body : List ℕ) → front w.length (received.1 ++ more) ≡ Some body
-      → (what : Matter) → matter_by w.route (path_of received.0.target) body ≡ Some what → (actor : Actor) → FindsActor stands received.0 (Some actor)
+      → (what : Matter) → matter_by w.route (path_of received.0.target) body ≡ Ok what → (actor : Actor) → FindsActor stands received.0 (Some actor)
       → HasTaken stands input left held now (Ok (asked_by actor (method_of w.route) what))
   to_ask invited behind body there what made actor found =
       by_head invited behind _ (

@@ -24,7 +24,7 @@ use Rattle.fr_http.specs.Reply.{answer_reply, body_of, engine_reply, page_reply,
 use Rattle.fr_http.specs.declared.asking.Exchange.TheVariants as exchange
 use Rattle.fr_http.specs.declared.asking.Matter.TheVariants as matter
 use Rattle.fr_http.specs.declared.fault.Rejection.TheVariants.{BadRequest, NotFound, MethodNotAllowed, LengthRequired, PayloadTooLarge, HeadTooLarge, NotImplemented}
-use Rattle.fr_http.specs.declared.fault.Unasked.TheVariants.{Refused, Fault}
+use Rattle.fr_http.specs.declared.fault.Unasked.TheVariants.{Page, Refused, Fault}
 use Rattle.fr_http.specs.declared.fault.LinkFault.TheVariants.{Truncated}
 use Rattle.fr_http.specs.declared.method.Allowed.TheVariants.{Only, PostAndPut}
 use Rattle.fr_http.specs.declared.method.Method.TheVariants.{Get, Post, Put}
@@ -32,12 +32,15 @@ use Rattle.fr_base.specs.declared.import.Header.TheVariants as header
 use Rattle.fr_base.specs.declared.query.Inventory.TheVariants.{Cluster, Variants, Nodes}
 use Rattle.fr_base.specs.declared.query.Query.TheVariants.{Register as OfRegister, Variant as OfVariant}
 use Rattle.fr_base.specs.declared.report.Report.TheVariants.{Grants, Frames, Schedule, Gaps, Layout, Load, Room, Export}
-use Rattle.fr_http.specs.declared.routes.Route.TheVariants.{Commands, Import, Replace, Try, Query, Picture}
+use Rattle.fr_http.specs.declared.routes.Route.TheVariants.{Commands, Import, Replace, Try, Query, Picture, Page as OwnPage}
 
 -- what an answer unfolds to compute these definitions
 unfoldable rows : ⊤
 unfolding seek param_step scan values part matter_by route_of router table with_route interim due length_in outcome_of route_to plan_of answer_reply engine_reply page_reply body_of print ◌>>=◌ ◌>>◌ ◌or◌ refuse◌when◌ report_of text_of text_of_refusal lines_of lines_of_rows frame_record header_line node_line schedule_line number plain_lines json_lines right_in digits
 rows = tt
+
+abbrev head : List ℕ → List ℕ → List (List ℕ × List ℕ) → HeadData
+head method target fields = record { method = method; target = target; minor = 1; fields = fields }
 
 -- ---- routes
 
@@ -63,6 +66,21 @@ pub routes_of_rows : map route_of (codes "/v1/variants/v1/load" ∷ codes "/v1/v
 unfolding rows
 routes_of_rows = refl
 
+-- the planner's page stands at the first path alone, which has no other method, and a `?` behind it changes nothing
+pub route_of_the_page :
+    map plan_of (
+    head (codes "GET") (codes "/") [] ∷ head (codes "GET") (codes "/?x=1") [] ∷ head (codes "POST") (codes "/") [] ∷ head (codes "GET") (codes "//") []
+    ∷ head (codes "GET") (codes "/index.html") [] ∷ []
+    )
+    ≡ Ok (record { route = OwnPage; length = 0 }) ∷ Ok (record { route = OwnPage; length = 0 }) ∷ Err (MethodNotAllowed (Only Get)) ∷ Err NotFound ∷ Err NotFound ∷ []
+unfolding rows
+route_of_the_page = refl
+
+-- whoever has which key, nothing is asked of it
+pub page_for_everybody : (who : List ℕ → Option Actor) → outcome_of who (head (codes "GET") (codes "/") []) (codes "x") ≡ Err Page
+unfolding rows
+page_for_everybody who = refl
+
 pub route_of_room : route_of (codes "/v1/variants/v/frames/f/room/4") ≡ Some (of_variant (Room 5 7))
 unfolding rows
 route_of_room = refl
@@ -81,8 +99,8 @@ pub matters :
     ∷ matter_by (of_variant (Layout 5)) (codes "/v1/variants/v1/frames/f1/layout") []
     ∷ matter_by Picture (codes "/v1/variants/v1/picture") []
     ∷ []
-    ≡ Some (matter.Request (request.Import (codes "v1") (codes "a") (codes "x"))) ∷ Some (matter.Request (request.Query (OfVariant (codes "v1") Schedule)))
-    ∷ Some (matter.Request (request.Query (OfVariant (codes "v1") (Layout (codes "f1"))))) ∷ Some (matter.Picture (codes "v1")) ∷ []
+    ≡ Ok (matter.Request (request.Import (codes "v1") (codes "a") (codes "x"))) ∷ Ok (matter.Request (request.Query (OfVariant (codes "v1") Schedule)))
+    ∷ Ok (matter.Request (request.Query (OfVariant (codes "v1") (Layout (codes "f1"))))) ∷ Ok (matter.Picture (codes "v1")) ∷ []
 unfolding rows
 matters = refl
 
@@ -91,25 +109,22 @@ pub matters_of_rows :
     ∷ matter_by (of_variant (Room 5 7)) (codes "/v1/variants/v1/frames/f1/room/0000000004") []
     ∷ matter_by (export header.Signals) (codes "/v1/variants/v1/exports/signals/4294967295") []
     ∷ []
-    ≡ Some (matter.Request (request.Replace (codes "v1") (codes "x")))
-    ∷ Some (matter.Request (request.Query (OfVariant (codes "v1") (Room (codes "f1") 4))))
-    ∷ Some (matter.Request (request.Query (OfVariant (codes "v1") (Export header.Signals 4294967295))))
+    ≡ Ok (matter.Request (request.Replace (codes "v1") (codes "x")))
+    ∷ Ok (matter.Request (request.Query (OfVariant (codes "v1") (Room (codes "f1") 4))))
+    ∷ Ok (matter.Request (request.Query (OfVariant (codes "v1") (Export header.Signals 4294967295))))
     ∷ []
 unfolding rows
 matters_of_rows = refl
 
--- where a number is none, nothing is asked for
+-- where a number is none, the request is refused
 pub no_numbers :
     map (λ text. matter_by (export header.Frames) (codes "/v1/variants/v1/exports/frames/" ++ text) [])
     (codes "x" ∷ codes "-1" ∷ codes "+1" ∷ codes "1.0" ∷ codes "4294967296" ∷ codes "00000000000" ∷ [])
-    ≡ None ∷ None ∷ None ∷ None ∷ None ∷ None ∷ []
+    ≡ Err (Refused refusal.BadText) ∷ Err (Refused refusal.BadText) ∷ Err (Refused refusal.BadText) ∷ Err (Refused refusal.BadText) ∷ Err (Refused refusal.BadText) ∷ Err (Refused refusal.BadText) ∷ []
 unfolding rows
 no_numbers = refl
 
 -- ---- heads
-
-abbrev head : List ℕ → List ℕ → List (List ℕ × List ℕ) → HeadData
-head method target fields = record { method = method; target = target; minor = 1; fields = fields }
 
 -- a command with such fields beside its key
 abbrev command : List (List ℕ × List ℕ) → HeadData
@@ -164,7 +179,7 @@ tries = refl
 
 pub matters_of_tries :
     matter_by (Try false) (codes "/v1/variants/v1/tries") (codes "x") ∷ matter_by (Try true) (codes "/v1/variants/v1/tries") (codes "x") ∷ []
-    ≡ Some (matter.Request (request.Try (codes "v1") false (codes "x"))) ∷ Some (matter.Request (request.Try (codes "v1") true (codes "x"))) ∷ []
+    ≡ Ok (matter.Request (request.Try (codes "v1") false (codes "x"))) ∷ Ok (matter.Request (request.Try (codes "v1") true (codes "x"))) ∷ []
 unfolding rows
 matters_of_tries = refl
 

@@ -1,18 +1,20 @@
 -- Writes and flushes that failed, and faults that are none of writing.
-use Rattle.std.proofs.Common.{◌≡◌, Bool, cond, ℕ, List, Option, Result, Ok, Err, inl, inr, refl, sym, subst}
+use Rattle.std.proofs.Common.{◌≡◌, Bool, cond, ℕ, List, Option, Result, Ok, Err, inl, inr, refl, sym, subst, ◌⊎◌}
 use Rattle.std.specs.Prelude.{◌↔◌, IsOk, OnErr, ⊤}
 use Rattle.std.specs.declared.io.Error.{Error}
 use Rattle.fr_text.specs.Writing.{Ends, IsWriting, Progress, Writes}
 use Rattle.fr_text.specs.declared.output.WriteFailed.{WriteFailed as Unwritten}
 use Rattle.fr_http.specs.Asking.{MakesMatter}
 use Rattle.fr_http.specs.Head.{HeadData}
-use Rattle.fr_http.specs.Planning.{Plans}
 use Rattle.fr_http.specs.Reading.{HasReceived, LacksBody}
 use Rattle.fr_http.specs.Writes.{Flushes, LastFailed, MayFail, MayFailAsking}
 use Rattle.fr_http.specs.declared.fault.LinkFault.{LinkFault}
 use Rattle.fr_http.specs.declared.fault.LinkFault.TheVariants.{Truncated, ReadFailed, TooManyReads, WriteFailed, NoMemory}
 use Rattle.fr_http.specs.declared.fault.Unasked.{Unasked}
-use Rattle.fr_http.specs.declared.fault.Unasked.TheVariants.{Engine, Fault, Refused}
+use Rattle.fr_http.specs.declared.fault.Unasked.TheVariants.{Engine, Fault, Page, Refused}
+use Rattle.fr_base.specs.declared.refusal.Refusal.TheVariants.{BadText}
+use Rattle.fr_http.specs.Reads.{MayEndAsking, Reads}
+use Rattle.fr_http.proofs.ServeLaws.{why_not}
 use Rattle.fr_http.specs.declared.routes.Route.{Route}
 
 module _ {W : Type 0} (writes : Writes W) (flushes : Flushes W) where
@@ -38,17 +40,13 @@ module _ {W : Type 0} (writes : Writes W) (flushes : Flushes W) where
   -- where no head came
   pub unreceived : (input left : Option (List ℕ)) (unasked : Unasked) (last : W) → HasReceived input left (Err unasked) → MayFailAsking writes flushes unasked last
   unreceived input left (Engine rejection) last has = tt
+  unreceived input left Page last has = tt
   unreceived input left (Refused refusal) last has = tt
   unreceived input left (Fault Truncated) last has = tt
   unreceived input left (Fault ReadFailed) last has = tt
   unreceived input left (Fault TooManyReads) last has = tt
   unreceived input left (Fault (WriteFailed asked)) last (bytes, consumed, fails, size) = absurd fails
   unreceived input left (Fault (NoMemory asked)) last has = tt
-
-  -- where the head asks for nothing
-  pub unplanned : (head : HeadData) (unasked : Unasked) (last : W) → Plans head (Err unasked) → MayFailAsking writes flushes unasked last
-  unplanned head unasked last (inl lacks) = subst (λ u. MayFailAsking writes flushes u last) (sym lacks) tt
-  unplanned head unasked last (inr (rejection, is, plan)) = subst (λ u. MayFailAsking writes flushes u last) (sym is) tt
 
   -- where the body is not whole
   pub unbodied : (n : ℕ) (bytes : List ℕ) (left : Option (List ℕ)) (fault : LinkFault) (last : W) → LacksBody n bytes left fault → MayFail writes flushes fault last
@@ -61,4 +59,18 @@ module _ {W : Type 0} (writes : Writes W) (flushes : Flushes W) where
   -- where the text is no request
   pub unmade : (route : Route) (path body : List ℕ) (unasked : Unasked) (last : W) → MakesMatter route path body (Err unasked) → MayFailAsking writes flushes unasked last
   unmade route path body unasked last (inl lacks) = subst (λ u. MayFailAsking writes flushes u last) (sym lacks) tt
-  unmade route path body unasked last (inr (is, none)) = subst (λ u. MayFailAsking writes flushes u last) (sym is) tt
+  unmade route path body unasked last (inr none) = because (why_not route path body unasked none)
+    where
+      because : (unasked ≡ Page) ⊎ (unasked ≡ Refused BadText) → MayFailAsking writes flushes unasked last
+      because (inl is) = subst (λ u. MayFailAsking writes flushes u last) (sym is) tt
+      because (inr is) = subst (λ u. MayFailAsking writes flushes u last) (sym is) tt
+
+-- a fault of reading is no cause that a route asks nothing
+pub unread : {R : Type 0} (reads : Reads R) (route : Route) (path body : List ℕ) (unasked : Unasked) (new : R) (left : ℕ) → MakesMatter route path body (Err unasked)
+    → MayEndAsking reads unasked new left
+unread reads route path body unasked new left (inl lacks) = subst (λ u. MayEndAsking reads u new left) (sym lacks) tt
+unread reads route path body unasked new left (inr none) = because (why_not route path body unasked none)
+  where
+    because : (unasked ≡ Page) ⊎ (unasked ≡ Refused BadText) → MayEndAsking reads unasked new left
+    because (inl is) = subst (λ u. MayEndAsking reads u new left) (sym is) tt
+    because (inr is) = subst (λ u. MayEndAsking reads u new left) (sym is) tt

@@ -35,12 +35,10 @@ CountsPart path slashes result = MatchResult result
     (λ number. number_in slashes path ≡ Some number)
     (λ unasked. (unasked ≡ Refused BadText) × (number_in slashes path ≡ None))
 
--- The matter is the route's; or a text is not a request, or a part of the path is not a number; or
--- memory was wanting.
+-- The matter is the route's, or that is why the route asks nothing; or memory was wanting.
 abbrev pub MakesMatter : Route → List ℕ → List ℕ → Result Matter Unasked → Type 0
-MakesMatter route path body (Ok matter) = matter_by route path body ≡ Some matter
-MakesMatter route path body (Err unasked) =
-    (unasked ≡ Fault (NoMemory false)) ⊎ ((unasked ≡ Refused BadText) × (matter_by route path body ≡ None))
+MakesMatter route path body (Ok matter) = matter_by route path body ≡ Ok matter
+MakesMatter route path body (Err unasked) = (unasked ≡ Fault (NoMemory false)) ⊎ (matter_by route path body ≡ Err unasked)
 
 -- In a sound book this actor has the head's key, or nobody has it.
 abbrev pub FindsActor : Standing → HeadData → Option Actor → Type 0

@@ -23,7 +23,7 @@ use Rattle.fr_http.specs.declared.asking.Exchange.{Exchange}
 use Rattle.fr_http.specs.declared.fault.LinkFault.{LinkFault}
 use Rattle.fr_http.specs.declared.fault.LinkFault.TheVariants.{Truncated, WriteFailed, NoMemory}
 use Rattle.fr_http.specs.declared.fault.Unasked.{Unasked}
-use Rattle.fr_http.specs.declared.fault.Unasked.TheVariants.{Engine, Refused, Fault}
+use Rattle.fr_http.specs.declared.fault.Unasked.TheVariants.{Engine, Page, Refused, Fault}
 use Rattle.fr_http.specs.declared.plan.Plan.{Plan}
 use Rattle.fr_http.specs.declared.reply.ReplyText.{ReplyText}
 use Rattle.fr_http.specs.declared.serve.Served.{Served}
@@ -65,6 +65,7 @@ abbrev pub Takes : Standing → List ℕ → List ℕ → Option (List ℕ) → 
 Takes stands bytes written left (Ok exchange) = IsInterim bytes written × InSound stands (λ c b. IsOutcome (actor_of c b) bytes written (Ok exchange))
 Takes stands bytes written left (Err (Engine rejection)) =
     IsInterim bytes written × InSound stands (λ c b. IsOutcome (actor_of c b) bytes written (Err (Engine rejection)))
+Takes stands bytes written left (Err Page) = IsInterim bytes written × InSound stands (λ c b. IsOutcome (actor_of c b) bytes written (Err Page))
 Takes stands bytes written left (Err (Refused refusal)) =
     IsInterim bytes written × InSound stands (λ c b. IsOutcome (actor_of c b) bytes written (Err (Refused refusal)))
 Takes stands bytes written left (Err (Fault Truncated)) =

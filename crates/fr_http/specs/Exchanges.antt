@@ -23,13 +23,13 @@ use Rattle.fr_picture.specs.Plans.{IsPlan}
 use Rattle.fr_picture.specs.declared.plan.Plan.{Plan}
 use Rattle.fr_http.specs.Head.{BeginsWith, said}
 use Rattle.fr_http.specs.Outcome.{IsOutcome, asked_before, continue_reply, interim}
-use Rattle.fr_http.specs.Reply.{Reply, answer_reply, engine_reply, page_reply, print}
+use Rattle.fr_http.specs.Reply.{Reply, answer_reply, engine_reply, page_reply, planner_reply, print}
 use Rattle.fr_http.specs.declared.asking.Exchange.{Exchange}
 use Rattle.fr_http.specs.declared.asking.Exchange.TheVariants as exchange
 use Rattle.fr_http.specs.declared.fault.LinkFault.{LinkFault}
 use Rattle.fr_http.specs.declared.fault.LinkFault.TheVariants.{WriteFailed}
 use Rattle.fr_http.specs.declared.fault.Unasked.{Unasked}
-use Rattle.fr_http.specs.declared.fault.Unasked.TheVariants.{Engine, Refused, Fault}
+use Rattle.fr_http.specs.declared.fault.Unasked.TheVariants.{Engine, Page, Refused, Fault}
 use Rattle.fr_http.specs.declared.method.Method.{Method}
 use Rattle.fr_http.specs.declared.method.Method.TheVariants.{Get, Post}
 use Rattle.fr_http.specs.declared.serve.Served.{Served}
@@ -63,6 +63,7 @@ was_asked (Err fault) = asked_before fault
 -- the reply where nothing is asked of the register, if there is one
 abbrev pub unasked_reply : Unasked → Option Reply
 unasked_reply (Engine rejection) = Some (engine_reply rejection)
+unasked_reply Page = Some planner_reply
 unasked_reply (Refused refusal) = Some (answer_reply Post (answer.Refused refusal))
 unasked_reply (Fault fault) = None
 

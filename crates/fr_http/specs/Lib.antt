@@ -8,6 +8,7 @@ pub mod Reads
 pub mod Writes
 pub mod Asking
 pub mod Calls
+pub mod Complete
 pub mod Reply
 pub mod Replying
 pub mod Exchanges

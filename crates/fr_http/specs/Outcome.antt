@@ -10,7 +10,7 @@ use Rattle.httparse.specs.Spans.{RequestExceeds}
 use Rattle.fr_base.specs.Names.{same_text}
 use Rattle.fr_base.specs.Refusing.{◌>>=◌, ◌>>◌, ◌or◌, refuse◌when◌}
 use Rattle.fr_base.specs.declared.actor.Actor.{Actor}
-use Rattle.fr_base.specs.declared.refusal.Refusal.TheVariants.{BadText, UnknownKey}
+use Rattle.fr_base.specs.declared.refusal.Refusal.TheVariants.{UnknownKey}
 use Rattle.fr_http.specs.Head.{BeginsWith, HasNoHead, HeadData, key_of, max_fields, max_head, said, same_but_case, values}
 use Rattle.fr_http.specs.Routes.{allowed, chosen, matter_by, method_of, path_of, route_of, text_of_method}
 use Rattle.fr_http.specs.declared.asking.Exchange.{Exchange}
@@ -123,7 +123,7 @@ unfoldable pub outcome_of : (List ℕ → Option Actor) → HeadData → List �
 outcome_of who head rest = do
   plan ← by_engine (plan_of head)
   body ← front plan.length rest or Fault Truncated
-  matter ← matter_by plan.route (path_of head.target) body or Refused BadText
+  matter ← matter_by plan.route (path_of head.target) body
   actor ← holder who (key_of head) or Refused UnknownKey
   Ok (asked_by actor (method_of plan.route) matter)
 

@@ -20,16 +20,20 @@ use Rattle.fr_base.specs.declared.query.Inventory.TheVariants.{Cluster, Variants
 use Rattle.fr_base.specs.declared.query.Query.TheVariants.{Register as OfRegister, Variant as OfVariant, Difference as OfTwo}
 use Rattle.fr_base.specs.declared.report.Report.{Report}
 use Rattle.fr_base.specs.declared.report.Report.TheVariants.{Grants, Frames, Schedule, Gaps, Layout, Load, Room, Export}
+use Rattle.fr_base.specs.declared.refusal.Refusal.TheVariants.{BadText}
+use Rattle.fr_base.specs.declared.request.Request.{Request}
 use Rattle.fr_base.specs.declared.request.Request.TheVariants as request
 use Rattle.fr_text.specs.RequestText.{request_of}
 use Rattle.fr_http.specs.declared.asking.Matter.{Matter}
 use Rattle.fr_http.specs.declared.asking.Matter.TheVariants as matter
+use Rattle.fr_http.specs.declared.fault.Unasked.{Unasked}
+use Rattle.fr_http.specs.declared.fault.Unasked.TheVariants.{Refused, Page as OwnPage}
 use Rattle.fr_http.specs.declared.method.Allowed.{Allowed}
 use Rattle.fr_http.specs.declared.method.Allowed.TheVariants.{Only, PostAndPut}
 use Rattle.fr_http.specs.declared.method.Method.{Method}
 use Rattle.fr_http.specs.declared.method.Method.TheVariants.{Get, Post, Put}
 use Rattle.fr_http.specs.declared.routes.Route.{Route}
-use Rattle.fr_http.specs.declared.routes.Route.TheVariants.{Commands, Import, Replace, Try, Query, Picture}
+use Rattle.fr_http.specs.declared.routes.Route.TheVariants.{Page, Commands, Import, Replace, Try, Query, Picture}
 
 -- a method as a request spells it
 abbrev pub text_of_method : Method → List ℕ
@@ -46,6 +50,7 @@ method_of (Try true) = Put
 method_of (Try false) = Post
 method_of (Query asked) = Get
 method_of Picture = Get
+method_of Page = Get
 
 -- the methods that a route's path allows, as a reply lists them
 abbrev pub text_of_allowed : Allowed → List ℕ
@@ -84,7 +89,8 @@ export header = of_variant (Export header 6)
 -- the part behind seven
 unfoldable pub table : List (List ℕ × Route)
 table =
-    (codes "/v1/commands", Commands)
+    (codes "/", Page)
+    ∷ (codes "/v1/commands", Commands)
     ∷ (codes "/v1/cluster", of_register Cluster)
     ∷ (codes "/v1/variants", of_register Variants)
     ∷ (codes "/v1/nodes", of_register Nodes)
@@ -142,13 +148,20 @@ part n path = unwrap_or (slice_get (slice_split (λ b. b == 47) path) n) []
 abbrev pub number_in : ℕ → List ℕ → Option ℕ
 number_in n path = result_ok (number (part n path))
 
--- What a route asks for. Its names and numbers are parts of the path, and the body is a command's
--- text or a file. Where a part is not a number, the route asks for nothing.
-unfoldable pub matter_by : Route → List ℕ → List ℕ → Option Matter
-matter_by Commands path body = option_map matter.Request (request_of body)
-matter_by Import path body = Some (matter.Request (request.Import (part 3 path) (part 5 path) body))
-matter_by Replace path body = Some (matter.Request (request.Replace (part 3 path) body))
-matter_by (Try replaces) path body = Some (matter.Request (request.Try (part 3 path) replaces body))
+-- what a text asks for; one that is no request is refused
+abbrev pub asked_or_refused : Option Request → Result Matter Unasked
+asked_or_refused (Some asked) = Ok (matter.Request asked)
+asked_or_refused None = Err (Refused BadText)
+
+-- What a route asks for, or why it asks nothing: the planner's page is the engine's own. Its names
+-- and numbers are parts of the path, and the body is a command's text or a file. Where a part is not
+-- a number, the route asks for nothing.
+unfoldable pub matter_by : Route → List ℕ → List ℕ → Result Matter Unasked
+matter_by Page path body = Err OwnPage
+matter_by Commands path body = asked_or_refused (request_of body)
+matter_by Import path body = Ok (matter.Request (request.Import (part 3 path) (part 5 path) body))
+matter_by Replace path body = Ok (matter.Request (request.Replace (part 3 path) body))
+matter_by (Try replaces) path body = Ok (matter.Request (request.Try (part 3 path) replaces body))
 matter_by (Query asked) path body =
-    option_map (λ query. matter.Request (request.Query query)) (query_by (λ slashes. part slashes path) (λ slashes. number_in slashes path) asked)
-matter_by Picture path body = Some (matter.Picture (part 3 path))
+    asked_or_refused (option_map request.Query (query_by (λ slashes. part slashes path) (λ slashes. number_in slashes path) asked))
+matter_by Picture path body = Ok (matter.Picture (part 3 path))

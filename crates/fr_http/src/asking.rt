@@ -5,7 +5,7 @@ ghost use Rattle.fr_http.specs.Outcome.{asked_by};
 ghost use Rattle.fr_http.specs.Routes.{part};
 
 use crate::fault::{LinkFault, Unasked};
-use crate::head::Received;
+use crate::head::Head;
 use crate::method::Method;
 use crate::plan::Plan;
 use crate::routes::{Route, part};
@@ -50,12 +50,13 @@ impl Matter {
     }
 }
 
-/// What a route asks for, with the body that came with the request.
+/// What a route asks for, with the body that came with the request, or why it asks nothing.
 #[tactic(auto, unfolding(crate::specs::Routes::matter_by))]
 pub(crate) fn asked_matter(alloc: Global, plan: &Plan<'_>, body: &[u8]) -> Result<Matter, Unasked>
     ensures { MakesMatter plan.now.route plan.now.path.now body.now result }
 {
     match plan.route {
+        Route::Page => Err(Unasked::Page),
         Route::Commands => Ok(Matter::Request(command(alloc, body)?)),
         Route::Import => Ok(Matter::Request(Request::Import {
             variant: name(alloc, plan.path, 3)?,
@@ -138,10 +139,10 @@ fn unasked_by(refusal: Refusal) -> Unasked
 }
 
 /// The actor that has the head's key, which stands in one field. A key that is not a text is nobody's.
-pub(crate) fn actor<D: Desk>(desk: &D, received: &Received) -> Option<Actor>
-    ensures { FindsActor (D.stands desk.now) received.now.0 result }
+pub(crate) fn actor<D: Desk>(desk: &D, head: &Head<'_>) -> Option<Actor>
+    ensures { FindsActor (D.stands desk.now) head.now.0 result }
 {
-    let mut values = received.values("x-office-key");
+    let mut values = head.values("x-office-key");
     let key = values.next()?;
     if values.next().is_some() {
         return None;

@@ -1,5 +1,5 @@
-//! Why a connection asks nothing: the engine answers itself, the request is refused, or a fault
-//! ends the connection.
+//! Why a connection asks nothing of the register: the engine answers itself, the request is refused,
+//! or a fault ends the connection.
 use crate::method::Allowed;
 use fr_base::{NoMemory, Refusal};
 
@@ -44,6 +44,8 @@ pub enum LinkFault {
 pub enum Unasked {
     /// The engine answers itself.
     Engine(Rejection),
+    /// The planner's page is asked for, which is the engine's own.
+    Page,
     /// The request is refused: its text is not a request, or its key is nobody's.
     Refused(Refusal),
     /// A fault ends the connection.

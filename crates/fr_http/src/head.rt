@@ -52,18 +52,67 @@ impl Received {
         }
     }
 
+    /// The head, and the bytes behind it.
+    pub(crate) fn head(&self) -> Head<'_>
+        ensures { result ≡ self.now }
+    {
+        Head {
+            bytes: &self.bytes,
+            spans: self.spans,
+            fields: &self.fields,
+        }
+    }
+}
+
+/// A head, whose parts lie in bytes that stay where they are, and the bytes behind it.
+#[derive(Drop)]
+pub(crate) struct Head<'a> {
+    bytes: &'a [u8],
+    spans: RequestSpans,
+    fields: &'a [HeaderSpan],
+}
+
+impl<'a> Model for Head<'a> {
+    ghost use Rattle.std.specs.Prelude.{ℕ, List};
+    ghost use Rattle.fr_http.specs.Head.{HeadData};
+    ghost use Rattle.fr_http.specs.Received.{IsPlaced, shown};
+
+    ghost Value = { HeadData × List ℕ };
+
+    ghost view = { λ h. shown h.bytes.now h.fields.now h.spans };
+
+    ghost invariant = { λ h. IsPlaced h.bytes.now h.fields.now h.spans };
+}
+
+impl<'a> Head<'a> {
+    /// The head of these bytes, whose parts lie at these spans.
+    pub(crate) fn new(
+        bytes: &'a [u8],
+        spans: RequestSpans,
+        fields: &'a [HeaderSpan; MAX_FIELDS],
+    ) -> Head<'a>
+        requires { IsRequestWithin bytes.now fields.now spans }
+        ensures { result ≡ shown bytes.now fields.now spans }
+    {
+        Head {
+            bytes,
+            spans,
+            fields,
+        }
+    }
+
     /// The method.
-    pub(crate) fn method(&self) -> &[u8]
+    pub(crate) fn method(&self) -> &'a [u8]
         ensures { result.now ≡ self.now.0.method }
     {
-        self.spans.method.of(&self.bytes)
+        self.spans.method.of(self.bytes)
     }
 
     /// The request's target.
-    pub(crate) fn target(&self) -> &[u8]
+    pub(crate) fn target(&self) -> &'a [u8]
         ensures { result.now ≡ self.now.0.target }
     {
-        self.spans.path.of(&self.bytes)
+        self.spans.path.of(self.bytes)
     }
 
     /// The minor version.
@@ -74,18 +123,18 @@ impl Received {
     }
 
     /// The values of the fields of this name, in their order.
-    pub(crate) fn values<'a>(&'a self, name: &'a str) -> Values<'a>
+    pub(crate) fn values(&self, name: &'a str) -> Values<'a>
         ensures { result ≡ values name.now self.now.0.fields }
     {
         Values {
-            bytes: &self.bytes,
+            bytes: self.bytes,
             fields: &self.fields[..self.spans.headers],
             name,
         }
     }
 
     /// The bytes behind the head.
-    pub(crate) fn rest(&self) -> &[u8]
+    pub(crate) fn rest(&self) -> &'a [u8]
         ensures { result.now ≡ self.now.1 }
     {
         &self.bytes[self.spans.len..]

@@ -5,11 +5,13 @@
 mod asking;
 mod body;
 mod dealing;
+mod engine;
 mod fault;
 mod head;
 mod input;
 mod laws;
 mod method;
+mod need;
 mod plan;
 mod receive;
 mod reply;
@@ -17,6 +19,7 @@ mod routes;
 mod serve;
 mod source;
 
+pub use engine::Engine;
 pub use fault::{LinkFault, Rejection};
 pub use head::{MAX_FIELDS, MAX_HEAD};
 pub use input::MAX_READS;
@@ -25,6 +28,7 @@ pub use laws::{
     unasked_is_alike,
 };
 pub use method::{Allowed, Method};
+pub use need::Need;
 pub use plan::MAX_BODY;
 pub use serve::{Served, serve_one};
 pub use source::Source;

@@ -7,11 +7,11 @@ ghost use Rattle.fr_base.specs.Names.{same_text};
 ghost use Rattle.fr_http.specs.Planning.{Plans};
 ghost use Rattle.fr_http.specs.Routes.{text_of_method};
 
-use crate::fault::{Rejection, Unasked};
-use crate::head::{Received, Values};
+use crate::engine::Engine;
+use crate::fault::Rejection;
+use crate::head::{Head, Values};
 use crate::method::Method;
-use crate::routes::{Route, ascii, find_route, path_of};
-use std::alloc::Global;
+use crate::routes::{Route, ascii, path_of};
 
 /// How many bytes a body has at most.
 pub const MAX_BODY: usize = 65_536;
@@ -25,46 +25,46 @@ pub(crate) struct Plan<'a> {
 }
 
 /// What the head asks for, or the engine's own answer.
-pub(crate) fn make_plan(alloc: Global, received: &Received) -> Result<Plan<'_>, Unasked>
-    ensures { Plans received.now.0 result }
+pub(crate) fn make_plan<'a>(engine: &Engine, head: &Head<'a>) -> Result<Plan<'a>, Rejection>
+    ensures { Plans head.now.0 result }
 {
-    if received.values("transfer-encoding").next().is_some() {
-        return Err(Unasked::Engine(Rejection::NotImplemented));
+    if head.values("transfer-encoding").next().is_some() {
+        return Err(Rejection::NotImplemented);
     }
-    let Some(path) = ascii(path_of(received.target())) else {
-        return Err(Unasked::Engine(Rejection::NotFound));
+    let Some(path) = ascii(path_of(head.target())) else {
+        return Err(Rejection::NotFound);
     };
-    let Some(route) = find_route(alloc, path)? else {
-        return Err(Unasked::Engine(Rejection::NotFound));
+    let Some(route) = engine.find_route(path) else {
+        return Err(Rejection::NotFound);
     };
-    let route = route.by(received.method());
-    if !is_by(received, route.method()) {
-        return Err(Unasked::Engine(Rejection::MethodNotAllowed(route.allowed())));
+    let route = route.by(head.method());
+    if !is_by(head, route.method()) {
+        return Err(Rejection::MethodNotAllowed(route.allowed()));
     }
-    match body_length(received, route.method()) {
+    match body_length(head, route.method()) {
         Ok(length) => Ok(Plan {
             route,
             path,
             length,
         }),
-        Err(rejection) => Err(Unasked::Engine(rejection)),
+        Err(rejection) => Err(rejection),
     }
 }
 
 // Whether the request is by this method.
-fn is_by(received: &Received, method: Method) -> bool
-    ensures { result ≡ same_text received.now.0.method (text_of_method method) }
+fn is_by(head: &Head<'_>, method: Method) -> bool
+    ensures { result ≡ same_text head.now.0.method (text_of_method method) }
 {
-    received.method() == method.as_str().as_bytes()
+    head.method() == method.as_str().as_bytes()
 }
 
 // The length of the body that a request by this method has.
-fn body_length(received: &Received, method: Method) -> Result<usize, Rejection>
-    ensures { result ≡ body_length method received.now.0 }
+fn body_length(head: &Head<'_>, method: Method) -> Result<usize, Rejection>
+    ensures { result ≡ body_length method head.now.0 }
 {
     match method {
         Method::Get => Ok(0),
-        Method::Post | Method::Put => length_in(received.values("content-length")),
+        Method::Post | Method::Put => length_in(head.values("content-length")),
     }
 }
 

@@ -1,12 +1,13 @@
 //! Writes the bytes of a reply.
 ghost use Rattle.std.specs.Prelude.{◌≡◌, ◌++◌, IfOk, OnOk};
 ghost use Rattle.fr_base.specs.Refusals.{status_of};
-ghost use Rattle.fr_http.specs.Reply.{allow, answer_reply, authenticate, body_of, closing, engine_reply, field_line, is_file, is_report, page_reply, phrase_of, reply_with, status_line, status_of_answer, status_of_rejection, type_of};
+ghost use Rattle.fr_http.specs.Reply.{allow, answer_reply, authenticate, body_of, closing, engine_reply, field_line, is_file, is_report, page_reply, phrase_of, planner_fields, planner_reply, reply_with, status_line, status_of_answer, status_of_rejection, type_of};
 ghost use Rattle.fr_http.specs.Replying.{IsReply, head_with};
 
 use crate::fault::Rejection;
 use crate::method::Method;
 use fr_base::{Answer, NoMemory, Refusal, ReportRows};
+use fr_page::{planner_page, policy};
 use fr_text::{write_answer, write_lines};
 use http::StatusCode;
 use itoa::Buffer;
@@ -63,6 +64,41 @@ fn status_of_rejection(rejection: Rejection) -> StatusCode
         Rejection::HeadTooLarge => StatusCode::REQUEST_HEADER_FIELDS_TOO_LARGE,
         Rejection::NotImplemented => StatusCode::NOT_IMPLEMENTED,
     }
+}
+
+/// The reply that has the planner's page.
+#[tactic(auto, unfolding(crate::specs::Reply::planner_reply))]
+pub(crate) fn planner_reply(alloc: Global) -> Result<ReplyText, NoMemory>
+    ensures { IfOk result (λ reply. IsReply planner_reply reply) }
+{
+    let page = planner_page();
+    let mut bytes = Vec::new(alloc);
+    push_status(StatusCode::OK, &mut bytes)?;
+    push_field("content-type", "text/html; charset=utf-8", &mut bytes)?;
+    push_field(
+        "content-length",
+        Buffer::new().format(page.len()),
+        &mut bytes,
+    )?;
+    push_planner_fields(&mut bytes)?;
+    push_close(&mut bytes)?;
+    push(page, &mut bytes)?;
+    Ok(ReplyText {
+        status: StatusCode::OK.as_u16(),
+        bytes,
+    })
+}
+
+// Appends what a browser may do with the planner's page.
+#[tactic(auto, unfolding(crate::specs::Reply::planner_fields))]
+fn push_planner_fields(out: &mut Vec<u8>) -> Result<(), NoMemory>
+    ensures { OnOk result (out.new.items ≡ out.old.items ++ planner_fields) }
+{
+    push_field("content-security-policy", policy(), out)?;
+    push_field("x-content-type-options", "nosniff", out)?;
+    push_field("referrer-policy", "no-referrer", out)?;
+    push_field("cross-origin-opener-policy", "same-origin", out)?;
+    push_field("cache-control", "no-cache", out)
 }
 
 /// The reply that has this page.

@@ -1,19 +1,19 @@
 //! The routes of requests.
-ghost use Rattle.std.specs.Prelude.{◌≡◌, ◌==◌, map, IfOk, OnOk};
+ghost use Rattle.std.specs.Prelude.{◌≡◌, ◌==◌, map};
 ghost use Rattle.std.specs.Char.{is_ascii};
 ghost use Rattle.std.specs.List.{list_all, position};
 ghost use Rattle.std.specs.Option.{option_map};
-ghost use Rattle.fr_http.specs.Routes.{allowed, ascii_text, chosen, export, matched, method_of, of_register, of_two, of_variant, part, path_of, router, table, with_route};
+ghost use Rattle.fr_http.specs.Routes.{allowed, ascii_text, chosen, export, method_of, of_register, of_two, of_variant, part, path_of, table};
 
 use crate::method::{Allowed, Method};
-use fr_base::{Header, Inventory, NoMemory, Query, Report};
-use matchit::Router;
-use std::alloc::{AllocError, Global};
+use fr_base::{Header, Inventory, Query, Report};
 use std::str;
 
 /// A route: what a path asks for.
 #[derive(Clone, Copy, PartialEq, Eq)]
 pub enum Route {
+    /// The planner's page, which is the same for everybody.
+    Page,
     /// The body is a request.
     Commands,
     /// The body is an import's file.
@@ -37,7 +37,7 @@ impl Route {
         match self {
             Route::Commands | Route::Import | Route::Try { replaces: false } => Method::Post,
             Route::Replace | Route::Try { replaces: true } => Method::Put,
-            Route::Query(_) | Route::Picture => Method::Get,
+            Route::Page | Route::Query(_) | Route::Picture => Method::Get,
         }
     }
 
@@ -80,14 +80,6 @@ fn index_of(bytes: &[u8], byte: u8) -> Option<usize>
     ensures { result ≡ position (λ b. b == byte) bytes.now }
 {
     bytes.iter().position(|b| *b == byte)
-}
-
-/// The route that the path matches.
-pub(crate) fn find_route(alloc: Global, path: &str) -> Result<Option<Route>, NoMemory>
-    ensures { IfOk result (λ route. route ≡ matched path.now) }
-{
-    let router = router(alloc)?;
-    Ok(router.at(path).ok().map(|found| *found.value))
 }
 
 /// The bytes as a text, where they are ASCII.
@@ -144,12 +136,13 @@ fn export(header: Header) -> Route
     of_variant(Report::Export { header, part: 6 })
 }
 
-// The routes, each with the text of the paths that match it.
+/// The routes, each with the text of the paths that match it.
 #[tactic(auto, unfolding(crate::specs::Routes::table))]
-fn routes() -> [(&'static str, Route); 19]
+pub(crate) fn routes() -> [(&'static str, Route); 20]
     ensures { map (λ entry. (entry.0.now, entry.1)) result ≡ table }
 {
     [
+        ("/", Route::Page),
         ("/v1/commands", Route::Commands),
         ("/v1/cluster", of_register(Inventory::Cluster)),
         ("/v1/variants", of_register(Inventory::Variants)),
@@ -194,27 +187,6 @@ fn routes() -> [(&'static str, Route); 19]
         ),
         ("/v1/variants/{variant}/picture", Route::Picture),
     ]
-}
-
-// The router that has the routes.
-fn router(alloc: Global) -> Result<Router<Route>, NoMemory>
-    ensures { IfOk result (λ made. made ≡ router) }
-{
-    let mut router = Router::new(alloc);
-    for (text, route) in routes() {
-        add(&mut router, text, route)?;
-    }
-    Ok(router)
-}
-
-// Adds a route. The routes are well formed and differ, so the only error is want of memory.
-fn add(router: &mut Router<Route>, text: &str, route: Route) -> Result<(), NoMemory>
-    ensures { OnOk result (router.new ≡ with_route router.old (text.now, route)) }
-{
-    if router.insert(text, route).is_err() {
-        return Err(AllocError);
-    }
-    Ok(())
 }
 
 /// The part of the path behind so many slashes, up to the next slash.

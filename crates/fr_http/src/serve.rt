@@ -11,13 +11,14 @@ ghost use Rattle.fr_http.specs.Writes.{LastFailed, MayFail, MayFailAsking};
 use crate::asking::{Exchange, actor, asked_matter};
 use crate::body::read_body;
 use crate::dealing::deal;
+use crate::engine::Engine;
 use crate::fault::{LinkFault, Unasked};
-use crate::head::{Received, Values};
+use crate::head::{Head, Values};
 use crate::input::{Input, MAX_READS};
 use crate::method::Method;
 use crate::plan::{Plan, make_plan};
 use crate::receive::receive;
-use crate::reply::{ReplyText, answer_reply, engine_reply};
+use crate::reply::{ReplyText, answer_reply, engine_reply, planner_reply};
 use crate::source::Source;
 use fr_base::{Answer, Desk, NoMemory, Refusal};
 use fr_text::{Output, Sink, WriteFailed};
@@ -35,7 +36,7 @@ pub struct Served {
 /// was asked. Where it was not, the desk is as it was.
 #[tactic(auto, using(crate::proofs::ReadsLaws::spending))]
 pub fn serve_one<R: Source, W: Sink, D: Desk>(
-    alloc: Global,
+    engine: &Engine,
     reader: &mut R,
     writer: &mut W,
     desk: &mut D,
@@ -59,13 +60,13 @@ pub fn serve_one<R: Source, W: Sink, D: Desk>(
 {
     let mut input = Input::new(reader);
     let mut output = Output::new(writer);
-    serve(alloc, &mut input, &mut output, desk)
+    serve(engine, &mut input, &mut output, desk)
 }
 
 // Serves the connection of this input and output.
 #[tactic(auto, using(crate::proofs::ReadsLaws::spending))]
 fn serve<R: Source, W: Sink, D: Desk>(
-    alloc: Global,
+    engine: &Engine,
     input: &mut Input<'_, R>,
     output: &mut Output<'_, W>,
     desk: &mut D,
@@ -81,9 +82,11 @@ fn serve<R: Source, W: Sink, D: Desk>(
         output.new.writer.now) }
     ensures retries { output.new.retries ≤ output.old.retries }
 {
-    match take(alloc, input, output, desk) {
+    let alloc = engine.alloc();
+    match take(engine, input, output, desk) {
         Ok(exchange) => answer(alloc, &exchange, output, desk),
         Err(Unasked::Engine(rejection)) => send(engine_reply(alloc, rejection), output, false),
+        Err(Unasked::Page) => send(planner_reply(alloc), output, false),
         Err(Unasked::Refused(refusal)) => send(
             answer_reply(alloc, Method::Post, &Answer::Refused(refusal)),
             output,
@@ -96,7 +99,7 @@ fn serve<R: Source, W: Sink, D: Desk>(
 // Reads a request, as far as what it asks of the register, or why it asks nothing.
 #[tactic(auto, using(crate::proofs::ReadsLaws::spending))]
 fn take<R: Source, W: Sink, D: Desk>(
-    alloc: Global,
+    engine: &Engine,
     input: &mut Input<'_, R>,
     output: &mut Output<'_, W>,
     desk: &D,
@@ -108,38 +111,40 @@ fn take<R: Source, W: Sink, D: Desk>(
         output.new.writer.now) }
     ensures retries { output.new.retries ≤ output.old.retries }
 {
+    let alloc = engine.alloc();
     let received = receive(alloc, input)?;
-    let plan = make_plan(alloc, &received)?;
-    invite(&received, &plan, output)?;
-    let body = read_body(alloc, input, received.rest(), plan.length)?;
+    let head = received.head();
+    let plan = make_plan(engine, &head)?;
+    invite(&head, &plan, output)?;
+    let body = read_body(alloc, input, head.rest(), plan.length)?;
     let matter = asked_matter(alloc, &plan, &body)?;
-    let actor = actor(desk, &received).ok_or(Unasked::Refused(Refusal::UnknownKey))?;
+    let actor = actor(desk, &head).ok_or(Unasked::Refused(Refusal::UnknownKey))?;
     Ok(matter.asked_by(actor, plan.route.method()))
 }
 
 // Writes the interim reply, if it is due.
 fn invite<W: Sink>(
-    received: &Received,
+    head: &Head<'_>,
     plan: &Plan<'_>,
     output: &mut Output<'_, W>,
 ) -> Result<(), LinkFault>
-    ensures sent { WritesTo W.Write (Invites plan.now received.now.0) output.old output.new result }
+    ensures sent { WritesTo W.Write (Invites plan.now head.now.0) output.old output.new result }
     ensures failed { OnErr result (LastFailed W.writes W.flushes output.new.writer.now) }
     ensures retries { output.new.retries ≤ output.old.retries }
 {
-    if is_due(received, plan.length) {
+    if is_due(head, plan.length) {
         write(b"HTTP/1.1 100 Continue\r\n\r\n", output, false)
     } else {
         Ok(())
     }
 }
 
-// Whether `100 Continue` is due: a body is to come, the version is 1.1, and a field asks for it.
+/// Whether `100 Continue` is due: a body is to come, the version is 1.1, and a field asks for it.
 #[tactic(auto, unfolding(crate::specs::Outcome::due))]
-fn is_due(received: &Received, length: usize) -> bool
-    ensures { result ≡ due length received.now.0 }
+pub(crate) fn is_due(head: &Head<'_>, length: usize) -> bool
+    ensures { result ≡ due length head.now.0 }
 {
-    length > 0 && received.minor() == 1 && expects_continue(received.values("expect"))
+    length > 0 && head.minor() == 1 && expects_continue(head.values("expect"))
 }
 
 // Whether a field asks for `100 Continue`.

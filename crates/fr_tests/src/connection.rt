@@ -6,7 +6,7 @@ use fr_base::{
     Actor, Answer, Ask, Channel, Config, Desk, Name, NoMemory, Query, Refusal, Report, ReportRows,
     Request, Rows, Sending, Slot,
 };
-use fr_http::{LinkFault, Served, serve_one};
+use fr_http::{Engine, LinkFault, Need, Served, serve_one};
 use fr_text::read_config;
 use std::alloc::Global;
 use std::io;
@@ -296,9 +296,13 @@ const REPLIES: [(&str, &str); 24] = [
     ("nothing of the kind\r\n\r\n", BAD_REQUEST),
 ];
 
-fn served(alloc: Global, input: &[u8], desk: &mut Counter) -> (Result<Served, LinkFault>, Vec<u8>) {
-    let mut writer = Sink::new(alloc, usize::MAX, ErrorKind::Other);
-    let done = serve_one(alloc, &mut whole(input), &mut writer, desk);
+fn served(
+    engine: &Engine,
+    input: &[u8],
+    desk: &mut Counter,
+) -> (Result<Served, LinkFault>, Vec<u8>) {
+    let mut writer = Sink::new(engine.alloc(), usize::MAX, ErrorKind::Other);
+    let done = serve_one(engine, &mut whole(input), &mut writer, desk);
     // What was not flushed may never come.
     writer.taken.truncate(writer.flushed);
     (done, writer.taken)
@@ -306,9 +310,10 @@ fn served(alloc: Global, input: &[u8], desk: &mut Counter) -> (Result<Served, Li
 
 #[test]
 fn each_request_has_its_reply(rt: HostRuntime) -> Result<(), Fail> {
+    let engine = Engine::new(rt.alloc())?;
     let mut desk = Counter::new(rt.alloc())?;
     for (input, reply) in REPLIES {
-        let (done, written) = served(rt.alloc(), input.as_bytes(), &mut desk);
+        let (done, written) = served(&engine, input.as_bytes(), &mut desk);
         assert!(rt; done.is_ok(), "{input}");
         assert_eq!(rt; written.as_slice(), reply.as_bytes(), "{input}");
     }
@@ -329,6 +334,7 @@ fn with_many(alloc: Global, before: &str, count: usize, after: &str) -> Result<V
 
 #[test]
 fn a_head_has_at_most_8192_bytes(rt: HostRuntime) -> Result<(), Fail> {
+    let engine = Engine::new(rt.alloc())?;
     let mut desk = Counter::new(rt.alloc())?;
     let (before, after) = ("GET /", " HTTP/1.1\r\n\r\n");
     let room = 8192 - before.len() - after.len();
@@ -338,16 +344,63 @@ fn a_head_has_at_most_8192_bytes(rt: HostRuntime) -> Result<(), Fail> {
         (8200, HEAD_TOO_LARGE),
     ] {
         let input = with_many(rt.alloc(), before, count, after)?;
-        let (done, written) = served(rt.alloc(), &input, &mut desk);
+        let (done, written) = served(&engine, &input, &mut desk);
         assert!(rt; done.is_ok());
         assert_eq!(rt; written.as_slice(), reply.as_bytes(), "{count}");
     }
     Ok(())
 }
 
+/// What a request needs is known with its head, and what follows does not change it. Where no head can come of the bytes,
+/// they are all that is needed.
+#[test]
+fn what_a_request_needs_is_known_with_its_head(rt: HostRuntime) -> Result<(), Fail> {
+    let engine = Engine::new(rt.alloc())?;
+    let bytes = ADD_FRAME.as_bytes();
+    let head = ADD_FRAME.len() - 58;
+    let all = Need::Known {
+        bytes: bytes.len(),
+        invites: true,
+    };
+    for end in 0..bytes.len() + 1 {
+        let need = if end < head { Need::Open } else { all };
+        assert_eq!(rt; engine.need_of(&bytes[..end]), need);
+    }
+    for input in [
+        "GET / HTTP/1.1\r\n\r\n",
+        "GET /v1/nodes HTTP/1.1\r\nContent-Length: 9\r\n\r\n",
+        "POST /v1/nothing HTTP/1.1\r\nContent-Length: 9\r\n\r\n",
+        "POST /v1/commands HTTP/1.1\r\nContent-Length: 65537\r\n\r\n",
+        "GET / HTTP/2.0\r\n\r\n",
+    ] {
+        let need = Need::Known {
+            bytes: input.len(),
+            invites: false,
+        };
+        assert_eq!(rt; engine.need_of(input.as_bytes()), need, "{input}");
+    }
+    let mut crowded = Vec::new(rt.alloc());
+    crowded.extend_from_slice(b"GET / HTTP/1.1\r\n")?;
+    for _ in 0..64 {
+        crowded.extend_from_slice(b"a: b\r\n")?;
+    }
+    assert_eq!(rt; engine.need_of(&crowded), Need::Open);
+    crowded.extend_from_slice(b"a: b\r\n")?;
+    let bytes = crowded.len();
+    assert_eq!(rt;
+        engine.need_of(&crowded),
+        Need::Known {
+            bytes,
+            invites: false
+        }
+    );
+    Ok(())
+}
+
 /// Wherever the input ends or a read fails nothing is asked, and nothing but a whole interim reply is written.
 #[test]
 fn a_request_is_asked_once_it_is_whole(rt: HostRuntime) -> Result<(), Fail> {
+    let engine = Engine::new(rt.alloc())?;
     let mut desk = Counter::new(rt.alloc())?;
     let bytes = ADD_FRAME.as_bytes();
     let head = ADD_FRAME.len() - 58;
@@ -364,7 +417,7 @@ fn a_request_is_asked_once_it_is_whole(rt: HostRuntime) -> Result<(), Fail> {
             let mut reader = whole(&bytes[..end]);
             reader.error = error;
             let mut writer = Sink::new(rt.alloc(), usize::MAX, ErrorKind::Other);
-            let done = serve_one(rt.alloc(), &mut reader, &mut writer, &mut desk);
+            let done = serve_one(&engine, &mut reader, &mut writer, &mut desk);
             assert_eq!(rt; done, Err(fault));
             let interim = if end < head { "" } else { CONTINUE };
             assert_eq!(rt; writer.taken.as_slice(), interim.as_bytes());
@@ -376,7 +429,7 @@ fn a_request_is_asked_once_it_is_whole(rt: HostRuntime) -> Result<(), Fail> {
     reader.piece = 1;
     let mut writer = Sink::new(rt.alloc(), usize::MAX, ErrorKind::Other);
     writer.piece = 1;
-    let done = serve_one(rt.alloc(), &mut reader, &mut writer, &mut desk);
+    let done = serve_one(&engine, &mut reader, &mut writer, &mut desk);
     assert_eq!(rt;
         done,
         Ok(Served {
@@ -401,7 +454,7 @@ fn cut_off(
     let mut desk = Counter::new(alloc)?;
     let mut writer = Sink::new(alloc, room, error);
     let mut reader = whole(ADD_FRAME.as_bytes());
-    let ended = serve_one(alloc, &mut reader, &mut writer, &mut desk);
+    let ended = serve_one(&Engine::new(alloc)?, &mut reader, &mut writer, &mut desk);
     Ok((ended, desk.asked, writer.taken.len()))
 }
 
@@ -428,6 +481,7 @@ fn a_failed_write_is_told(rt: HostRuntime) -> Result<(), Fail> {
 /// A connection has 100,000 reads, interrupted ones too, and 1,000 interrupted writes.
 #[test]
 fn interruptions_are_counted(rt: HostRuntime) -> Result<(), Fail> {
+    let engine = Engine::new(rt.alloc())?;
     let mut desk = Counter::new(rt.alloc())?;
     let done = Ok(Served {
         status: 200,
@@ -442,7 +496,7 @@ fn interruptions_are_counted(rt: HostRuntime) -> Result<(), Fail> {
         reader.waits = reads;
         let mut writer = Sink::new(rt.alloc(), usize::MAX, ErrorKind::Other);
         writer.waits = writes;
-        let ended = serve_one(rt.alloc(), &mut reader, &mut writer, &mut desk);
+        let ended = serve_one(&engine, &mut reader, &mut writer, &mut desk);
         assert_eq!(rt; ended, ending);
     }
     assert_eq!(rt; desk.asked, 2);

@@ -2,6 +2,7 @@
 use crate::fixture::{CLUSTER, PLAN, carried_out};
 use fr_cli::{LocalListener, serve_next};
 use fr_desks::MemoryDesk;
+use fr_http::Engine;
 use fr_text::read_config;
 use std::io::{Read, Write};
 use std::net::{Ipv4Addr, Shutdown, TcpListener, TcpStream};
@@ -24,7 +25,8 @@ fn a_client_reads_its_schedule(rt: HostRuntime) -> Result<(), Fail> {
     client.write_all(REQUEST)?;
     client.shutdown(Shutdown::Write)?;
     let mut listener = LocalListener::of(&rt, listener);
-    assert!(rt; serve_next(rt.alloc(), &mut listener, 10, &mut desk)?.is_ok());
+    let engine = Engine::new(rt.alloc())?;
+    assert!(rt; serve_next(&engine, &mut listener, 10, &mut desk)?.is_ok());
     let mut reply = Vec::new(rt.alloc());
     let _ = client.read_to_end(&mut reply)?;
     assert!(rt; reply.as_slice() == REPLY);

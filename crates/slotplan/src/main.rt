@@ -4,7 +4,7 @@
 mod streams;
 
 use fr_cli::perform::{explain, perform};
-use fr_cli::{LocalFiles, LocalListener, WordFault, end_closed, read_words};
+use fr_cli::{Job, LocalFiles, LocalListener, WordFault, end_closed, read_words};
 use sqlite::Unknown;
 use std::env;
 use std::io::{self, ErrorKind};
@@ -26,6 +26,10 @@ fn run(rt: &HostRuntime) -> u8 {
     };
     match read_words(rt.alloc(), &words) {
         Ok(job) => {
+            let mut listener = LocalListener::new(rt);
+            if let Job::Serve { count, .. } = job {
+                listener.most = count;
+            }
             let (status, left) = perform(
                 rt,
                 &job,
@@ -34,8 +38,9 @@ fn run(rt: &HostRuntime) -> u8 {
                 &mut rt.reader(),
                 &mut out,
                 &mut err,
-                &mut LocalListener::new(rt),
+                &mut listener,
             );
+            listener.finish();
             end_closed(status, &left, &mut err)
         }
         Err(fault) => explain(&fault, &mut out, &mut err),

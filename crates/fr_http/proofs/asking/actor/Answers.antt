@@ -10,6 +10,6 @@ returns-in_err-ok g c cluster b stands sound =
     let key = c.in_ok-key.key.now in
     let none : IsUtf8 key → ⊥ = search rules in
     let is : c.from_residual-in_err-ok.result ≡ None = search rules in
-    let first : values (codes "x-office-key") c.args.received.now.0.fields ≡ key ∷ c.next.new.self = search rules in
+    let first : values (codes "x-office-key") c.args.head.now.0.fields ≡ key ∷ c.next.new.self = search rules in
     let left : c.next.new.self ≡ [] = search (rules, none_left) in
     is ∙ nobodys cluster b key sound none ∙ sym (holder_of (actor_of cluster b) _ c.next.new.self c.next.new.self key first refl left)

@@ -1,4 +1,4 @@
-use Rattle.std.proofs.Common.{rules, ◌≡◌, ◌≤◌, ◌-◌, ◌++◌, refl, sym, ap, ◌∙◌, subst, take, length, inr}
+use Rattle.std.proofs.Common.{arith, rules, ◌≡◌, ◌≤◌, ◌-◌, ◌++◌, refl, sym, ap, ◌∙◌, subst, take, length, inr}
 use Rattle.std.proofs.KnownBytes.{Consumes-trans}
 use Rattle.std.proofs.lemmas.List.{take-append-le}
 use Rattle.std.specs.Io.KnownBytes.{Consumes}
@@ -54,8 +54,10 @@ returns-in-Ok-Complete-clause-received g c =
     let of : IsRequestOf seen fields spans = search (rules, c.in-Ok-Complete.ensures.complete) in
     let size : length bytes ≤ 8192 = search rules in
     let room : length fields ≡ 64 = search rules in
+    let inside : IsRequestWithin bytes fields spans = subst (λ b. IsRequestWithin b fields spans) same within in
+    let short : spans.len ≤ 8192 = omega (arith, size, inside.section.len_fits) in
     record {
-      does = (bytes, subst (Consumes _ _) (sym items) before, subst (Receives bytes) (sym c.new.ensures) (receives bytes fields spans size room (subst (λ b. IsRequestWithin b fields spans) same within) (subst (λ b. IsRequestOf b fields spans) same of)), size);
+      does = (bytes, subst (Consumes _ _) (sym items) before, subst (Receives bytes) (sym c.new.ensures) (receives bytes fields spans short room inside (subst (λ b. IsRequestOf b fields spans) same of)), size);
       same_reader = search rules;
     }
 

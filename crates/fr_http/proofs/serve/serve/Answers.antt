@@ -1,8 +1,8 @@
 use Rattle.std.proofs.Common.{◌≡◌, Err, refl, ap, ◌∙◌, rules, subst, false}
 use Rattle.fr_base.specs.declared.answer.Answer.TheVariants as answer
 use Rattle.fr_http.specs.Connection.{HasTaken}
-use Rattle.fr_http.specs.Reply.{answer_reply, engine_reply}
-use Rattle.fr_http.specs.declared.fault.Unasked.TheVariants.{Engine, Fault, Refused}
+use Rattle.fr_http.specs.Reply.{answer_reply, engine_reply, planner_reply}
+use Rattle.fr_http.specs.declared.fault.Unasked.TheVariants.{Engine, Fault, Page, Refused}
 use Rattle.fr_http.specs.declared.method.Method.TheVariants.{Post}
 use Rattle.fr_http.proofs.ServeLaws.{replied, served_asked, served_fault, served_unasked}
 use Rattle.fr_http.proofs.serve.serve.Goals as goal
@@ -24,6 +24,18 @@ returns-in-Err-Engine-clause-served g c =
     record {
       does = served_unasked _ _ _ _ _ _ _ (Engine rejection) (engine_reply rejection) c.send.result t t.takes.0 t.takes.1 refl
           (replied c.engine_reply.result (engine_reply rejection) false _ _ c.send.result c.engine_reply.ensures c.send.ensures.sent.does);
+      same_reader = search rules;
+      same_writer = search rules;
+    }
+
+pub returns-in-Err-Page-clause-served : goal.returns-in-Err-Page-clause-served
+returns-in-Err-Page-clause-served g c =
+    let is : c.take.result ≡ Err Page = c.in-Err-Page.is ∙ ap (λ u. Err u) c.in-Err-Page.field-0-is in
+    let t : HasTaken (g.D.Desk.stands c.args.desk.now) (g.R.Read.remaining c.args.input.now.reader.now) (g.R.Read.remaining c.take.new.input.reader.now)
+    (g.W.Write.contents c.args.output.now.writer.now) (g.W.Write.contents c.take.new.output.writer.now) (Err Page) = subst (HasTaken _ _ _ _ _) is c.take.ensures.taken.does in
+    record {
+      does = served_unasked _ _ _ _ _ _ _ Page planner_reply c.send-in-Err-Page.result t t.takes.0 t.takes.1 refl
+          (replied c.planner_reply.result planner_reply false _ _ c.send-in-Err-Page.result c.planner_reply.ensures c.send-in-Err-Page.ensures.sent.does);
       same_reader = search rules;
       same_writer = search rules;
     }

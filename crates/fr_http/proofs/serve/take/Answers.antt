@@ -5,10 +5,12 @@ use Rattle.fr_http.specs.Connection.{HasTaken}
 use Rattle.fr_http.specs.Outcome.{Wanted, asked_by, front}
 use Rattle.fr_http.specs.Reading.{LacksBody}
 use Rattle.fr_http.specs.Routes.{matter_by, method_of, path_of}
-use Rattle.fr_http.specs.declared.fault.Unasked.TheVariants.{Fault, Refused}
-use Rattle.fr_http.proofs.ServeLaws.{no_actor, no_body, no_matter, not_invited, planned_nothing, received_nothing, to_ask}
+use Rattle.fr_http.specs.declared.fault.Unasked.TheVariants.{Engine, Fault, Refused}
+use Rattle.fr_http.proofs.ServeLaws.{no_actor, no_body, no_matter, not_invited, planned_nothing, received_nothing, seen, to_ask}
+use Rattle.fr_http.specs.Reads.{MayEndAsking}
 use Rattle.fr_http.specs.Writes.{MayFailAsking}
-use Rattle.fr_http.proofs.WritesLaws.{may_fail, unbodied, unmade, unplanned, unreceived}
+use Rattle.fr_http.proofs.ReadsLaws.{spends_more}
+use Rattle.fr_http.proofs.WritesLaws.{may_fail, unbodied, unmade, unread, unreceived}
 use Rattle.fr_http.proofs.serve.take.Goals as goal
 
 pub returns-in_err-received-clause-taken : goal.returns-in_err-received-clause-taken
@@ -23,31 +25,35 @@ returns-in_err-received-clause-taken g c =
 
 pub returns-in_err-plan-clause-taken : goal.returns-in_err-plan-clause-taken
 returns-in_err-plan-clause-taken g c =
-    let unasked = c.in_err-plan.field-0.0 in
-    let is : c.from_residual-in_err-plan.result ≡ Err unasked = search rules in
+    let received = c.head-head.result in
+    let has = seen (g.R.Read.remaining c.args.input.now.reader.now) (g.R.Read.remaining c.receive.new.input.reader.now) received c.in_ok-received.received c.head-head.ensures c.in_ok-received.ensures.received.does in
+    let rejection = c.in_err-plan.field-0.0 in
+    let is : c.from_residual-in_err-plan.result ≡ Err (Engine rejection) = search rules in
     record {
-      does = subst (HasTaken _ _ _ _ _) (sym is) (planned_nothing _ _ _ _ c.in_ok-received.received unasked c.in_ok-received.ensures.received.does c.in_err-plan.ensures);
+      does = subst (HasTaken _ _ _ _ _) (sym is) (planned_nothing _ _ _ _ received rejection has c.in_err-plan.ensures);
       same_reader = search rules;
       same_writer = search rules;
     }
 
 pub returns-in_err-invite-clause-taken : goal.returns-in_err-invite-clause-taken
 returns-in_err-invite-clause-taken g c =
-    let received = c.in_ok-received.received in
+    let received = c.head-head.result in
+    let has = seen (g.R.Read.remaining c.args.input.now.reader.now) (g.R.Read.remaining c.receive.new.input.reader.now) received c.in_ok-received.received c.head-head.ensures c.in_ok-received.ensures.received.does in
     let plan = c.in_ok-plan.plan in
     let w : Wanted = record { route = plan.route; length = plan.length } in
     let fault = c.in_err-invite.field-0.0 in
     let is : c.from_residual-in_err-invite.result ≡ Err (Fault fault) = search rules in
     let (failed, is_due, front) = c.in_err-invite.ensures.sent.does in
     record {
-      does = subst (HasTaken _ _ _ _ _) (sym is) (not_invited _ _ _ _ _ received w fault c.in_ok-received.ensures.received.does c.in_ok-plan.ensures.0 failed is_due front);
+      does = subst (HasTaken _ _ _ _ _) (sym is) (not_invited _ _ _ _ _ received w fault has c.in_ok-plan.ensures.0 failed is_due front);
       same_reader = search rules;
       same_writer = search rules;
     }
 
 pub returns-in_err-body-clause-taken : goal.returns-in_err-body-clause-taken
 returns-in_err-body-clause-taken g c =
-    let received = c.in_ok-received.received in
+    let received = c.head-head.result in
+    let has = seen (g.R.Read.remaining c.args.input.now.reader.now) (g.R.Read.remaining c.receive.new.input.reader.now) received c.in_ok-received.received c.head-head.ensures c.in_ok-received.ensures.received.does in
     let plan = c.in_ok-plan.plan in
     let w : Wanted = record { route = plan.route; length = plan.length } in
     let fault = c.in_err-body.field-0.0 in
@@ -56,7 +62,7 @@ returns-in_err-body-clause-taken g c =
     let left = g.R.Read.remaining c.read_body.new.input.reader.now in
     record {
       does = subst (HasTaken _ _ _ _ _) (sym is) (
-          no_body _ _ _ left _ _ received w more (record { has = c.in_ok-received.ensures.received.does; plan = c.in_ok-plan.ensures.0; written = c.in_ok-invite.ensures.sent.does }) (record { consumed = consumed; bound = subst (λ r. length more ≤ plan.length - length r) c.rest.ensures few }) fault
+          no_body _ _ _ left _ _ received w more (record { has = has; plan = c.in_ok-plan.ensures.0; written = c.in_ok-invite.ensures.sent.does }) (record { consumed = consumed; bound = subst (λ r. length more ≤ plan.length - length r) c.rest.ensures few }) fault
           (subst (λ r. LacksBody plan.length (r ++ more) left fault) c.rest.ensures lacks)
           );
       same_reader = search rules;
@@ -65,7 +71,8 @@ returns-in_err-body-clause-taken g c =
 
 pub returns-in_err-matter-clause-taken : goal.returns-in_err-matter-clause-taken
 returns-in_err-matter-clause-taken g c =
-    let received = c.in_ok-received.received in
+    let received = c.head-head.result in
+    let has = seen (g.R.Read.remaining c.args.input.now.reader.now) (g.R.Read.remaining c.receive.new.input.reader.now) received c.in_ok-received.received c.head-head.ensures c.in_ok-received.ensures.received.does in
     let plan = c.in_ok-plan.plan in
     let w : Wanted = record { route = plan.route; length = plan.length } in
     let unasked = c.in_err-matter.field-0.0 in
@@ -77,28 +84,40 @@ returns-in_err-matter-clause-taken g c =
     (subst (λ p. MakesMatter plan.route p c.deref.result.now (Err unasked)) c.in_ok-plan.ensures.1 c.in_err-matter.ensures) in
     record {
       does = subst (HasTaken _ _ _ _ _) (sym is) (
-          no_matter _ _ _ _ _ _ received w more (record { has = c.in_ok-received.ensures.received.does; plan = c.in_ok-plan.ensures.0; written = c.in_ok-invite.ensures.sent.does }) (record { consumed = consumed; bound = subst (λ r. length more ≤ plan.length - length r) c.rest.ensures few }) body
+          no_matter _ _ _ _ _ _ received w more (record { has = has; plan = c.in_ok-plan.ensures.0; written = c.in_ok-invite.ensures.sent.does }) (record { consumed = consumed; bound = subst (λ r. length more ≤ plan.length - length r) c.rest.ensures few }) body
           (subst (λ r. front plan.length (r ++ more) ≡ Some body) c.rest.ensures there) unasked makes
           );
       same_reader = search rules;
       same_writer = search rules;
     }
 
+pub returns-in_err-matter-clause-reads : goal.returns-in_err-matter-clause-reads
+returns-in_err-matter-clause-reads g c =
+    let unasked = c.in_err-matter.field-0.0 in
+    let is : c.from_residual-in_err-matter.result ≡ Err unasked = search rules in
+    let left = c.read_body.new.input in
+    let first = c.in_ok-received.ensures.reads.spends in
+    record {
+      spends = spends_more g.R.Source.reads _ _ _ _ _ _ first c.in_ok-body.ensures.reads.spends;
+      ended = subst (λ r. IfErr r (λ u. MayEndAsking g.R.Source.reads u left.reader.now left.reads)) (sym is) (unread g.R.Source.reads _ _ _ unasked left.reader.now left.reads c.in_err-matter.ensures);
+    }
+
 pub returns-in_err-actor-clause-taken : goal.returns-in_err-actor-clause-taken
 returns-in_err-actor-clause-taken g c =
-    let received = c.in_ok-received.received in
+    let received = c.head-head.result in
+    let has = seen (g.R.Read.remaining c.args.input.now.reader.now) (g.R.Read.remaining c.receive.new.input.reader.now) received c.in_ok-received.received c.head-head.ensures c.in_ok-received.ensures.received.does in
     let plan = c.in_ok-plan.plan in
     let w : Wanted = record { route = plan.route; length = plan.length } in
     let is : c.from_residual-in_err-actor.result ≡ Err (Refused UnknownKey) = search rules in
     let (more, consumed, there, few) = c.in_ok-body.ensures.body.does in
     let body = c.in_ok-body.body.items in
     let what = c.in_ok-matter.matter in
-    let makes : matter_by plan.route (path_of received.0.target) body ≡ Some what =
+    let makes : matter_by plan.route (path_of received.0.target) body ≡ Ok what =
     ap (λ p. matter_by plan.route p body) (sym c.in_ok-plan.ensures.1) ∙ ap (matter_by plan.route plan.path.now) (sym c.deref.ensures.value) ∙ c.in_ok-matter.ensures in
     let nobody : c.actor.result ≡ None = search rules in
     record {
       does = subst (HasTaken _ _ _ _ _) (sym is) (
-          no_actor _ _ _ _ _ _ received w more (record { has = c.in_ok-received.ensures.received.does; plan = c.in_ok-plan.ensures.0; written = c.in_ok-invite.ensures.sent.does }) (record { consumed = consumed; bound = subst (λ r. length more ≤ plan.length - length r) c.rest.ensures few }) body
+          no_actor _ _ _ _ _ _ received w more (record { has = has; plan = c.in_ok-plan.ensures.0; written = c.in_ok-invite.ensures.sent.does }) (record { consumed = consumed; bound = subst (λ r. length more ≤ plan.length - length r) c.rest.ensures few }) body
           (subst (λ r. front plan.length (r ++ more) ≡ Some body) c.rest.ensures there) what makes (subst (FindsActor _ received.0) nobody c.actor.ensures)
           );
       same_reader = search rules;
@@ -107,21 +126,22 @@ returns-in_err-actor-clause-taken g c =
 
 pub returns-clause-taken : goal.returns-clause-taken
 returns-clause-taken g c =
-    let received = c.in_ok-received.received in
+    let received = c.head-head.result in
+    let has = seen (g.R.Read.remaining c.args.input.now.reader.now) (g.R.Read.remaining c.receive.new.input.reader.now) received c.in_ok-received.received c.head-head.ensures c.in_ok-received.ensures.received.does in
     let plan = c.in_ok-plan.plan in
     let w : Wanted = record { route = plan.route; length = plan.length } in
     let (more, consumed, there, few) = c.in_ok-body.ensures.body.does in
     let body = c.in_ok-body.body.items in
     let what = c.in_ok-matter.matter in
     let actor = c.in_ok-actor.actor in
-    let makes : matter_by plan.route (path_of received.0.target) body ≡ Some what =
+    let makes : matter_by plan.route (path_of received.0.target) body ≡ Ok what =
     ap (λ p. matter_by plan.route p body) (sym c.in_ok-plan.ensures.1) ∙ ap (matter_by plan.route plan.path.now) (sym c.deref.ensures.value) ∙ c.in_ok-matter.ensures in
     let found : c.actor.result ≡ Some actor = search rules in
     let is : c.asked_by.result ≡ asked_by actor (method_of plan.route) what = c.asked_by.ensures ∙ ap (λ m. asked_by actor m what) c.method.ensures in
     record {
       does = subst (λ o. HasTaken (g.D.Desk.stands c.args.desk.now) (g.R.Read.remaining c.args.input.now.reader.now) (g.R.Read.remaining c.read_body.new.input.reader.now)
           (g.W.Write.contents c.args.output.now.writer.now) (g.W.Write.contents c.invite.new.output.writer.now) (Ok o)) (sym is) (
-          to_ask _ _ _ _ _ _ received w more (record { has = c.in_ok-received.ensures.received.does; plan = c.in_ok-plan.ensures.0; written = c.in_ok-invite.ensures.sent.does }) (record { consumed = consumed; bound = subst (λ r. length more ≤ plan.length - length r) c.rest.ensures few }) body
+          to_ask _ _ _ _ _ _ received w more (record { has = has; plan = c.in_ok-plan.ensures.0; written = c.in_ok-invite.ensures.sent.does }) (record { consumed = consumed; bound = subst (λ r. length more ≤ plan.length - length r) c.rest.ensures few }) body
           (subst (λ r. front plan.length (r ++ more) ≡ Some body) c.rest.ensures there) what makes actor (subst (FindsActor _ received.0) found c.actor.ensures)
           );
       same_reader = search rules;
@@ -137,10 +157,9 @@ returns-in_err-received-clause-failed g c =
 
 pub returns-in_err-plan-clause-failed : goal.returns-in_err-plan-clause-failed
 returns-in_err-plan-clause-failed g c =
-    let unasked = c.in_err-plan.field-0.0 in
-    let is : c.from_residual-in_err-plan.result ≡ Err unasked = search rules in
-    let last = c.args.output.now.writer.now in
-    subst (λ r. IfErr r (λ u. MayFailAsking g.W.Sink.writes g.W.Sink.flushes u last)) (sym is) (unplanned g.W.Sink.writes g.W.Sink.flushes c.in_ok-received.received.0 unasked last c.in_err-plan.ensures)
+    let rejection = c.in_err-plan.field-0.0 in
+    let is : c.from_residual-in_err-plan.result ≡ Err (Engine rejection) = search rules in
+    subst (λ r. IfErr r (λ u. MayFailAsking g.W.Sink.writes g.W.Sink.flushes u c.args.output.now.writer.now)) (sym is) tt
 
 pub returns-in_err-invite-clause-failed : goal.returns-in_err-invite-clause-failed
 returns-in_err-invite-clause-failed g c =

@@ -1,0 +1,50 @@
+-- Complete: when the bytes that came of a connection are a whole request. So many of them, with any
+-- that follow, have the outcome of these, and fewer have none but that they are cut short. Where it is
+-- not known yet how many it takes, the bytes that came are no head.
+use Rattle.std.specs.Prelude.{ℕ, ◌≡◌, ◌≢◌, ◌≤◌, ◌<◌, ◌+◌, Bool, false, List, [], ◌++◌, length, take, Option, Result, Ok, Err}
+use Rattle.fr_base.specs.declared.actor.Actor.{Actor}
+use Rattle.fr_http.specs.Head.{HasNoHead, HeadData}
+use Rattle.fr_http.specs.Outcome.{IsOutcome, Wanted, continue_if, due, plan_of}
+use Rattle.fr_http.specs.declared.asking.Exchange.{Exchange}
+use Rattle.fr_http.specs.declared.fault.LinkFault.TheVariants.{Truncated}
+use Rattle.fr_http.specs.declared.fault.Rejection.{Rejection}
+use Rattle.fr_http.specs.declared.fault.Unasked.{Unasked}
+use Rattle.fr_http.specs.declared.fault.Unasked.TheVariants.{Fault}
+use Rattle.fr_http.specs.declared.need.Need.{Need}
+use Rattle.fr_http.specs.declared.need.Need.TheVariants.{Open, Known}
+
+-- The bytes have an outcome that their first n have too, with the same interim reply, and it is not
+-- that they are cut short.
+abbrev pub IsEnough : (List ℕ → Option Actor) → ℕ → Bool → List ℕ → Type 0
+IsEnough who n invites bytes = (outcome : Result Exchange Unasked) × IsOutcome who (take n bytes) (continue_if invites) outcome
+    × IsOutcome who bytes (continue_if invites) outcome × (outcome ≢ Err (Fault Truncated))
+
+-- The bytes have no outcome but that they are cut short, with this interim reply.
+abbrev pub IsCut : (List ℕ → Option Actor) → Bool → List ℕ → Type 0
+IsCut who invites bytes = (written : List ℕ) (outcome : Result Exchange Unasked) → IsOutcome who bytes written outcome
+    → (outcome ≡ Err (Fault Truncated)) × (written ≡ continue_if invites)
+
+-- A request that begins with the bytes is complete with n of them, and not before.
+pub record IsKnown (bytes : List ℕ) (n : ℕ) (invites : Bool) : Type 0 where
+  pub enough : (who : List ℕ → Option Actor) (more : List ℕ) → n ≤ length (bytes ++ more) → IsEnough who n invites (bytes ++ more)
+  pub short : (who : List ℕ → Option Actor) (more : List ℕ) → length (bytes ++ more) < n → IsCut who invites (bytes ++ more)
+
+-- The bytes do not begin with a head, and it is their outcome that they are cut short.
+pub record IsOpen (bytes : List ℕ) : Type 0 where
+  pub none : HasNoHead bytes
+  pub cut : (who : List ℕ → Option Actor) → IsOutcome who bytes [] (Err (Fault Truncated))
+
+-- what a request that begins with the bytes needs
+abbrev pub Needs : List ℕ → Need → Type 0
+Needs bytes Open = IsOpen bytes
+Needs bytes (Known n invites) = IsKnown bytes n invites
+
+-- ---- on the way
+
+-- what the request needs that has a head of so many bytes
+abbrev pub needed : ℕ → HeadData → Result Wanted Rejection → Need
+needed n head (Ok wanted) = Known (n + wanted.length) (due wanted.length head)
+needed n head (Err rejection) = Known n false
+
+abbrev pub NeedsBehind : ℕ → HeadData → Need → Type 0
+NeedsBehind n head need = need ≡ needed n head (plan_of head)

@@ -1,0 +1,77 @@
+//! What connections are served with: memory, and the routes of requests, which are read once.
+ghost use Rattle.std.specs.Prelude.{◌≡◌, IfOk, OnOk};
+ghost use Rattle.fr_http.specs.Routes.{matched, router, with_route};
+
+use crate::routes::{Route, routes};
+use fr_base::NoMemory;
+use matchit::Router;
+use std::alloc::{AllocError, Global};
+use std::marker::Model;
+
+/// An engine that serves connections, with the routes of all requests.
+#[derive(Drop)]
+pub struct Engine {
+    alloc: Global,
+    routes: Router<Route>,
+}
+
+/// An engine has all routes, and no other.
+impl Model for Engine {
+    ghost use Rattle.std.specs.Global.{Global};
+    ghost use Rattle.std.specs.Prelude.{◌≡◌};
+    ghost use Rattle.matchit.specs.Router.{RouteOf};
+    ghost use Rattle.matchit.specs.Rows.{RowsOf};
+    ghost use Rattle.fr_http.specs.Routes.{router};
+    ghost use Rattle.fr_http.specs.declared.routes.Route.{Route};
+
+    ghost Value = { Global × RowsOf (RouteOf Route) };
+
+    ghost view = { λ e. (e.alloc, e.routes) };
+
+    ghost invariant = { λ e. e.routes ≡ router };
+}
+
+impl Engine {
+    /// An engine that serves with this memory. It is an error only for want of memory.
+    pub fn new(alloc: Global) -> Result<Engine, NoMemory>
+        ensures { IfOk result (λ made. made ≡ (alloc, router)) }
+    {
+        let routes = router(alloc)?;
+        Ok(Engine { alloc, routes })
+    }
+
+    /// Its memory.
+    pub fn alloc(&self) -> Global
+        ensures { result ≡ self.now.0 }
+    {
+        self.alloc
+    }
+
+    /// The route that the path matches.
+    pub(crate) fn find_route(&self, path: &str) -> Option<Route>
+        ensures { result ≡ matched path.now }
+    {
+        self.routes.at(path).ok().map(|found| *found.value)
+    }
+}
+
+// The router that has the routes.
+fn router(alloc: Global) -> Result<Router<Route>, NoMemory>
+    ensures { IfOk result (λ made. made ≡ router) }
+{
+    let mut router = Router::new(alloc);
+    for (text, route) in routes() {
+        add(&mut router, text, route)?;
+    }
+    Ok(router)
+}
+
+// Adds a route. The routes are well formed and differ, so the only error is want of memory.
+fn add(router: &mut Router<Route>, text: &str, route: Route) -> Result<(), NoMemory>
+    ensures { OnOk result (router.new ≡ with_route router.old (text.now, route)) }
+{
+    if router.insert(text, route).is_err() {
+        return Err(AllocError);
+    }
+    Ok(())
+}

@@ -1,0 +1,6 @@
+pub mod Gathered
+pub mod Moved
+pub mod Passing
+pub mod Connecting
+pub mod Slots
+pub mod Queueing

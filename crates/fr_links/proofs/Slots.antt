@@ -1,0 +1,130 @@
+-- The slots of the table: what a call at one key makes of them, and what several calls make.
+use Rattle.std.proofs.Common.{◌≡◌, ◌∙◌, ℕ, List, Option, None, Some, IfSome, IsSome, refl, sym, subst, inl, inr}
+use Rattle.std.proofs.lemmas.Bool.{cases_eq}
+use Rattle.slab.specs.Slab.{ContainsKey, Slab, get, with_value}
+use Rattle.slab.proofs.SlabLemmas.{Updates-with_value}
+use Rattle.fr_links.specs.Connection.{Follows, IsAnswered, IsBegun, IsMoved, IsReady, IsUnanswered}
+use Rattle.fr_links.specs.Connections.{AllStay, Goes, OthersStay, Stays, at}
+use Rattle.fr_links.specs.declared.held.Held.{Held}
+use Rattle.fr_links.specs.declared.link.Link.{Link}
+use Rattle.fr_links.specs.declared.stage.Stage.{Stage}
+use Rattle.fr_links.specs.declared.stage.Stage.TheVariants.{Asking, Ready, Replying, Resting}
+use Rattle.fr_links.specs.declared.table.Table.{Table}
+
+pub Follows-refl : (stage : Stage) → Follows stage stage
+Follows-refl Asking = tt
+Follows-refl (Ready ending) = tt
+Follows-refl (Replying asked) = tt
+Follows-refl (Resting asked room) = tt
+
+-- what is to be answered was not answered
+unanswered : (stage : Stage) → IsReady stage → IsUnanswered stage
+unanswered Asking ready = tt
+unanswered (Ready ending) ready = tt
+unanswered (Replying asked) ready = absurd ready
+unanswered (Resting asked room) ready = absurd ready
+
+pub Follows-trans : (a b c : Stage) → Follows a b → Follows b c → Follows a c
+Follows-trans Asking Asking c p q = q
+Follows-trans Asking (Ready ending) c p q = unanswered c q
+Follows-trans Asking (Replying asked) c p q = absurd p
+Follows-trans Asking (Resting asked room) c p q = absurd p
+Follows-trans (Ready x) Asking c p q = absurd p
+Follows-trans (Ready x) (Ready ending) c p q = q
+Follows-trans (Ready x) (Replying asked) c p q = absurd p
+Follows-trans (Ready x) (Resting asked room) c p q = absurd p
+Follows-trans (Replying x) Asking c p q = absurd p
+Follows-trans (Replying x) (Ready ending) c p q = absurd p
+Follows-trans (Replying x) (Replying asked) c p q = q
+Follows-trans (Replying x) (Resting asked room) c p q = q
+Follows-trans (Resting x y) Asking c p q = absurd p
+Follows-trans (Resting x y) (Ready ending) c p q = absurd p
+Follows-trans (Resting x y) (Replying asked) c p q = q
+Follows-trans (Resting x y) (Resting asked room) c p q = q
+
+-- what was answered stays so
+pub answered : (a b : Stage) → Follows a b → IsAnswered a → IsAnswered b
+answered Asking b follows was = absurd was
+answered (Ready ending) b follows was = absurd was
+answered (Replying asked) b follows was = follows
+answered (Resting asked room) b follows was = follows
+
+module _ {S : Type 0} where
+  pub Stays-refl : (slot : Option (Held S)) → Stays slot slot
+  Stays-refl None = tt
+  Stays-refl (Some held) = (refl, Follows-refl held.stage)
+
+  -- it is gone
+  pub Stays-gone : (slot : Option (Held S)) → Stays slot None
+  Stays-gone None = tt
+  Stays-gone (Some held) = tt
+
+  pub Stays-trans : (a b c : Option (Held S)) → Stays a b → Stays b c → Stays a c
+  Stays-trans None b None p q = tt
+  Stays-trans (Some x) b None p q = tt
+  Stays-trans None None (Some z) p q = absurd q
+  Stays-trans (Some x) None (Some z) p q = absurd q
+  Stays-trans None (Some y) (Some z) p q = absurd p
+  Stays-trans (Some x) (Some y) (Some z) p q = (q.0 ∙ p.0, Follows-trans x.stage y.stage z.stage p.1 q.1)
+
+  pub AllStay-refl : (table : Table S) → AllStay table table
+  AllStay-refl table key = Stays-refl (at table key)
+
+  pub AllStay-trans : (a b c : Table S) → AllStay a b → AllStay b c → AllStay a c
+  AllStay-trans a b c p q key = Stays-trans (at a key) (at b key) (at c key) (p key) (q key)
+
+  pub AllStay-links : (a b : Table S) → b.links ≡ a.links → AllStay a b
+  AllStay-links a b same key = subst (λ links. Stays (at a key) (get links key)) (sym same) (Stays-refl (at a key))
+
+  -- one stays, and the others are as they were
+  pub one_stays : (old new : Table S) (key : ℕ) → OthersStay old new key → Stays (at old key) (at new key) → AllStay old new
+  one_stays old new key others own other =
+      elim (cases_eq other key) [
+        | inl same ↦ subst (λ k. Stays (at old k) (at new k)) (sym same) own
+        | inr differs ↦ subst (Stays (at old other)) (sym (others other differs)) (Stays-refl (at old other))
+      ]
+
+  -- one is gone, and the others are as they were
+  pub one_goes : (old new : Table S) (key : ℕ) → OthersStay old new key → at new key ≡ None → AllStay old new
+  one_goes old new key others gone = one_stays old new key others (subst (Stays (at old key)) (sym gone) (Stays-gone (at old key)))
+
+  pub others_trans : (a b c : Table S) (key : ℕ) → OthersStay a b key → OthersStay b c key → OthersStay a c key
+  others_trans a b c key p q other differs = q other differs ∙ p other differs
+
+module _ {S : Type 0} (remaining contents : S → Option (List ℕ)) where
+  pub Goes-gone : (slot : Option (Held S)) → Goes remaining contents slot None
+  Goes-gone None = tt
+  Goes-gone (Some held) = tt
+
+  pub Goes-stays : (a b c : Option (Held S)) → Goes remaining contents a b → Stays b c → Goes remaining contents a c
+  Goes-stays None b None p q = tt
+  Goes-stays (Some x) b None p q = tt
+  Goes-stays None None (Some z) p q = absurd q
+  Goes-stays (Some x) None (Some z) p q = absurd q
+  Goes-stays None (Some y) (Some z) p q = absurd p
+  Goes-stays (Some x) (Some y) (Some z) p q = (subst (IsMoved remaining contents x.link) (sym q.0) p.0, Follows-trans x.stage y.stage z.stage p.1 q.1)
+
+  -- a connection is written back under its key
+  pub put_goes : (links : Slab (Held S)) (key : ℕ) (held held' : Held S) → get links key ≡ Some held → IsMoved remaining contents held.link held'.link
+      → Follows held.stage held'.stage → Goes remaining contents (get links key) (get (with_value links key held') key)
+  put_goes links key held held' there moved follows =
+      let present : ContainsKey links key = subst IsSome (sym there) refl in
+      let written = (Updates-with_value links key held' present).changed in
+      subst (λ slot. Goes remaining contents slot (get (with_value links key held') key)) (sym there)
+      (subst (λ slot. Goes remaining contents (Some held) slot) (sym written) (moved, follows))
+
+  -- a connection that began stays
+  pub begun_stays : (stream : S) (held : Held S) (slot slot' : Option (Held S)) → slot ≡ Some held → Stays slot slot' → IsBegun remaining contents stream held.link
+      → IfSome slot' (λ back. IsBegun remaining contents stream back.link)
+  begun_stays stream held slot None there stays begun = tt
+  begun_stays stream held slot (Some back) there stays begun =
+      let both : Stays (Some held) (Some back) = subst (λ s. Stays s (Some back)) there stays in
+      subst (IsBegun remaining contents stream) (sym both.0) begun
+
+  -- a connection that was answered stays
+  pub answered_stays : (first : Link S) (held : Held S) (slot slot' : Option (Held S)) → slot ≡ Some held → Stays slot slot' → IsMoved remaining contents first held.link
+      → IsAnswered held.stage → IfSome slot' (λ back. IsMoved remaining contents first back.link × IsAnswered back.stage)
+  answered_stays first held slot None there stays moved was = tt
+  answered_stays first held slot (Some back) there stays moved was =
+      let both : Stays (Some held) (Some back) = subst (λ s. Stays s (Some back)) there stays in
+      (subst (IsMoved remaining contents first) (sym both.0) moved, answered held.stage back.stage both.1 was)

@@ -1,0 +1,6 @@
+-- Connections went, and the others stay; none comes to wait before another.
+use Rattle.fr_links.specs.Connections.{AllStay, Queues}
+use Rattle.fr_links.proofs.table.Table.expire.Given as goal
+
+abbrev pub invariant-loop-key : goal.invariant-loop-key
+invariant-loop-key g l = record { stay : AllStay l.initial.self l.self; queue : Queues l.initial.self l.self }

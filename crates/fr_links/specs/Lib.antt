@@ -1,0 +1,5 @@
+pub mod Gathering
+pub mod Sending
+pub mod Connection
+pub mod Ends
+pub mod Connections

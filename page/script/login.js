@@ -1,0 +1,67 @@
+// The key: it is asked once, and kept in memory; by a tick also in the tab's storage, so that the page may be loaded again.
+import {inTree} from "./cluster.js";
+import {byId, listen} from "./dom.js";
+import {Lost, Refused, Strange} from "./faults.js";
+import {hideTip, quiet, say} from "./messages.js";
+import {choose, enter} from "./reading.js";
+import {absence} from "./register.js";
+
+// Several registers may lie behind one proxy, so the path is named too.
+const STORED = "slotplan key " + location.pathname;
+
+export function login(desk) {
+  listen("login-form", "submit", event => {
+    event.preventDefault();
+    const key = byId("key").value;
+    byId("key").value = "";
+    if (/^[A-Za-z0-9]{8,64}$/.test(key)) begin(desk, key, byId("keep").checked);
+    else byId("login-fault").textContent = "A key has 8 to 64 letters and digits.";
+  });
+  desk.on("left", () => showLogin(desk.whyLeft));
+  const kept = stored(storage => storage.getItem(STORED));
+  if (kept) begin(desk, kept, true);
+  else {
+    byId("key").focus();
+    absence().then(fault => { if (fault && !desk.register) byId("login-fault").textContent = fault; });
+  }
+}
+
+// Some browsers give a page no storage.
+function stored(act) {
+  try { return act(sessionStorage); } catch { return null; }
+}
+
+async function begin(desk, key, isKept) {
+  byId("login-fault").textContent = "";
+  try {
+    await enter(desk, key);
+    if (isKept) stored(storage => storage.setItem(STORED, key));
+    byId("login").hidden = true;
+    byId("app").hidden = false;
+    const wanted = location.hash.slice(1), inOrder = inTree(desk);
+    const first = inOrder.find(({name}) => name === wanted) ?? inOrder.findLast(variant => !variant.isReleased) ?? inOrder.at(-1);
+    if (first) await choose(desk, first.name);
+    else say("warn", desk.isIntegrator ? "There is no variant yet. Open one." : "There is no variant yet. The integrator opens one.");
+    desk.show(first ? "plan" : "manage");
+    desk.tell("entered");
+  } catch (fault) {
+    if (!(fault instanceof Refused || fault instanceof Lost || fault instanceof Strange)) throw fault;
+    desk.leave(fault.message);
+  }
+}
+
+function showLogin(why) {
+  stored(storage => storage.removeItem(STORED));
+  quiet();
+  hideTip();
+  if (byId("dialog").open) byId("dialog").close("");
+  byId("dialog").replaceChildren();
+  byId("message").replaceChildren();
+  byId("app").hidden = true;
+  byId("login").hidden = false;
+  byId("login-fault").textContent = why;
+  document.title = "slotplan";
+  history.replaceState(null, "", location.pathname);
+  byId("key").value = "";
+  byId("key").focus();
+}

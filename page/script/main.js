@@ -1,0 +1,33 @@
+// Begins the page: what it holds, its views, and the key.
+import {clusterView} from "./cluster.js";
+import {Desk} from "./desk.js";
+import {details} from "./details.js";
+import {differences} from "./differences.js";
+import {filesView} from "./filesview.js";
+import {FrameList} from "./framelist.js";
+import {Grid} from "./grid.js";
+import {keyboard} from "./keyboard.js";
+import {login} from "./login.js";
+import {say} from "./messages.js";
+import {Palette} from "./palette.js";
+import {planView} from "./planview.js";
+import {Pointing} from "./pointing.js";
+import {printing} from "./printing.js";
+import {tables} from "./tables.js";
+import {topBar} from "./top.js";
+import {Walking} from "./walking.js";
+import {short} from "./words.js";
+
+const desk = new Desk();
+const palette = new Palette(desk);
+const grid = new Grid(desk, palette);
+new Pointing(desk, grid);
+new Walking(desk, grid);
+new FrameList(desk, palette);
+topBar(desk);
+planView(desk, grid, palette);
+details(desk, palette);
+for (const view of [tables, filesView, differences, clusterView, keyboard]) view(desk);
+printing(desk, grid);
+login(desk);
+window.addEventListener("unhandledrejection", ({reason}) => say("bad", `The page itself has a fault: ${short(reason)}`));

@@ -1,0 +1,82 @@
+// Messages, questions and hints to the user; and how a request that fails is told.
+import {button, byId, make, textField} from "./dom.js";
+import {Lost, Refused, Strange} from "./faults.js";
+import {bySomebody} from "./meanwhile.js";
+import {refresh} from "./reading.js";
+
+// Refusals that show that the plan is no longer as it is shown.
+const OUT_OF_DATE = [10, 11, 14, 15, 16, 17, 18, 19, 21, 22, 24, 25, 27, 29];
+
+// Says something: `good`, `bad` or `warn`.
+export function say(kind, text, ...buttons) {
+  const box = byId("message");
+  box.className = "message " + kind;
+  box.replaceChildren(make("div", {}, text), ...buttons, button("Close", quiet));
+  box.hidden = false;
+}
+
+export const quiet = () => { byId("message").hidden = true; };
+
+// Does what asks the register, and says how it failed.
+export async function attempt(desk, action) {
+  desk.busy += 1;
+  document.body.setAttribute("aria-busy", "true");
+  try {
+    return await action();
+  } catch (fault) {
+    if (desk.register) await sayFault(desk, fault);
+    return undefined;
+  } finally {
+    desk.busy = Math.max(0, desk.busy - 1);
+    if (!desk.busy) document.body.removeAttribute("aria-busy");
+  }
+}
+
+// A fault with `isOwn` comes after changes of the user's own.
+async function sayFault(desk, fault) {
+  if (!(fault instanceof Refused || fault instanceof Lost || fault instanceof Strange)) throw fault;
+  if (fault.number === 2) { desk.leave("The key is nobody's any more. It may have been changed."); return; }
+  const text = fault instanceof Refused ? `Refused: ${fault.message}` : fault.message;
+  say("bad", text);
+  if (!desk.plan || !(fault.isChange || fault.isOwn || OUT_OF_DATE.includes(fault.number))) return;
+  say("bad", text + await readAgain(desk, fault));
+}
+
+async function readAgain(desk, {isChange, isOwn}) {
+  try {
+    const changed = await refresh(desk, isOwn);
+    if (!isChange) return bySomebody(changed);
+    return changed ? ` What has changed: ${changed}.` : " No frame and no lane has changed.";
+  } catch { return " It could not be read again."; }
+}
+
+// Asks in a window. What `content` gives stands between the title and the buttons; with a word, that has to be typed.
+export function confirmed(title, content, yes, word = null) {
+  return new Promise(done => {
+    const dialog = byId("dialog");
+    const typed = word ? textField({"aria-label": `Type ${word}`}) : null;
+    const go = button(yes, () => dialog.close("yes"), {class: "main", disabled: Boolean(word)});
+    if (typed) typed.addEventListener("input", () => { go.disabled = typed.value !== word; });
+    const wanted = typed && make("p", {}, `Type ${word} to go on: `, typed), menu = make("menu", {}, button("Cancel", () => dialog.close("")), go);
+    openDialog(title, [make("div", {}, content), wanted, menu], () => done(dialog.returnValue === "yes"));
+  });
+}
+
+export function openDialog(title, content, onclose = null) {
+  const dialog = byId("dialog");
+  dialog.replaceChildren(make("h2", {id: "dialog-title"}, title), ...content.filter(Boolean));
+  dialog.returnValue = "";
+  dialog.onclose = onclose;
+  dialog.showModal();
+}
+
+export function showTip(text, x, y) {
+  const tip = byId("tip");
+  tip.textContent = text;
+  tip.hidden = false;
+  const {offsetWidth: wide, offsetHeight: tall} = tip;
+  tip.style.left = `${Math.max(4, Math.min(x + 14, window.innerWidth - wide - 8))}px`;
+  tip.style.top = `${y + 18 + tall > window.innerHeight ? y - tall - 10 : y + 18}px`;
+}
+
+export const hideTip = () => { byId("tip").hidden = true; };

@@ -1,0 +1,143 @@
+// What is read of the register: the cluster, a variant's plan, the room for a frame, differences and signals.
+import {Refused, Strange, Torn} from "./faults.js";
+import {meanwhile} from "./meanwhile.js";
+import {channelsIn, laneOf, Plan} from "./plan.js";
+import {Register} from "./register.js";
+import {linesOf, readCluster, readDifference, readExport, readFrames, readGaps, readGrants, readNodes, readRoom, readSignals,
+  readVariants} from "./reports.js";
+
+// Takes up a key. No report says whose it is: this request of room is refused in each case, and the integrator's refusal is its own.
+export async function enter(desk, key) {
+  const register = new Register(key), cluster = readCluster(await register.read("cluster"));
+  let isIntegrator = false;
+  try { await register.read("variants/x/frames/x/room/1"); } catch (fault) {
+    if (!(fault instanceof Refused)) throw fault;
+    isIntegrator = fault.number === 3;
+  }
+  if (!isIntegrator && cluster.suppliers.length !== 1) throw new Strange("The server does not say who you are.");
+  Object.assign(desk, {register, isIntegrator, me: isIntegrator ? null : cluster.suppliers[0]});
+  await readRegister(desk, cluster);
+}
+
+// What belongs to all variants.
+export async function readRegister(desk, known = null) {
+  const cluster = known ?? readCluster(await desk.register.read("cluster"));
+  const nodes = readNodes(await desk.register.read("nodes"), desk.me), variants = readVariants(await desk.register.read("variants"));
+  Object.assign(desk, {cluster, nodes, variants});
+  if (!desk.isOpen()) Object.assign(desk, {room: null, granting: null});
+  desk.tell("register");
+}
+
+const REPORTS = ["grants", "frames", "gaps"];
+
+function planOf({cluster, me}, texts) {
+  return new Plan(cluster, readGrants(texts.grants, me), readFrames(texts.frames, me), readGaps(texts.gaps, me));
+}
+
+// The plan of a variant and the texts that it was read of. These are told one after another, and somebody may change the plan in between: then
+// they may not fit together, and are read once more. A text that is known is not read, unless it does not fit.
+async function readPlan(desk, variant, known) {
+  for (let isFirst = true; ; isFirst = false) {
+    const texts = isFirst ? {...known} : {};
+    for (const report of REPORTS) texts[report] ??= await desk.register.read(`variants/${variant}/${report}`);
+    try { return {texts, plan: planOf(desk, texts)}; } catch (fault) {
+      if (!(fault instanceof Torn) || !isFirst) throw fault;
+    }
+  }
+}
+
+// Shows a plan that was read; what was chosen stays chosen, if it is there.
+async function take(desk, {plan, texts}, signals) {
+  const {frame, room, difference} = desk;
+  if (signals) plan.signals = signals;
+  Object.assign(desk, {plan, texts, placement: null, frame: frame && plan.frameNamed(frame.supplier, frame.name)});
+  if (difference) await compare(desk, difference.from);
+  if (room) await findRoom(desk, room.repetition, room.channels);
+  desk.tell("plan");
+}
+
+export async function choose(desk, variant) {
+  const turn = desk.turn += 1, read = await readPlan(desk, variant, {});
+  if (desk.turn !== turn) return;
+  if (variant !== desk.variant) Object.assign(desk, {difference: null, granting: null, room: null, lane: null, file: null});
+  desk.variant = variant;
+  desk.canUndo();
+  await take(desk, read, null);
+}
+
+// Reads the plan again after a change, but for the reports of `known`, and says what somebody else changed; `isOwn` is that of `meanwhile`.
+export async function reread(desk, {known = [], keepsSignals = false, isOwn} = {}) {
+  const {plan: before, turn, texts, variant} = desk;
+  const read = await readPlan(desk, variant, Object.fromEntries(known.map(report => [report, texts[report]])));
+  if (desk.turn !== turn || desk.variant !== variant) return "";
+  await take(desk, read, keepsSignals ? before.signals : null);
+  return meanwhile(before, desk.plan, isOwn);
+}
+
+// Reads everything that is shown again, and says what was changed.
+export async function refresh(desk, isOwn) {
+  await readRegister(desk);
+  return desk.variant ? reread(desk, {isOwn}) : "";
+}
+
+// Where the chosen frame fits with a repetition on these channels.
+export async function findRoom(desk, repetition, channels) {
+  const {frame, turn} = desk;
+  desk.room = null;
+  if (!frame || !desk.mayPlan() || frame.placements.length >= 8) return;
+  const lines = readRoom(await desk.register.read(desk.path(`frames/${frame.name}/room/${repetition}`)));
+  const bases = new Map(), counts = {A: 0, B: 0, AB: 0};
+  for (const line of lines) {
+    const isOther = line.repetition !== repetition || line.bases.some(base => base >= repetition);
+    if (isOther) throw new Strange("The server sent room of another repetition.");
+    counts[line.channels] += line.bases.length;
+    bases.set(line.slot + line.channels, new Set(line.bases));
+  }
+  if (desk.turn === turn) desk.room = {frame: desk.frame, repetition, channels, bases, count: counts[channels]};
+}
+
+// What differs since another variant, and where: in each cell, and in each lane 1 for a new grant, 2 for one that is gone.
+export async function compare(desk, from) {
+  const rows = readDifference(await desk.register.read(desk.path(`since/${from}`)), desk.me);
+  const {cycles} = desk.cluster, cells = new Map(), lanes = new Map();
+  for (const row of rows) {
+    if (row.kind !== "grant" && row.kind !== "placement") continue;
+    for (const channel of channelsIn(row.channels)) {
+      const lane = laneOf(row.slot, channel);
+      if (row.kind === "grant") { lanes.set(lane, (lanes.get(lane) ?? 0) | (row.isNew ? 1 : 2)); continue; }
+      if (!cells.has(lane)) cells.set(lane, Array.from({length: cycles}, () => ({})));
+      for (let cycle = row.base; cycle < cycles; cycle += row.repetition) cells.get(lane)[cycle][row.isNew ? "now" : "then"] = row;
+    }
+  }
+  desk.difference = {from, rows, cells, lanes, kind: null};
+}
+
+export async function signalsOf(desk, frame) {
+  const {plan} = desk, known = plan.signalsOf(frame);
+  if (known) return known;
+  const signals = readSignals(await desk.register.read(desk.path(`frames/${frame.name}/layout`)), desk.me);
+  plan.keepSignals(frame, signals.filter(({supplier}) => supplier === frame.supplier));
+  return plan.signalsOf(frame);
+}
+
+// All parts of an export, joined below one header.
+export async function exported(desk, kind) {
+  const records = [];
+  for (let part = 0, header; ; part += 1) {
+    const read = readExport(kind, await desk.register.read(desk.path(`exports/${kind}/${part}`)));
+    header ??= read.header;
+    if (!read.records.length) return {records, parts: part, text: [header, ...records].join("\n") + "\n"};
+    for (const record of read.records) records.push(record);
+  }
+}
+
+// The signals of all frames; they come by the export alone.
+export async function readAllSignals(desk) {
+  const {plan} = desk, {text} = await exported(desk, "signals");
+  for (const frame of plan.frames) plan.keepSignals(frame, []);
+  for (const line of linesOf(text).slice(1)) {
+    const [name, signal, start, length, order, supplier] = line.split(",");
+    const frame = plan.frameNamed(supplier ?? desk.me, name);
+    if (frame) plan.signalsOf(frame).push({name: signal, start: Number(start), length: Number(length), order});
+  }
+}

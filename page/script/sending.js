@@ -1,0 +1,100 @@
+// A file on its way to the register: it is looked at, tried row by row, and carried out, in parts where it is too large for one.
+import {fileOf, MOST_BYTES, MOST_ROWS, partsOf, recordsOf} from "./csv.js";
+import {looked} from "./looking.js";
+import {bySomebody} from "./meanwhile.js";
+import {attempt, say} from "./messages.js";
+import {reread} from "./reading.js";
+import {isName, readFates} from "./reports.js";
+import {done} from "./steps.js";
+import {grouped, plural} from "./words.js";
+
+// What a file may do: how a row's fate is asked, how the file is sent, and what was done with its rows.
+export const WAYS = {
+  import: {
+    text: () => "add its rows to those that are there", verb: "Import",
+    send: ({register, variant}, file, body) => register.imported(variant, file.label, body),
+    said: ({label}) => `imported under the label ${label}.`,
+  },
+  replace: {
+    text: ({kind}) => kind === "frames" ? "replace: frames that are there stay as they are" : `replace the ${kind} of the frames that it names`,
+    verb: "Replace by", replaces: true,
+    send: ({register, variant}, file, body) => register.replaced(variant, body),
+    said: () => "took the place of the earlier ones.",
+  },
+};
+
+const LARGEST = 4_000_000;
+
+export async function takeFile(desk, blob) {
+  if (!desk.mayPlan()) return;
+  if (desk.view !== "files") desk.show("files");
+  if (blob.size > LARGEST) {
+    takeLooked(desk, null);
+    say("bad", `${blob.name} has ${grouped(blob.size)} bytes. That is no plan.`);
+    return;
+  }
+  const bytes = await blob.arrayBuffer().catch(() => null);
+  if (bytes) await takeLooked(desk, await looked(blob.name, new Uint8Array(bytes)));
+  else say("bad", `${blob.name} cannot be read. If another program has it open, close it there, and choose it again.`);
+}
+
+// Takes a file that was looked at or mended, and tries it.
+export async function takeLooked(desk, file) {
+  desk.file = file && Object.assign(file, {way: "import", parts: null, part: 0, fates: null, shown: [], onlyRefused: false});
+  if (file) {
+    divide(file);
+    file.label = suggestedLabel(file);
+  }
+  desk.tell("file");
+  await tryFile(desk);
+}
+
+function divide(file) {
+  if (file.fault || (file.records.length <= MOST_ROWS + 1 && file.bytes.length <= MOST_BYTES)) return;
+  file.parts = partsOf(file.records).map(fileOf);
+}
+
+const bodyOf = file => file.parts ? file.parts[file.part] : file.bytes;
+
+// Asks what would become of each row of the file, or of its part that comes next.
+export async function tryFile(desk) {
+  const {file} = desk;
+  if (!file || file.fault || !desk.mayPlan()) return;
+  file.fates = null;
+  file.shown = file.parts ? recordsOf(new TextDecoder().decode(bodyOf(file))) : file.records;
+  await attempt(desk, async () => { file.fates = readFates(await desk.register.tried(desk.variant, bodyOf(file), WAYS[file.way].replaces)); });
+  if (desk.file === file) desk.tell("file");
+}
+
+function suggestedLabel({name, parts, part}) {
+  const plain = name.replace(/\.[^.]*$/, "").replace(/[^A-Za-z0-9_]/g, "_").replace(/^[^A-Za-z]+/, "") || "file";
+  return plain.slice(0, 26) + (parts ? `_${part + 1}` : "");
+}
+
+export async function carryOut(desk) {
+  const {file} = desk, way = WAYS[file.way];
+  if (desk.busy) return;
+  if (file.way === "import" && !isName(file.label)) {
+    say("bad", "The label is no name. A name has 1 to 32 letters, digits and underscores, a letter first.");
+    return;
+  }
+  const isDone = await attempt(desk, async () => {
+    const {rows} = await way.send(desk, file, bodyOf(file));
+    let said = `${plural(rows, "row")} of ${file.name} ${way.said(file)}`;
+    const isLast = !file.parts || file.part + 1 >= file.parts.length;
+    if (isLast) desk.file = null;
+    else {
+      file.part += 1;
+      file.label = suggestedLabel(file);
+      said += ` Part ${file.part + 1} of ${file.parts.length} comes next.`;
+    }
+    const named = new Set(file.shown.map(([frame]) => frame));
+    const others = bySomebody(await reread(desk, {known: ["grants"], isOwn: frame => named.has(frame.name)}));
+    if (isLast) desk.tell("file");
+    else await tryFile(desk);
+    done(desk, said + others, null);
+    return true;
+  });
+  // What was refused is tried again, on the plan as it is now.
+  if (!isDone && desk.file === file) await tryFile(desk);
+}

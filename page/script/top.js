@@ -1,0 +1,95 @@
+// The top of the page: the variant that is shown, the views, who asks, the cluster's figures, and how times are told.
+import {indented, inTree} from "./cluster.js";
+import {button, byId, listen, options} from "./dom.js";
+import {openHelp} from "./help.js";
+import {bySomebody} from "./meanwhile.js";
+import {attempt, hideTip, quiet, say} from "./messages.js";
+import {choose, refresh} from "./reading.js";
+import {grouped} from "./words.js";
+
+const VIEWS = [["plan", "Plan"], ["frames", "Frames"], ["lanes", "Lanes"], ["files", "Files"], ["diff", "Differences"], ["manage", "Cluster"]];
+// Views that use the whole width.
+const WIDE = ["files", "diff", "manage"];
+
+export function topBar(desk) {
+  addTabs(desk);
+  listen("variant", "change", ({target}) => show(desk, target.value));
+  listen("reload", "click", () => attempt(desk, async () => {
+    const changed = await refresh(desk);
+    say("good", "The plan is read again." + (changed ? bySomebody(changed) : " No frame and no lane has changed."));
+  }));
+  listen("help-open", "click", () => openHelp(desk));
+  listen("leave", "click", () => desk.leave());
+  listenToTimes(desk);
+  desk.on("register plan", () => showVariants(desk));
+  desk.on("register plan look", () => showFigures(desk));
+  desk.on("plan", () => history.replaceState(null, "", "#" + desk.variant));
+  desk.on("view", () => showView(desk));
+  desk.on("left", () => { byId("figures").textContent = ""; });
+  window.addEventListener("hashchange", () => {
+    const wanted = location.hash.slice(1);
+    if (desk.plan && wanted !== desk.variant && desk.variants.some(({name}) => name === wanted)) show(desk, wanted);
+  });
+}
+
+async function show(desk, variant) {
+  quiet();
+  await attempt(desk, () => choose(desk, variant));
+  if (desk.register) showVariants(desk);
+}
+
+function listenToTimes(desk) {
+  const take = () => {
+    const isLong = byId("times").value === "ms", microseconds = Number(byId("macrotick").value);
+    byId("macrotick-label").hidden = !isLong;
+    desk.times.microseconds = isLong && microseconds > 0 && microseconds <= 1000 ? microseconds : 0;
+    desk.tell("look", "choice");
+  };
+  listen("times", "change", take);
+  listen("macrotick", "input", take);
+}
+
+function addTabs(desk) {
+  const tabs = byId("tabs");
+  for (const [view, text] of VIEWS) {
+    tabs.append(button(text, () => desk.show(view), {role: "tab", id: `tab-${view}`, "aria-controls": `view-${view}`}));
+  }
+  tabs.addEventListener("keydown", event => {
+    const step = {ArrowRight: 1, ArrowLeft: -1}[event.key];
+    if (!step) return;
+    const at = VIEWS.findIndex(([view]) => view === desk.view), [to] = VIEWS[(at + step + VIEWS.length) % VIEWS.length];
+    desk.show(to);
+    byId(`tab-${to}`).focus();
+  });
+}
+
+function showView(desk) {
+  for (const [name] of VIEWS) {
+    byId(`view-${name}`).hidden = name !== desk.view;
+    const tab = byId(`tab-${name}`);
+    tab.setAttribute("aria-selected", String(name === desk.view));
+    tab.tabIndex = name === desk.view ? 0 : -1;
+  }
+  hideTip();
+  byId("detail").hidden = WIDE.includes(desk.view);
+  byId("columns").classList.toggle("wide", byId("detail").hidden);
+}
+
+function showVariants(desk) {
+  const entry = desk.entry(), tag = byId("variant-state");
+  options(byId("variant"), inTree(desk).map(variant => [variant.name, `${indented(variant)}${variant.isReleased ? "" : " (open)"}`]), desk.variant);
+  tag.className = entry?.isReleased ? "tag released" : "tag";
+  tag.textContent = !entry ? "" : entry.isReleased ? "released" : "open";
+  tag.title = !entry ? "" : entry.isReleased ? "It never changes again." : "It may be changed.";
+  byId("who").textContent = desk.isIntegrator ? "integrator" : desk.me;
+  document.title = `${desk.variant ?? "no variant"} - slotplan`;
+}
+
+function showFigures(desk) {
+  const {cluster, times} = desk, entry = desk.entry();
+  byId("figures").textContent = `Channels ${cluster.channels}. ${cluster.cycles} cycles of ${times.text(cluster.macroticks_per_cycle)}. `
+    + `${cluster.static_slots} static slots of ${times.number(cluster.slot_macroticks)}; `
+    + `dynamic segment ${times.number(cluster.dynamic_macroticks)}, symbol window ${times.number(cluster.symbol_macroticks)}, `
+    + `idle time ${times.number(cluster.idle_macroticks)}. Payload ${grouped(cluster.payload_words * 2)} bytes.`
+    + (entry ? ` ${entry.name}: depth ${entry.depth}, ${entry.parent ? "opened from " + entry.parent : "opened empty"}.` : "");
+}

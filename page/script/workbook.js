@@ -1,0 +1,109 @@
+// Reads a workbook (.xlsx): the texts of its sheets' cells, as records.
+
+export class NoWorkbook extends Error {}
+
+export const isWorkbook = ([p, k, three, four]) => p === 0x50 && k === 0x4b && three === 3 && four === 4;
+export const canUnpack = () => {
+  try { return Boolean(new DecompressionStream("deflate-raw")); } catch { return false; }
+};
+
+const MOST_LETTERS = 32_000_000;
+
+// Its sheets in their order: name and records.
+export async function sheetsOf(bytes) {
+  const entries = entriesOf(bytes), part = async path => entries.has(path) ? textOf(bytes, entries.get(path)) : "";
+  const targets = new Map(elements(await part("xl/_rels/workbook.xml.rels"), "Relationship").map(({fields}) => [fields.Id, fields.Target]));
+  const strings = elements(await part("xl/sharedStrings.xml"), "si").map(({inner}) => textIn(inner)), sheets = [];
+  for (const {fields} of elements(await part("xl/workbook.xml"), "sheet")) {
+    const target = targets.get(fields["r:id"]) ?? "";
+    const records = recordsIn(await part(target.startsWith("/") ? target.slice(1) : "xl/" + target), strings);
+    sheets.push({name: fields.name ?? "", records});
+  }
+  if (!sheets.length) throw new NoWorkbook("It has no sheet that can be read.");
+  return sheets;
+}
+
+// The places of a zip's entries, by their paths, as its directory at the end has them.
+function entriesOf(bytes) {
+  const view = new DataView(bytes.buffer, bytes.byteOffset, bytes.length), entries = new Map();
+  let end = bytes.length - 22;
+  while (end >= 0 && view.getUint32(end, true) !== 0x06054b50) end -= 1;
+  if (end < 0) throw new NoWorkbook("It ends too early.");
+  for (let at = view.getUint32(end + 16, true), left = view.getUint16(end + 10, true); left > 0; left -= 1) {
+    if (at + 46 > bytes.length || view.getUint32(at, true) !== 0x02014b50) throw new NoWorkbook("Its directory is damaged.");
+    const [name, more, remark] = [28, 30, 32].map(field => view.getUint16(at + field, true));
+    entries.set(new TextDecoder().decode(bytes.subarray(at + 46, at + 46 + name)),
+      {method: view.getUint16(at + 10, true), length: view.getUint32(at + 20, true), begin: view.getUint32(at + 42, true)});
+    at += 46 + name + more + remark;
+  }
+  return entries;
+}
+
+async function textOf(bytes, {method, length, begin}) {
+  if (begin + 30 > bytes.length) throw new NoWorkbook("It is damaged.");
+  const view = new DataView(bytes.buffer, bytes.byteOffset + begin, 30), from = begin + 30 + view.getUint16(26, true) + view.getUint16(28, true);
+  const packed = bytes.subarray(from, from + length);
+  if (method === 0) return new TextDecoder().decode(packed);
+  if (method !== 8) throw new NoWorkbook("It is packed in another way.");
+  return unpacked(packed);
+}
+
+async function unpacked(packed) {
+  const reader = new Blob([packed]).stream().pipeThrough(new DecompressionStream("deflate-raw")).getReader(), decoder = new TextDecoder();
+  let text = "";
+  try {
+    for (;;) {
+      const {done, value} = await reader.read();
+      if (done) return text + decoder.decode();
+      text += decoder.decode(value, {stream: true});
+      if (text.length > MOST_LETTERS) throw new NoWorkbook("It is too large for a plan.");
+    }
+  } catch (fault) {
+    throw fault instanceof NoWorkbook ? fault : new NoWorkbook("It is damaged.");
+  }
+}
+
+const ENTITIES = {lt: "<", gt: ">", amp: "&", quot: '"', apos: "'"};
+const unescaped = text => text.replace(/&(?:#(\d{1,7})|#x([0-9a-fA-F]{1,6})|(\w+));/g, (whole, number, hex, name) =>
+  name ? ENTITIES[name] ?? whole : String.fromCodePoint(Math.min(0x10ffff, number ? Number(number) : parseInt(hex, 16))));
+
+// The elements of a name, which hold none of the same name: their fields, and what is between their tags.
+function elements(xml, name) {
+  const found = [];
+  for (const [, head, isEmpty, inner] of xml.matchAll(new RegExp(`<(?:\\w+:)?${name}(\\s[^>]*?)?(?:(/)>|>([^]*?)</(?:\\w+:)?${name}>)`, "g"))) {
+    const fields = {};
+    for (const [, key, value] of (head ?? "").matchAll(/([\w:]+)="([^"]*)"/g)) fields[key] = unescaped(value);
+    found.push({fields, inner: isEmpty ? "" : inner});
+  }
+  return found;
+}
+
+// What is said in the t elements; those of a reading aid are left out.
+const textIn = inner => elements(inner.replace(/<rPh[^]*?<\/rPh>/g, ""), "t").map(text => unescaped(text.inner)).join("");
+
+function recordsIn(xml, strings) {
+  const records = [];
+  for (const row of elements(xml, "row")) {
+    const record = [];
+    for (const cell of elements(row.inner, "c")) {
+      const at = columnOf(cell.fields.r) ?? record.length;
+      while (record.length < at) record.push("");
+      record[at] = cellText(cell, strings);
+    }
+    records.push(record);
+  }
+  return records;
+}
+
+// The number of a column, of a cell's name as `AB12`.
+function columnOf(name) {
+  const letters = /^([A-Z]{1,3})\d+$/.exec(name ?? "")?.[1];
+  return letters && [...letters].reduce((sum, letter) => sum * 26 + letter.charCodeAt(0) - 64, 0) - 1;
+}
+
+function cellText({fields, inner}, strings) {
+  if (fields.t === "inlineStr") return textIn(inner);
+  const value = unescaped(elements(inner, "v")[0]?.inner ?? "");
+  if (fields.t === "s") return strings[Number(value)] ?? "";
+  return !fields.t && value !== "" && Number.isFinite(Number(value)) ? String(Number(value)) : value;
+}
