@@ -1,4 +1,4 @@
-"""Makes Wireshark's tables of a plan, or a capture of its bus: python3 -m examples.wireshark --help"""
+"""Makes Wireshark's tables of a plan, or a capture of its bus: python3 -m clients.wireshark --help"""
 import argparse
 import sys
 from http.client import HTTPException
@@ -11,7 +11,7 @@ from .sources import NoReport, RegisterFile, Server
 
 def words():
     """The command line."""
-    parser = argparse.ArgumentParser(prog="python3 -m examples.wireshark", description="Wireshark's tables of a plan, or a capture of its bus.")
+    parser = argparse.ArgumentParser(prog="python3 -m clients.wireshark", description="Wireshark's tables of a plan, or a capture of its bus.")
     commands = parser.add_subparsers(required=True, metavar="COMMAND")
     command(commands, "tables", make_tables, "FOLDER")
     captured = command(commands, "capture", make_capture, "FILE")

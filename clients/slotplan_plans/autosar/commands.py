@@ -1,0 +1,125 @@
+"""The commands for AUTOSAR system descriptions: `export`, `import`, `compare` and `ecus`."""
+import csv
+import re
+import sys
+from collections import Counter
+from decimal import Decimal, InvalidOperation
+
+from ..faults import Fault
+from ..files import written
+from ..reading import read
+from ..tables import rows_of
+from ..words import add_source, source_of
+from . import beside, folder, reading, writing
+from .proposal import Proposal
+
+SHORT_NAME = re.compile("[A-Za-z][A-Za-z0-9_]{0,127}")
+TABLE = "ecu", "supplier"
+
+
+def add_commands(commands):
+    made = command(commands, "export", export)
+    add_source(made)
+    made.add_argument("file", metavar="FILE", help="the description that is written, as car.arxml")
+    made.add_argument("--open", action="store_true", help="an open variant too, which may change later")
+    made.add_argument("--macrotick", metavar="MICROSECONDS", help="how long a macrotick lasts, as 1 or 1.375")
+    made.add_argument("--cluster", metavar="NAME", default="FlexRay", help="the cluster's name in the file")
+    made.add_argument("--each", action="store_true", help="a triggering for each timing, for tools that read one timing of each triggering")
+    listed = command(commands, "ecus", ecus)
+    add_files(listed)
+    read_in = command(commands, "import", import_files)
+    read_in.add_argument("folder", metavar="FOLDER", help="the folder that is made")
+    add_files(read_in)
+    read_in.add_argument("--suppliers", metavar="TABLE", help="a table with the columns ecu, supplier")
+    read_in.add_argument("--variant", metavar="NAME", help="how the variant is called; else as the file says, or v1")
+    compared = command(commands, "compare", compare)
+    add_source(compared)
+    add_files(compared)
+    compared.add_argument("--suppliers", metavar="TABLE", help="a table with the columns ecu, supplier")
+
+
+def command(commands, name, work):
+    parser = commands.add_parser(name, help=work.__doc__, description=work.__doc__)
+    parser.set_defaults(work=work)
+    return parser
+
+
+def add_files(parser):
+    parser.add_argument("files", metavar="FILE", nargs="+", help="a description, which may be parted into several files")
+    parser.add_argument("--cluster", metavar="NAME", help="which FlexRay cluster, where the description has several")
+
+
+def export(given):
+    """Writes a released variant as an AUTOSAR system description."""
+    options = writing.Options(short_name(given.cluster), microseconds(given.macrotick), given.each)
+    plan = read(source_of(given), given.variant)
+    if not (plan.variant.is_released or given.open):
+        raise Fault(f"the variant {given.variant} is open, so it may change; --open writes it as it is now")
+    with written(given.file, 0o666) as file:
+        writing.write(file, plan, options)
+    print(counts(plan))
+
+
+def short_name(text):
+    if not SHORT_NAME.fullmatch(text):
+        raise Fault(f"--cluster: {text!a:.60} is no short name of AUTOSAR")
+    return text
+
+
+def microseconds(text):
+    """The length of a macrotick as a decimal number, or none."""
+    if text is None:
+        return None
+    try:
+        number = Decimal(text)
+    except InvalidOperation:
+        number = Decimal(0)
+    if not number.is_finite() or not Decimal("0.001") <= number <= 1000:
+        raise Fault(f"--macrotick: {text!a:.60} is no number of microseconds from 0.001 to 1000")
+    return number
+
+
+def counts(plan):
+    """How many rows of each kind a plan has."""
+    rows = {"suppliers": plan.cluster.suppliers, "nodes": plan.nodes, "grants": plan.grants, "frames": plan.frames}
+    of_frames = {"placements": sum(len(it.placements) for it in plan.frames), "signals": sum(len(it.signals) for it in plan.frames)}
+    return ", ".join(f"{kind}: {count}" for kind, count in [*((kind, len(found)) for kind, found in rows.items()), *of_frames.items()])
+
+
+def ecus(given):
+    """Prints a table of the ECUs in which their suppliers are to be filled in."""
+    found = reading.read(given.files, given.cluster)
+    csv.writer(sys.stdout, lineterminator="\n").writerows([TABLE, *((path, ecu.supplier or "") for path, ecu in sorted(found.ecus.items()))])
+
+
+def proposed(given, variant=None):
+    """What was found in the files, and what is proposed."""
+    table = {path: supplier for _, (path, supplier) in rows_of(given.suppliers, TABLE)} if given.suppliers else {}
+    found = reading.read(given.files, given.cluster)
+    return found, Proposal(found, table, variant)
+
+
+def import_files(given):
+    """Reads a description, and makes a folder with a cluster file, requests and files of rows for a new register, and notes of what does not fit."""
+    found, proposal = proposed(given, given.variant)
+    folder.write(given.folder, proposal.plan, proposal.notes, found.comment)
+    print(counts(proposal.plan))
+    print(", ".join(f"{kind}: {count}" for kind, count in told(proposal.notes).items()))
+
+
+def told(notes):
+    """How many notes of each kind there are."""
+    counted = Counter(note.kind for note in notes)
+    return {kind: counted[kind] for kind in ("left out", "changed", "not kept")}
+
+
+def compare(given):
+    """Prints what differs between a variant and a description, as `slotplan diff` does; the status is 1 where something differs."""
+    plan = read(source_of(given), given.variant)
+    _, proposal = proposed(given, given.variant)
+    lines = beside.compared(plan, proposal.plan, plan.reader)
+    print("".join(f"{line}\n" for line in lines), end="")
+    for note in proposal.notes:
+        if note.kind == "left out":
+            print(f"{note.kind}: {note.what}: {note.why}", file=sys.stderr)
+    return 1 if lines else 0

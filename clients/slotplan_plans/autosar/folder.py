@@ -1,0 +1,90 @@
+"""A proposal as a folder: the cluster file, the integrator's requests, each supplier's key and files of rows, and the notes."""
+import csv
+import json
+import os
+from pathlib import Path
+
+from ..faults import Fault
+from ..files import written
+from ..keys import Keys, made_up
+from ..plan import FIGURES
+from .found import Note
+
+# How many rows a file may have.
+ROWS = 512
+HEADERS = {
+    "frames": "frame,node",
+    "placements": "frame,node,slot,channels,base,repetition",
+    "signals": "frame,signal,start,length,order",
+}
+
+
+def write(folder, plan, notes, comment):
+    """Makes the folder, which only its owner may read: it has keys."""
+    folder, suppliers = Path(folder), plan.cluster.suppliers
+    made(folder)
+    keys = Keys(made_up(), {name: made_up() for name in suppliers})
+    with written(folder / "cluster.toml") as file:
+        file.write(cluster_file(plan.cluster, keys, comment))
+    with written(folder / "requests.txt") as file:
+        file.writelines(f"{keys.integrator} {json.dumps(it, separators=(',', ':'))}\n" for it in requests(plan))
+    for supplier in suppliers:
+        made(folder / supplier)
+        with written(folder / supplier / "key.txt") as file:
+            file.write(f"{keys.of(supplier)}\n")
+        for name, text in files(plan, supplier):
+            with written(folder / supplier / name) as file:
+                file.write(text)
+    with written(folder / "notes.csv") as file:
+        csv.writer(file, lineterminator="\n").writerows([Note._fields, *notes])
+
+
+def made(folder):
+    try:
+        os.mkdir(folder, 0o700)
+    except FileExistsError:
+        raise Fault(f"{folder} is there already; name another folder, or move it away") from None
+    except OSError as fault:
+        raise Fault(f"{folder}: {fault.strerror}") from fault
+
+
+def cluster_file(cluster, keys, comment):
+    lines = [f"# {''.join(letter if letter.isprintable() else '?' for letter in comment)}", f'channels = "{cluster.channels}"']
+    lines += [f"{key} = {cluster.figures[key]}" for key in FIGURES]
+    lines += [f'integrator = "{keys.integrator}"', "", "[suppliers]", *(f'{name} = "{key}"' for name, key in keys.suppliers.items())]
+    return "\n".join(lines) + "\n"
+
+
+def requests(plan):
+    """The integrator's requests: the variant, the nodes and the grants."""
+    variant = plan.variant.name
+    yield {"do": "open_variant", "variant": variant}
+    for it in plan.nodes:
+        yield {"do": "add_node", "supplier": it.supplier, "node": it.name}
+    for it in plan.grants:
+        yield {"do": "grant", "variant": variant, "slot": it.slot, "channel": it.channel, "supplier": it.supplier, "node": it.node}
+
+
+def files(plan, supplier):
+    """The supplier's files, whose names are in the order in which they are imported: all frames, then placements, then signals."""
+    mine = [it for it in plan.frames if it.supplier == supplier]
+    rows = {
+        "frames": [[(it.name, it.node)] for it in mine],
+        "placements": [[(it.name, it.node, at.slot, at.channels, at.base, at.repetition) for at in it.placements] for it in mine],
+        "signals": [[(it.name, signal.name, signal.start, signal.length, signal.order) for signal in it.signals] for it in mine],
+    }
+    parts = [(kind, part) for kind in HEADERS for part in parted(rows[kind])]
+    for number, (kind, part) in enumerate(parts):
+        yield f"part{number:02}_{kind}.csv", "".join(f"{line}\n" for line in [HEADERS[kind], *(",".join(map(str, row)) for row in part)])
+
+
+def parted(groups):
+    """The rows of frames in parts of at most so many rows. Those of one frame stay together."""
+    part = []
+    for group in groups:
+        if len(part) + len(group) > ROWS:
+            yield part
+            part = []
+        part = part + group
+    if part:
+        yield part

@@ -1,0 +1,70 @@
+"""What a system description tells of its cluster, and what is told of it that a register cannot hold."""
+from dataclasses import dataclass, field
+from typing import NamedTuple
+
+
+class Note(NamedTuple):
+    """What became of a thing: `left out` is a row that the register does not have, `changed` one that it has in another form, `not kept` all else."""
+
+    kind: str
+    what: str
+    why: str
+
+
+class Timing(NamedTuple):
+    """Where a frame is sent on one channel."""
+
+    channel: str
+    slot: int
+    base: int
+    repetition: int
+
+    def __str__(self):
+        return f"slot {self.slot} on {self.channel}, base {self.base}, repetition {self.repetition}"
+
+
+@dataclass
+class Ecu:
+    """An ECU; its supplier, where the file names it; and the slots and channels that it holds without a frame."""
+
+    name: str
+    supplier: str = None
+    idle: list = field(default_factory=list)
+
+
+@dataclass
+class FoundFrame:
+    """A frame: its bytes, the paths of the ECUs that send it, its timings, those of them that are placed on A and on B apart, and its signals."""
+
+    name: str
+    length: int
+    senders: set = field(default_factory=set)
+    timings: list = field(default_factory=list)
+    apart: set = field(default_factory=set)
+    signals: list = field(default_factory=list)
+
+
+@dataclass
+class Found:
+    """`figures` has the keys of the cluster file; ECUs and frames go by their paths. `variant` is none where the file is no plan of a register."""
+
+    channels: str
+    figures: dict
+    variant: str
+    suppliers: list
+    ecus: dict
+    frames: dict
+    notes: list
+    comment: str
+
+
+def folded(cycles, count):
+    """A set of cycles as bases and repetitions, which divide the count of cycles: the most frequent first."""
+    left, found = set(cycles), []
+    for repetition in (it for it in range(1, count + 1) if count % it == 0):
+        for base in range(repetition):
+            selected = set(range(base, count, repetition))
+            if selected <= left:
+                left -= selected
+                found.append((base, repetition))
+    return found

@@ -1,0 +1,169 @@
+"""Reads the FlexRay cluster of a system description: its figures, its channels, its ECUs, and each frame that it sends."""
+from ..faults import Fault
+from .found import Ecu, Found, FoundFrame, Note
+from .payloads import Payloads
+from .sending import Sending
+from .tree import Tree, whole
+
+# The register's figures but `dynamic_macroticks` and `cycles`, and the elements that have them.
+FIGURES = {
+    "static_slots": "NUMBER-OF-STATIC-SLOTS", "slot_macroticks": "STATIC-SLOT-DURATION", "symbol_macroticks": "SYMBOL-WINDOW",
+    "idle_macroticks": "NETWORK-IDLE-TIME", "macroticks_per_cycle": "MACRO-PER-CYCLE", "payload_words": "PAYLOAD-LENGTH-STATIC",
+}
+# What the register takes of each.
+RANGES = {
+    "static_slots": (2, 1023), "slot_macroticks": (1, 16000), "dynamic_macroticks": (0, 16000), "symbol_macroticks": (0, 16000),
+    "idle_macroticks": (1, 16000), "macroticks_per_cycle": (1, 16000), "payload_words": (0, 127), "cycles": (8, 64),
+}
+
+
+def read(paths, cluster=None):
+    """What the files tell of their FlexRay cluster; of that with this name or path, where there are several."""
+    return Reader(Tree(paths)).found(cluster)
+
+
+class Reader:
+    """Reads a tree. What is not read of it is noted in the end."""
+
+    def __init__(self, tree):
+        self.tree, self.notes, self.ecus, self.frames = tree, [], {}, {}
+
+    def note(self, kind, what, why):
+        self.notes.append(Note(kind, what, why))
+
+    def found(self, wanted):
+        tree = self.tree
+        cluster = self.cluster(wanted)
+        conditional = self.conditional(cluster)
+        figures = self.figures(conditional)
+        told = tree.told(cluster, "variant", "supplier")
+        channels = self.channels(conditional)
+        self.connected(channels)
+        sending = Sending(self, figures)
+        for letter in sorted(channels):
+            for triggering in channels[letter].iter("FLEXRAY-FRAME-TRIGGERING"):
+                sending.triggering(letter, triggering)
+        self.unplaced()
+        payloads = Payloads(self, figures)
+        for path, frame in self.frames.items():
+            payloads.frame(path, frame)
+        comment = self.comment(cluster, conditional)
+        self.rest()
+        variant = next((value for key, value in told if key == "variant"), None)
+        suppliers = [value for key, value in told if key == "supplier"]
+        return Found("".join(sorted(channels)), figures, variant, suppliers, self.ecus, self.frames, self.notes, comment)
+
+    def cluster(self, wanted):
+        clusters = [(self.tree.path_of[it], it) for it in self.tree.of_kind("FLEXRAY-CLUSTER") if it in self.tree.path_of]
+        if wanted:
+            clusters = [(path, it) for path, it in clusters if wanted in (path, path.rpartition("/")[2])]
+        if not clusters:
+            raise Fault(f"there is no FlexRay cluster {wanted}" if wanted else "there is no FlexRay cluster")
+        if len(clusters) > 1:
+            raise Fault(f"there are {len(clusters)} FlexRay clusters: {' '.join(path for path, _ in clusters)}; name one with --cluster")
+        return clusters[0][1]
+
+    def conditional(self, cluster):
+        """What holds of the cluster. Of several forms the file leaves open which one does."""
+        forms = cluster.findall("FLEXRAY-CLUSTER-VARIANTS/FLEXRAY-CLUSTER-CONDITIONAL")
+        if len(forms) != 1:
+            raise Fault(f"the cluster has {len(forms)} FLEXRAY-CLUSTER-CONDITIONAL; one can be read")
+        return forms[0]
+
+    def figures(self, conditional):
+        number = lambda tag: self.tree.number(conditional, tag)
+        figures = {key: number(tag) for key, tag in FIGURES.items()}
+        figures["symbol_macroticks"] = figures["symbol_macroticks"] or 0
+        missing = [FIGURES[key] for key, value in figures.items() if value is None]
+        if missing:
+            raise Fault(f"the cluster has no {' and no '.join(missing)}")
+        greatest = number("CYCLE-COUNT-MAX")
+        figures["cycles"] = 64 if greatest is None else greatest + 1
+        used = figures["static_slots"] * figures["slot_macroticks"] + figures["symbol_macroticks"] + figures["idle_macroticks"]
+        figures["dynamic_macroticks"] = figures["macroticks_per_cycle"] - used
+        if figures["dynamic_macroticks"] < 0:
+            raise Fault(f"the segments of the cluster take {used} macroticks, and a cycle has {figures['macroticks_per_cycle']}")
+        for key, (least, most) in RANGES.items():
+            if not least <= figures[key] <= most or key == "cycles" and figures[key] % 2:
+                raise Fault(f"{key} would be {figures[key]}; the register takes {least} to {most}{', an even number' if key == 'cycles' else ''}")
+        self.minislots(number("NUMBER-OF-MINISLOTS") or 0, number("MINISLOT-DURATION") or 0, figures["dynamic_macroticks"])
+        return figures
+
+    def minislots(self, count, length, room):
+        if count * length > room:
+            raise Fault(f"{count} minislots of {length} macroticks do not fit into the {room} that the other segments leave")
+        if count or length:
+            self.note("not kept", "minislots", f"{count} of {length} macroticks; the register has the length of the dynamic segment alone")
+
+    def channels(self, conditional):
+        """The channels by letter."""
+        found = {}
+        for channel in conditional.iterfind("PHYSICAL-CHANNELS/FLEXRAY-PHYSICAL-CHANNEL"):
+            name = self.tree.text(channel, "CHANNEL-NAME")
+            letter = name.removeprefix("CHANNEL-")
+            if letter not in ("A", "B") or letter in found:
+                why = f"its CHANNEL-NAME is {name or 'missing'}: there may be one CHANNEL-A and one CHANNEL-B"
+                self.note("left out", self.tree.path_of[channel], why)
+            else:
+                found[letter] = channel
+        if not found:
+            raise Fault("the cluster has no channel")
+        return found
+
+    def connected(self, channels):
+        """The ECUs that have a connector on a channel."""
+        for letter, channel in channels.items():
+            for leaf in channel.iter("COMMUNICATION-CONNECTOR-REF"):
+                path, element = self.tree.follow(leaf)
+                ecu = self.tree.above(path, "ECU-INSTANCE")
+                if element is None or ecu is None:
+                    self.note("left out", path, f"a connector of channel {letter} that belongs to no ECU of this file")
+                else:
+                    self.ecu(ecu)
+
+    def ecu(self, path):
+        """The ECU of this path, which is read the first time."""
+        if path not in self.ecus:
+            element = self.tree.at(path)
+            told = self.tree.told(element, "supplier", "name", "grant")
+            values = dict(told)
+            idle = [(whole(slot), channel) for slot, _, channel in (value.partition(" ") for key, value in told if key == "grant")]
+            self.ecus[path] = Ecu(values.get("name") or self.tree.text(element, "SHORT-NAME"), values.get("supplier"), idle)
+        return self.ecus[path]
+
+    def frame(self, path):
+        """The frame of this path, which is read the first time."""
+        if path not in self.frames:
+            element = self.tree.at(path)
+            told = self.tree.told(element, "name", "apart", "ecu")
+            name = dict(told).get("name") or self.tree.text(element, "SHORT-NAME")
+            frame = FoundFrame(name, self.tree.number(element, "FRAME-LENGTH", 0))
+            frame.apart = {tuple(map(whole, value.split(" "))) for key, value in told if key == "apart"}
+            frame.senders = {value for key, value in told if key == "ecu"}
+            self.frames[path] = frame
+        return self.frames[path]
+
+    def unplaced(self):
+        """Frames that no triggering sends. Special data names the ECU of one that a register has without a placement."""
+        for element in self.tree.of_kind("FLEXRAY-FRAME"):
+            path = self.tree.path_of.get(element)
+            if path not in self.frames or self.tree.at(path) is not element:
+                if self.tree.at(path) is element and self.tree.told(element, "ecu"):
+                    self.frame(path)
+                else:
+                    self.note("left out", path or "a FLEXRAY-FRAME", "a frame that the static segment of this cluster does not send")
+
+    def comment(self, cluster, conditional):
+        """What a cluster file has no keys for."""
+        told = [f"The cluster {self.tree.text(cluster, 'SHORT-NAME')}."]
+        for tag, what in ("MACROTICK-DURATION", "A macrotick"), ("CYCLE", "A cycle"):
+            if seconds := self.tree.text(conditional, tag):
+                told.append(f"{what} lasts {seconds} s.")
+        return " ".join(told)
+
+    def rest(self):
+        """Notes what was not read."""
+        for path in self.tree.doubles:
+            self.note("left out", path, "a second element of this path: references lead to the first")
+        for what, count in sorted((self.tree.unread() + self.tree.passed).items()):
+            self.note("not kept", what, f"{count} in the file")

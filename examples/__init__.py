@@ -1,1 +1,0 @@
-"""Scripts and clients of the register, as README.md lists them."""
