@@ -1,5 +1,5 @@
-"""The gate: `rt ci`, and then the program that was built, tried as each compiler made it, also where its files, connections and memory fail. The last
-line counts all. `make prove` runs it."""
+"""The gate: `rt ci`, and then the program that was built, tried as each compiler made it, also where its files, connections and memory fail. What is
+around the program, the clients and the page in a browser, `make test` tries. The last line counts all. `make prove` runs it."""
 import os
 import resource
 import subprocess
@@ -55,7 +55,7 @@ def main():
     os.environ.setdefault("RT_JOBS", str(min(4, len(os.sched_getaffinity(0)))))
     counts = [counted("rt ci", ["rt", "ci"])]
     for turn, program in enumerate(PROGRAMS):
-        counts.append(counted(f"the classes of tests, {program}", [sys.executable, "-m", "tests.lib.run"], SLOTPLAN=program, TURN=str(turn)))
+        counts.append(counted(f"the classes of tests, {program}", [sys.executable, "-m", "tests.lib.run", "--program"], SLOTPLAN=program, TURN=str(turn)))
     for line in (line for count in counts for line in count.told):
         print(f"{line:.400}")
     passed, failed = sum(count.passed for count in counts), sum(count.failed for count in counts)

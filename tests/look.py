@@ -2,8 +2,8 @@
 """Draws the plans of the examples, and one at the limits: python3 -m tests.look [FOLDER]. The program is the one that SLOTPLAN names.
 
 The pages go to FOLDER, out/look where none is named. Where there is chromium, a picture of each page and a file as it is printed stand beside it,
-and the cells of the rectangles that the browser has are counted: they are as many as the lines of the schedule. The last line is
-'N passed, M failed'."""
+and the cells of the rectangles that the browser has are counted: they are as many as the lines of the schedule. Where there is chromedriver too,
+pictures of the planners' page in each of its views stand there; README shows page.png. The last line is 'N passed, M failed'."""
 import re
 import shutil
 import subprocess
@@ -11,9 +11,14 @@ import sys
 import tempfile
 from pathlib import Path
 
+from .lib.browser import LACKS, Browser
 from .lib.picture import read
+from .lib.png import packed
 from .lib.plans import SECONDS, Register, examples, limits
 from .lib.program import TOP
+from .lib.server import HERE, started
+from .lib.user import User
+from .lib.years import BOSS, CAMERA, CLUSTER, REQUESTS
 
 counted = {True: 0, False: 0}
 
@@ -42,6 +47,31 @@ def look(browser, page, channels, cycles, lines):
     return sum(len(kind[4]) for lane in lanes.values() for kind in lane.kinds)
 
 
+def look_at_page(folder):
+    """Pictures of the planners' page of the register of `make demo`: the integrator's views, and a supplier's, who is about to place a frame."""
+    with tempfile.TemporaryDirectory() as place:
+        Register(Path(place), CLUSTER, REQUESTS)
+        with started(place) as (_, _, port), Browser() as browser:
+            user = User(browser, f"http://{HERE}:{port}/")
+            user.enter(BOSS)
+            user.frame("signs")
+            (folder / "page.png").write_bytes(packed(browser.picture()))
+            for view in "frames", "lanes", "diff", "manage", "plan":
+                user.view(view)
+                user.rests()
+                (folder / f"page-{view}.png").write_bytes(browser.picture())
+            (folder / "page.pdf").write_bytes(browser.printed())
+            user.enter(CAMERA)
+            user.frame("night_view")
+            user.room(8, "A")
+            browser.hover(user.place_of(22, 12, "A"))
+            (folder / "page-place.png").write_bytes(browser.picture())
+            user.view("files")
+            user.rests()
+            (folder / "page-files.png").write_bytes(browser.picture())
+    print(f"{folder / 'page.png'}: the planners' page")
+
+
 def main():
     folder = Path(sys.argv[1] if len(sys.argv) > 1 else TOP / "out/look").resolve()
     folder.mkdir(parents=True, exist_ok=True)
@@ -58,6 +88,10 @@ def main():
                 lines = len(register.tell("schedule", "car.db", variant).splitlines())
                 drawn = look(browser, page, register.cluster["channels"], register.cluster.get("cycles", 64), lines) if browser else "?"
                 print(f"{page}: {page.stat().st_size} bytes, {lines} cells in {drawn} rectangles")
+    if LACKS:
+        print(f"there is {LACKS}: the planners' page is not looked at")
+    else:
+        look_at_page(folder)
     print(f"{counted[True]} passed, {counted[False]} failed")
     return 1 if counted[False] else 0
 

@@ -1,209 +1,39 @@
-"""What no contract says of the built program: where its server listens, how long a connection lasts, what it reads and writes in which order, and how
-many connections it serves, and in how much memory; and what is read as a file, in how many reads.
+"""What no contract says of the built program: where its server listens, what it reads and writes in which order, how many connections it serves,
+and in how much memory; and what is read as a file, in how many reads. Many connections at once are tried in test_many.
 
 What is wanted was typed by hand from docs/HTTP.md and docs/FORMATS.md, or is made by their rules; none of it is the program's own
 output."""
-import fcntl
 import os
-import re
-import signal
 import socket
 import sqlite3
-import struct
-import termios
 import time
-from contextlib import ExitStack, closing, contextmanager, suppress
+from contextlib import closing
 from functools import partial
 from itertools import product
-from pathlib import Path
-from threading import Event, Thread
 
 from tests.lib import made
-from tests.lib.messages import CLUSTER, CONTINUE, DONE, command, engine, head, json, post, refused, text
+from tests.lib.clients import (
+    comes_to, connected, has_arrived, interrupt, is_heard, limited, meanwhile, memory_of, narrow, open_at, received, reset, waited,
+)
+from tests.lib.connections import FRAMES, SCHEDULE, ConnectionCase, LongCase, PlannedCase, add_frame, adds, long_schedule
+from tests.lib.messages import CLUSTER, CONTINUE, DONE, engine, head, json, post, refused, text
 from tests.lib.preload import Pieces
 from tests.lib.program import SECONDS
 from tests.lib.registers import RegisterCase
-from tests.lib.server import HERE, sent
+from tests.lib.server import sent
 
-# How many seconds a connection lasts where the server is told of none, how many most servers here are told, and how much later
-# its end may be seen on a slow machine.
-LIMIT, SHORT, LATE = 10, 2, 7
 # For how many seconds the server reads what is still sent where it has replied before it read the whole request.
 REST = 1
-# How many clients are each in the way of the next. A server that waits a second for each takes twice the time that is allowed.
-HOLDERS = 8
 CONNECTIONS = 20_001
 FILE_READS = 100_000
 IMPORT_BYTES = 65_536
 # How many bytes the pages take at most that were used last, and as many those that were used before them, as docs/PROVED.md says.
 SHELF = 67_108_864
 
-ADD = b'{"do":"add_frame","variant":"v1","frame":"f7","node":"n1"}'
-FRAMES = head("GET", "/v1/variants/v1/frames", "supplier01"), text(b"FRAME f1 n1\nAT 0001 A 00 64\n")
-SCHEDULE = head("GET", "/v1/variants/v1/schedule", "integrator1")
+ADD = add_frame("f7")
 NOTHING = head("GET", "/v1/nothing"), engine("404 Not Found")
 LONG_BODY = b"x" * 200_000
 TOO_LONG = head("POST", "/v1/commands", "supplier01", f"Content-Length: {len(LONG_BODY)}"), engine("413 Payload Too Large")
-
-
-# ---- clients
-
-
-def connected(port):
-    return socket.create_connection((HERE, port), SECONDS)
-
-
-def narrow(port):
-    """A connection that holds little of what its client does not read: the smallest segments, and few of them."""
-    stream = socket.socket()
-    stream.settimeout(SECONDS)
-    stream.setsockopt(socket.IPPROTO_TCP, socket.TCP_MAXSEG, 88)
-    stream.setsockopt(socket.SOL_SOCKET, socket.SO_RCVBUF, 1)
-    stream.connect((HERE, port))
-    return stream
-
-
-def received(stream, count=None):
-    """What comes, up to so many bytes, or up to the stream's end."""
-    got = b""
-    while (count is None or len(got) < count) and (piece := stream.recv(65536)):
-        got += piece
-    return got
-
-
-def has_arrived(stream):
-    """Whether all that was sent comes to lie at the server, read or not."""
-    until = time.monotonic() + SECONDS
-    while unread := struct.unpack("i", fcntl.ioctl(stream, termios.TIOCOUTQ, bytes(4)))[0]:
-        if time.monotonic() > until:
-            return unread
-        time.sleep(0.01)
-    return True
-
-
-@contextmanager
-def meanwhile(act, pause):
-    """Does this again and again, with so many seconds between, until it fails or the block is left."""
-    left = Event()
-
-    def repeated():
-        with suppress(OSError):
-            while not left.wait(pause):
-                act()
-
-    worker = Thread(target=repeated, daemon=True)
-    worker.start()
-    try:
-        yield
-    finally:
-        left.set()
-        worker.join(SECONDS)
-
-
-def trickled(stream, data):
-    """Sends these bytes, one each half second, until the server replies or ends the connection; gives what it replies."""
-    stream.settimeout(0.5)
-    for at in range(len(data)):
-        try:
-            stream.sendall(data[at : at + 1])
-            return received(stream)
-        except socket.timeout:
-            continue
-        except ConnectionError:
-            break
-    return b""
-
-
-def reset(stream):
-    """Ends the connection at once, as a client does that breaks down."""
-    stream.setsockopt(socket.SOL_SOCKET, socket.SO_LINGER, struct.pack("ii", 1, 0))
-    stream.close()
-
-
-def interrupt(server):
-    """Stops the server and lets it go on: a read of a connection in which it waits is interrupted, and a write of which nothing was
-    taken yet."""
-    for _ in range(4):
-        time.sleep(0.2)
-        server.send_signal(signal.SIGSTOP)
-        time.sleep(0.05)
-        server.send_signal(signal.SIGCONT)
-
-
-def memory_of(server):
-    """How many bytes of memory it has."""
-    return int(re.search(r"VmRSS:\s+(\d+) kB", Path(f"/proc/{server.pid}/status").read_text())[1]) * 1024
-
-
-def limited(seconds):
-    """The words for a server whose connections last so long."""
-    return [] if seconds == LIMIT else ["--seconds", str(seconds)]
-
-
-def waited(begun, seconds):
-    """Whether it was waited so long since then, and not much longer."""
-    passed = time.monotonic() - begun
-    return seconds - 0.1 <= passed <= seconds + LATE or passed
-
-
-def waited_for_none(begun):
-    """Whether clients that were each in the way of the next did not hold it."""
-    passed = time.monotonic() - begun
-    return passed <= HOLDERS / 2 or passed
-
-
-class ConnectionCase(RegisterCase):
-    """A test of connections to a server, each test in a process of its own: it mostly waits."""
-
-    is_apart = waits = True
-
-    def ends(self, server, said=b""):
-        super().ends(server)
-        self.see("what it said", said, server.stderr.read())
-
-
-# ---- registers
-
-
-# A supplier with a frame in each static slot, in all cycles on both channels; names are as long as may be.
-SLOTS, IN_A_FRAME = 64, 8
-LONG = {**made.CLUSTER, "static_slots": str(SLOTS), "macroticks_per_cycle": str(10 * SLOTS + 60), "suppliers": '{%s = "supplier01"}' % ("s" * 32)}
-SUPPLIER, NODE = "s" * 32, "n" * 32
-
-
-def frame_in(slot):
-    return f"f{(slot - 1) // IN_A_FRAME:031}"
-
-
-def long_schedule():
-    """What the integrator reads of it, some 900,000 bytes: more than a connection holds whose client reads nothing."""
-    cells = product(range(64), range(1, SLOTS + 1), "AB")
-    return "".join(f"{cycle:02} {slot:04} {channel} {frame_in(slot)} {NODE} {SUPPLIER}\n" for cycle, slot, channel in cells).encode()
-
-
-class PlannedCase(ConnectionCase):
-    """Over the register after the first script."""
-
-    def setUp(self):
-        super().setUp()
-        self.plan()
-
-
-class LongCase(ConnectionCase):
-    """Over that supplier's register."""
-
-    cluster = made.cluster_file(LONG).encode()
-
-    def setUp(self):
-        super().setUp()
-        self.create()
-        slots = range(1, SLOTS + 1)
-        with closing(sqlite3.connect(self.folder / "car.db")) as file, file:
-            file.execute("INSERT INTO nodes VALUES (?, ?)", (SUPPLIER, NODE))
-            file.execute("INSERT INTO variants VALUES ('v1', NULL, 1, 0, 0)")
-            file.executemany("INSERT INTO grants VALUES ('v1', ?, ?, ?, ?)", [(slot, channel, SUPPLIER, NODE) for slot in slots for channel in "AB"])
-            file.executemany("INSERT INTO frames VALUES ('v1', ?, ?, ?)", sorted({(SUPPLIER, frame_in(slot), NODE) for slot in slots}))
-            file.executemany("INSERT INTO placements VALUES ('v1', ?, ?, ?, 'AB', 0, 1)", [(SUPPLIER, frame_in(slot), slot) for slot in slots])
 
 
 # ---- one connection
@@ -278,7 +108,7 @@ class Reading(PlannedCase):
 
     def test_invited(self):
         """A client that waits for `100 Continue` before it sends the body gets it."""
-        whole = command("supplier01", ADD, "Expect: 100-continue")
+        whole = adds("f7", "Expect: 100-continue")
         with self.served("--count", "1") as (server, port):
             with connected(port) as stream:
                 stream.sendall(whole[: -len(ADD)])
@@ -289,7 +119,7 @@ class Reading(PlannedCase):
 
     def test_ends_and_failures(self):
         """The input's end is no failure of a read, and a failed read is not tried again."""
-        whole = command("supplier01", ADD, "Expect: 100-continue")
+        whole = adds("f7", "Expect: 100-continue")
         with self.served("--count", "5") as (server, port):
             for cut in 20, len(whole) - 1:
                 self.see("a request that ends early", CONTINUE if cut > 20 else b"", sent(port, whole[:cut], end=True))
@@ -297,13 +127,14 @@ class Reading(PlannedCase):
                     stream.sendall(whole[:cut])
                     if cut > 20:
                         self.see("behind the head", CONTINUE, received(stream, len(CONTINUE)))
-                    time.sleep(0.2)
+                    self.see("it is heard", True, is_heard(port))
                     reset(stream)
+                self.see("it is let go", 0, comes_to(0, lambda: open_at(server)))
             self.see("the next one is served", FRAMES[1], sent(port, FRAMES[0]))
             self.ends(server, b"slotplan: Truncated\nslotplan: ReadFailed\n" * 2)
 
     def test_interrupted(self):
-        whole = command("supplier01", ADD, "Expect: 100-continue")
+        whole = adds("f7", "Expect: 100-continue")
         with self.served("--count", "1") as (server, port):
             with connected(port) as stream:
                 stream.sendall(whole[:20])
@@ -366,144 +197,18 @@ class TooLong(PlannedCase):
         self.can_send(20_000, 0.05)
 
     def test_that_does_not_end(self):
-        with self.served("--count", "2") as (server, port):
-            begun = time.monotonic()
+        """It reads on for a second, in which the next one is served."""
+        with self.served("--count", "2", *limited(SECONDS)) as (server, port):
             with connected(port) as stream:
+                begun = time.monotonic()
                 stream.sendall(TOO_LONG[0])
                 with meanwhile(partial(stream.sendall, b"x" * 1_000), 0.2):
+                    self.see("the reply", TOO_LONG[1], received(stream))
                     self.see("the next one is served", FRAMES[1], sent(port, FRAMES[0]))
+                    self.see("at once", True, time.monotonic() - begun < REST or time.monotonic() - begun)
+                    self.see("the server ends", 0, server.wait(SECONDS))
                     self.see("it reads on for a second", True, waited(begun, REST))
-                self.see("the reply", TOO_LONG[1], received(stream))
             self.ends(server)
-
-
-# ---- clients that hold a server
-
-
-class Silent(PlannedCase):
-    """A client that is silent or slow within its request is let go after so many seconds, and the next one is served; told of more, it waits longer."""
-
-    def lets_go(self, cut, seconds):
-        with self.served("--count", "2", *limited(seconds)) as (server, port):
-            begun = time.monotonic()
-            with connected(port) as stream:
-                stream.sendall(command("supplier01", ADD)[:cut])
-                self.see("a silent client is sent nothing", b"", received(stream))
-                self.see(f"it is let go after {seconds} seconds", True, waited(begun, seconds))
-            self.see("the next one is served", FRAMES[1], sent(port, FRAMES[0]))
-            self.ends(server, b"slotplan: ReadFailed\n")
-
-    def test_told_of_no_seconds(self):
-        self.lets_go(20, LIMIT)
-
-    def test_before_the_last_byte(self):
-        self.lets_go(-1, SHORT)
-
-    def test_longer(self):
-        """A connection may last longer than those of a server that is told nothing."""
-        whole = command("supplier01", ADD)
-        with self.served("--count", "1", *limited(3_600)) as (server, port):
-            with connected(port) as stream:
-                stream.sendall(whole[:20])
-                time.sleep(LIMIT + 1)
-                stream.sendall(whole[20:])
-                self.see("a request that takes its time", json(DONE), received(stream))
-            self.ends(server)
-
-    def trickles(self, cut):
-        """A client that sends a byte each half second within its request is let go at the same time."""
-        whole = command("supplier01", ADD)
-        with self.served("--count", "2", *limited(SHORT)) as (server, port):
-            begun = time.monotonic()
-            with connected(port) as stream:
-                stream.sendall(whole[:cut])
-                self.see("a slow client is sent nothing", b"", trickled(stream, whole[cut:]))
-                self.see(f"it is let go after {SHORT} seconds", True, waited(begun, SHORT))
-            self.see("the next one is served", FRAMES[1], sent(port, FRAMES[0]))
-            self.ends(server, b"slotplan: ReadFailed\n")
-
-    def test_slow_from_the_first_byte(self):
-        self.trickles(0)
-
-    def test_slow_behind_the_head(self):
-        self.trickles(-len(ADD))
-
-    def test_several(self):
-        """Clients that are silent hold the next one for as long as each of their connections lasts."""
-        whole = command("supplier01", ADD)
-        cuts = 0, 1, 20, len(whole) - len(ADD), len(whole) - 1
-        with self.served("--count", str(len(cuts) + 1), *limited(1)) as (server, port), ExitStack() as held:
-            begun = time.monotonic()
-            for cut in cuts:
-                held.enter_context(connected(port)).sendall(whole[:cut])
-            self.see("the next one is served", FRAMES[1], sent(port, FRAMES[0]))
-            self.see("each is let go after a second", True, waited(begun, len(cuts)))
-            self.ends(server, b"slotplan: ReadFailed\n" * len(cuts))
-
-
-class Unread(LongCase):
-    """A client that takes nothing of its reply, or a little now and then, is let go after so many seconds, those of its request among them."""
-
-    def let_go(self, server, port, begun, seconds):
-        self.see("the next one is served", NOTHING[1], sent(port, NOTHING[0]))
-        self.see(f"it is let go after {seconds} seconds", True, waited(begun, seconds))
-
-    def test_nothing(self):
-        with self.served("--count", "2", *limited(SHORT)) as (server, port):
-            begun = time.monotonic()
-            with narrow(port) as stream:
-                stream.sendall(SCHEDULE)
-                self.let_go(server, port, begun, SHORT)
-            self.ends(server, b"slotplan: WriteFailed\n")
-
-    def test_a_little(self):
-        with self.served("--count", "2", *limited(SHORT)) as (server, port):
-            begun = time.monotonic()
-            with narrow(port) as stream:
-                stream.sendall(SCHEDULE)
-                with meanwhile(partial(received, stream, 5_000), 0.25):
-                    self.let_go(server, port, begun, SHORT)
-            self.ends(server, b"slotplan: WriteFailed\n")
-
-    def test_behind_a_late_request(self):
-        """A connection's time is that of its request and its reply together."""
-        seconds = LATE + 2
-        with self.served("--count", "2", *limited(seconds)) as (server, port):
-            begun = time.monotonic()
-            with narrow(port) as stream:
-                stream.sendall(SCHEDULE[:-1])
-                time.sleep(seconds - 1)
-                stream.sendall(SCHEDULE[-1:])
-                self.let_go(server, port, begun, seconds)
-            self.ends(server, b"slotplan: WriteFailed\n")
-
-
-class Staying(PlannedCase):
-    """A client that has its reply and does not close, or that goes on sending behind its request, is not waited for."""
-
-    def waits_for_none(self, hold):
-        """Each client has its reply or not, as `hold` has it, and stays."""
-        with self.served("--count", str(HOLDERS + 1)) as (server, port), ExitStack() as held:
-            begun = time.monotonic()
-            for _ in range(HOLDERS):
-                stream = held.enter_context(connected(port))
-                stream.sendall(FRAMES[0])
-                hold(stream, held)
-            self.see("the next one is served", FRAMES[1], sent(port, FRAMES[0]))
-            self.see("none is waited for", True, waited_for_none(begun))
-            self.ends(server)
-
-    def test_connected(self):
-        self.waits_for_none(lambda stream, held: self.see("the reply", FRAMES[1], received(stream)))
-
-    def sends_behind(self, piece, pause):
-        self.waits_for_none(lambda stream, held: held.enter_context(meanwhile(partial(stream.sendall, piece), pause)))
-
-    def test_sends_a_byte_now_and_then(self):
-        self.sends_behind(b"x", 0.5)
-
-    def test_sends_on(self):
-        self.sends_behind(LONG_BODY, 0)
 
 
 # ---- files

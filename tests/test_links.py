@@ -1,4 +1,4 @@
-"""The built program's server, given malformed requests, and connections that end or fail at each byte.
+"""The built program's server, given malformed requests, requests in two pieces, and connections that end or fail at each byte.
 
 A client sends a request up to each of its bytes, and then no more, or resets the connection. A small library that cc makes, loaded before the C library,
 has the server read or write one byte a call, and lets its reads or writes fail, be interrupted for ever or take nothing, behind each byte. It
@@ -7,8 +7,10 @@ interrupts standard input and standard error, as often as it is told.
 What is wanted was typed by hand from docs/FORMATS.md and docs/HTTP.md."""
 import socket
 import struct
+from contextlib import ExitStack
 
 from tests.lib.case import for_each
+from tests.lib.clients import connected, had, is_heard, put
 from tests.lib.messages import CONTINUE, DONE, FIRST, FIRST_ANSWERS, UNKNOWN, command, engine, head, json, post, refused, text
 from tests.lib.preload import Links
 from tests.lib.program import SECONDS, ran
@@ -99,6 +101,92 @@ class Malformed(LinkCase):
         self.see("nothing is said of them", b"", said)
 
 
+# ---- requests in two pieces
+
+
+def begun_well(head_and_body):
+    """Where a request may be cut: at each byte of its head and three behind it, and before its last."""
+    ends = head_and_body.find(b"\r\n\r\n") + 4
+    return sorted({*range(1, min(ends + 4, len(head_and_body))), len(head_and_body) - 1})
+
+
+GRANTS = b'{"do":"grants","variant":"v1"}'
+WELL_FORMED = {
+    "report": (SCHEDULE, SCHEDULED),
+    "query": (command("supplier01", GRANTS), json(b'{"lines":["0001 A n1"],"ok":"grants"}')),
+    "query behind an invitation": (command("supplier01", GRANTS, "Expect: 100-continue"), CONTINUE + json(b'{"lines":["0001 A n1"],"ok":"grants"}')),
+    "two requests": (SCHEDULE + ADD, SCHEDULED),
+}
+REFUSED = {
+    "no route": (head("GET", "/v1/nothing"), engine("404 Not Found")),
+    "another method": (head("PUT", "/v1/commands", "supplier01"), engine("405 Method Not Allowed", "allow: POST")),
+    "no length": (head("POST", "/v1/commands", "supplier01") + LINE, engine("411 Length Required")),
+    "body that is too long": (head("POST", "/v1/commands", "supplier01", "Content-Length: 65537"), engine("413 Payload Too Large")),
+    "body in chunks": (head("POST", "/v1/commands", "supplier01", "Transfer-Encoding: chunked"), engine("501 Not Implemented")),
+    "nothing of the kind": (b"nothing of the kind\r\n\r\n", engine("400 Bad Request")),
+}
+# Bytes that no head has, wherever they stand in it.
+STRANGE = b"\0\x7f"
+
+
+def strange():
+    """A request with such a byte before each byte of its head."""
+    for at in range(len(SCHEDULE)):
+        for byte in STRANGE:
+            yield f"byte {byte} at {at}", (SCHEDULE[:at] + bytes([byte]) + SCHEDULE[at:], engine("400 Bad Request"))
+
+
+class InTwo(LinkCase):
+    """A request that comes in two pieces, whichever they are, is answered as one that comes at once."""
+
+    step, at_once = 16, 250
+
+    def halves(self, requests, each=1):
+        """Every so many of these requests, each cut into every two pieces."""
+        cases = [(name, data, cut, wanted) for name, (data, wanted) in requests for cut in begun_well(data)][self.turn % each :: each]
+        self.anew()
+        with self.served("--count", str(len(cases)), "--seconds", str(SECONDS)) as (server, port):
+            for begin in range(0, len(cases), self.at_once):
+                with ExitStack() as held:
+                    asked = [(held.enter_context(connected(port)), *case) for case in cases[begin : begin + self.at_once]]
+                    for stream, _, data, cut, _ in asked:
+                        stream.sendall(data[:cut])
+                    self.see("the first pieces are heard", True, is_heard(port))
+                    for stream, name, data, cut, wanted in asked:
+                        put(stream, data[cut:])
+                        self.see(f"{name}, cut behind {cut} bytes", wanted, had(stream))
+                        stream.close()
+            self.ends(server)
+            self.see("nothing is said of them", b"", server.stderr.read())
+
+    def test_well_formed(self):
+        self.halves(WELL_FORMED.items())
+
+    def test_refused(self):
+        self.halves(REFUSED.items())
+
+    def test_malformed(self):
+        self.halves(MALFORMED.items(), 4)
+
+    def test_strange(self):
+        self.halves(strange(), self.each)
+
+    def test_longest(self):
+        """A head of as many bytes as may be, cut about its end, and one that has more."""
+        for more, wanted in (0, SCHEDULED), (1, engine("431 Request Header Fields Too Large")):
+            data = SCHEDULE.replace(b"\r\n\r\n", b"\r\nx: \r\n\r\n")
+            data = data.replace(b"x: ", b"x: " + b"x" * (8_192 - len(data) + more))
+            cuts = [*range(8_192 - 8, 8_192 + more), 1, 100, 4_096]
+            with self.served("--count", str(len(cuts))) as (server, port):
+                for cut in cuts:
+                    with connected(port) as stream:
+                        stream.sendall(data[:cut])
+                        self.see("the first piece is heard", True, is_heard(port))
+                        put(stream, data[cut:])
+                        self.see(f"a head of {len(data)} bytes, cut behind {cut}", wanted, had(stream))
+                self.ends(server)
+
+
 # ---- a client that ends or resets its connection
 
 
@@ -129,10 +217,12 @@ class Cut(LinkCase):
             self.see("nothing was asked", ONE_FRAME, replied(port, FRAMES))
             self.ends(server)
             said = server.stderr.read().splitlines()
-        self.see("each cut is said", {b"slotplan: Truncated"}, set(said[::2]))
+        # They are side by side: which word comes first is left open.
+        self.see("each cut is said", len(cuts), said.count(b"slotplan: Truncated"))
         # A client that is gone may be told where `100 Continue` is written, too.
-        self.see("each reset is said", True, set(said[1::2]) <= {b"slotplan: ReadFailed", b"slotplan: WriteFailed"} or set(said))
-        self.see("so often", 2 * len(cuts), len(said))
+        resets = [word for word in said if word != b"slotplan: Truncated"]
+        self.see("each reset is said", True, set(resets) <= {b"slotplan: ReadFailed", b"slotplan: WriteFailed"} or set(resets))
+        self.see("so often", len(cuts), len(resets))
 
 
 # ---- reads and writes that fail

@@ -94,7 +94,7 @@ class OpenApi(Case):
         self.paths, self.schemas = api(self)["paths"], api(self)["components"]["schemas"]
 
     def test_routes(self):
-        told = set(re.findall(r"`(GET|POST|PUT) (/v1/\S+)`", HTTP))
+        told = set(re.findall(r"`(GET|POST|PUT) (/(?:v1/\S+)?)`", HTTP))
         found = {(method.upper(), path) for path, route in self.paths.items() for method in methods(route)}
         self.see("routes", told, found)
 
@@ -130,7 +130,8 @@ class OpenApi(Case):
         for path, route in self.paths.items():
             for method in methods(route):
                 told = {int(it) for it in route[method]["responses"]}
-                meets = every if path == "/v1/commands" else {status[n] for n in [2, 28, *(route[method]["x-refusals"])]}
+                asks = [2, 28] if path != "/" else []
+                meets = every if path == "/v1/commands" else {status[n] for n in [*asks, *(route[method]["x-refusals"])]}
                 self.see(f"{method} {path}: statuses", meets | {200, 400, 405, 431, 501} | (set() if method == "get" else {411, 413}), told)
 
     def test_valid(self):

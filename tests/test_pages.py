@@ -9,10 +9,10 @@ from tests.lib.each import each
 from tests.lib.heads import CRATES, FOLDERS, KINDS, files, head, is_class_of_tests, modules, said_by, sentences
 from tests.lib.program import TOP
 
-PAGES = [TOP / "README.md", *(path for place in ("docs", "tests", "bench", "examples") for path in sorted((TOP / place).rglob("*.md")))]
+PAGES = [TOP / "README.md", *(path for place in ("docs", "tests", "bench", "examples", "clients") for path in sorted((TOP / place).rglob("*.md")))]
 # Pages on the code, in which a word of code is a word of the sources.
 ON_CODE = [TOP / f"docs/{name}.md" for name in ("PROVED", "DEFINITIONS", "DEVELOPING", "DECISIONS")]
-PLACES = [*(f"crates/*/{folder}" for folder in ("src", "specs", "proofs", "must-fail", "wrong-bodies")), "tests", "bench", "examples"]
+PLACES = [*(f"crates/*/{folder}" for folder in ("src", "specs", "proofs", "must-fail", "wrong-bodies")), "tests", "bench", "examples", "clients"]
 # In DEVELOPING this is any file of a reader's own.
 OWN = "crates/NAME/wrong-bodies/WHAT_IT_DOES.edit"
 FILE = re.compile(r"`([\w./*-]+\.(?:rt|antt|edit|py))`")
@@ -22,7 +22,7 @@ LINK = re.compile(r"\]\(([^)#\s]*)(?:#([^)\s]*))?\)")
 HEADING = re.compile(r"^#+ (.*)$", re.M)
 SLOTPLAN = re.compile(r"(?:^|\$ |-- |\| |bin/)slotplan ([a-z]+)", re.M)
 MAKE = re.compile(r"(?:^|\$ )make ((?:[a-z][\w/-]*(?: |$))+)", re.M)
-MODULE = re.compile(r"python3 -m ((?:tests|examples)\.[\w.]+)")
+MODULE = re.compile(r"python3 -m ((?:tests|clients)\.[\w.]+)")
 
 
 def codes(page):
@@ -84,7 +84,7 @@ class NamesOnPages(Case):
     def test_commands(self):
         """Of `slotplan` by its help, of `make` by the Makefile."""
         jobs = {path.stem for path in (TOP / "tests/help").iterdir()}
-        targets = set(re.findall(r"^([\w/-]+):", (TOP / "Makefile").read_text(), re.M)) | {"out/unproved/slotplan"}
+        targets = set(re.findall(r"^([\w/-]+):", (TOP / "Makefile").read_text(), re.M)) | {"out/unproved/slotplan", "out/slotplan-plans"}
         self.see("there are commands and targets", (True, True), ("serve" in jobs, "prove" in targets))
         self.on_each("commands of slotplan", lambda page: set(SLOTPLAN.findall(codes(page))) - jobs)
         self.on_each("targets of make", lambda page: {word for found in MAKE.findall(codes(page)) for word in found.split()} - targets)

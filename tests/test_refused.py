@@ -23,7 +23,7 @@ from tests.lib.server import sent
 from tests.lib.states import ALL, BOOKS, schema_in
 
 UNAVAILABLE = refused(28, "Unavailable")
-NO_MEMORY, NOT_MADE = b"slotplan: NoMemory\n", b"slotplan: Unavailable\n"
+NO_MEMORY, NOT_MADE, READ_FAILED = b"slotplan: NoMemory\n", b"slotplan: Unavailable\n", b"slotplan: ReadFailed\n"
 
 
 class RefusedCase(Case):
@@ -243,7 +243,8 @@ def asked():
 class Requests(FileCase):
     """A request to a server that is refused memory is carried out and answered, or is Unavailable and changes nothing; the next one is served.
 
-    Or there is no reply, the word NoMemory is said, and the register is the one before the request or the one after it."""
+    Or there is no reply, the word NoMemory is said, and the register is the one before the request or the one after it. Where the memory was that for
+    what came in, before the request was complete, the word is ReadFailed, and the register is the one before it."""
 
     def serve(self, data, more=None):
         """The reply to the request, then that to a query, how the server ended, and the rows."""
@@ -260,9 +261,10 @@ class Requests(FileCase):
         self.see("whether it changes the rows", right in CHANGES, after[0] != before[0])
         states = {right: [after], UNAVAILABLE_REPLY: [before], b"": [before, after]}
         for what, (reply, ended, found) in self.each_refused(lambda more: self.serve(data, more), (right, (0, b""), after), behind=True):
-            said = b"" if reply else NO_MEMORY
+            said = b"" if reply else READ_FAILED if READ_FAILED in ended[1] else NO_MEMORY
             ends = (0, said), (1, said + NOT_MADE)  # or the register failed to close
-            self.see(what, True, (found in states.get(reply, []) and ended in ends) or (reply, ended, found))
+            stands = [before] if said == READ_FAILED else states.get(reply, [])
+            self.see(what, True, (found in stands and ended in ends) or (reply, ended, found))
 
     def test_picture(self):
         """How its page looks is no format, so the right one is that of the command, which is compared with the plan below."""

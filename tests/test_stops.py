@@ -315,6 +315,57 @@ class FullDisk(FileCase):
             self.filled(disk, ballast.unlink)
             self.performed_when_full(disk, ballast)
 
+    def test_started_in_earnest(self):
+        """On a full disk a report and a server start beside a log; without one they are Unavailable until there is room."""
+        if os.geteuid():
+            return self.as_root()
+        with small_disk(self.folder / "disk") as disk:
+            if disk is None:
+                self.skipTest("no file system may be mounted")
+            copied(self.made.logged, disk)
+            for nth, log in enumerate(("a log with requests", "a log that has nothing")):
+                fill(disk / f"ballast{nth}")
+                with server_of(disk, 3) as (server, port):
+                    self.see(f"the server listens beside {log}", True, port is not None)
+                    self.see("it reports", text(b"00 0001 A f1 n1 s1\n"), replied(port, head("GET", "/v1/variants/v1/schedule", "integrator1")))
+                    got = replied(port, add_frame("g1"))
+                    self.see("a change, for which a log with requests may have room", True, got == UNAVAILABLE or nth == 0 and got == json(DONE))
+                    self.see("it refuses what no supplier may ask", NOT_YOURS, replied(port, STRANGE))
+                    self.see("it ends", 0, server.wait(SECONDS))
+                self.see(f"a report beside {log}", (0, SHOWN, b""), performed(SCHEDULE, disk))
+            (disk / "ballast1").unlink()
+            with closing(sqlite3.connect(disk / "car.db")) as other:
+                self.see("another SQLite closes the register", [("wal",)], other.execute("PRAGMA journal_mode").fetchall())
+                self.see("what it finds", [("v1",)], other.execute("SELECT name FROM variants").fetchall())
+            self.see("it takes the log away", False, (disk / "car.db-wal").exists())
+            fill(disk / "ballast2")
+            for words in SCHEDULE, ["serve", "car.db", "1024"]:
+                self.see(f"{words[0]} without a log", WORD, performed(words, disk))
+            (disk / "ballast0").unlink()
+            self.see("a report once there is room", (0, SHOWN, b""), performed(SCHEDULE, disk))
+
+    def test_made_in_earnest(self):
+        """Of a register for which there is too little room there is nothing, or the whole; `create` says which, once there is room."""
+        if os.geteuid():
+            return self.as_root()
+        with small_disk(self.folder / "disk") as disk:
+            if disk is None:
+                self.skipTest("no file system may be mounted")
+            shutil.copy(self.made.run / "cluster.toml", disk)
+            ballast, found = disk / "ballast", set()
+            for room in 0, 4096, 100_000, 300_000, 350_000:
+                with open(ballast, "wb") as file:
+                    file.write(bytes(max(0, os.statvfs(disk).f_bavail * os.statvfs(disk).f_frsize - room)))
+                self.see(f"a register in {room} bytes", WORD, performed(CREATE, disk))
+                ballast.unlink()
+                ended = performed(CREATE, disk)
+                self.see("once there is room", True, ended in (QUIETLY, (1, b"", b"slotplan: NotEmpty\n")) or ended)
+                found.add(ended[0])
+                self.looked_at("the register then", disk, {0})
+                for name in "car.db", "car.db-wal":
+                    (disk / name).unlink(missing_ok=True)
+            self.see("there was nothing, or the whole", {0, 1}, found)
+
     def as_root(self):
         """The same test once more, where this user may mount: in a namespace of its own."""
         words = ["unshare", "--user", "--map-root-user", "--mount", sys.executable, "-m", "tests.lib.run", "--alone", self.id()]

@@ -25,6 +25,7 @@ PIPES = dict.fromkeys(("stdin", "stdout", "stderr"), subprocess.PIPE)
 UNAVAILABLE = refused(28, "Unavailable")
 UNAVAILABLE_REPLY = json(UNAVAILABLE, "503 Service Unavailable")
 SHUT = b"slotplan: Unavailable\n"
+EMPTY_LOG = 41  # so many bytes has a log that has nothing
 # What a line has at most, without its line feed.
 LINE_BYTES = 1_048_576
 
@@ -115,6 +116,46 @@ class CannotGoOn(StumbleCase):
             self.failing.fail("fdatasync")
             self.answers(asks, opens(b"v3"), UNAVAILABLE)
             self.ends_with(asks, 1, SHUT)
+
+
+    def left(self, wanted, *under_way):
+        """The variants that another SQLite, and then the program, find: these, and the one that was under way or not."""
+        names = [name for (name,) in self.rows("SELECT name FROM variants ORDER BY name")]
+        self.see("the variants that are left", True, names in (wanted, [*wanted, *under_way]) or names)
+        self.variants("".join(f"{name} - 1 open\n" for name in names).encode())
+
+    def keeps_its_log(self):
+        log = self.folder / "car.db-wal"
+        self.see("the log has what was answered", True, log.exists() and log.stat().st_size > EMPTY_LOG)
+
+    def test_ask_whose_file_fails_to_close(self):
+        """From some sync on each one fails, those of closing too. What was answered is in the log, which stays."""
+        with self.asking(self.failing.more()) as asks:
+            self.answers(asks, opens(b"v2"), DONE)
+            self.failing.fail("fdatasync", 10_000)
+            self.answers(asks, opens(b"v3"), UNAVAILABLE)
+            self.ends_with(asks, 1, SHUT)
+        self.keeps_its_log()
+        self.left(["v1", "v2"], "v3")
+
+    def test_server_whose_file_fails_to_close(self):
+        with self.served(env=self.failing.more()) as (server, port):
+            self.replies(port, opens_over_http(b"v2"), json(DONE))
+            self.failing.fail("fdatasync", 10_000)
+            self.replies(port, opens_over_http(b"v3"), UNAVAILABLE_REPLY)
+            self.ends_with(server, 1, SHUT)
+        self.keeps_its_log()
+        self.left(["v1", "v2"], "v3")
+
+    def test_ask_that_ends_whose_file_fails_to_close(self):
+        """All was answered; that the file did not close is told, and its log stays."""
+        with self.asking(self.failing.more()) as asks:
+            self.answers(asks, opens(b"v2"), DONE)
+            self.failing.fail("fdatasync", 10_000)
+            asks.stdin.close()
+            self.ends_with(asks, 1, SHUT)
+        self.keeps_its_log()
+        self.left(["v1", "v2"])
 
 
 class Watched(StumbleCase):
@@ -255,7 +296,7 @@ class Keys(StumbleCase):
 
 
 class Accepted(StumbleCase):
-    """A connection that is gone before it is accepted is passed over; another failure ends the server."""
+    """A connection that is gone before it is accepted is passed over, and where there is room for no more the server waits; else it ends."""
 
     def setUp(self):
         super().setUp()
@@ -263,14 +304,14 @@ class Accepted(StumbleCase):
         self.begun()
 
     def test_next_one_is_served(self):
-        for call in "aborted", "protocol":
+        for call in "aborted", "protocol", "crowded":
             self.failing.fail(call, times=2)
         with self.served("--count", "1", env=self.failing.more()) as (server, port):
             self.replies(port, *GRANTS)
             self.ends_with(server, 0, b"")
 
     def test_another_failure(self):
-        self.failing.fail("crowded")
+        self.failing.fail("deaf")
         with self.served(env=self.failing.more()) as (server, _):
             self.ends_with(server, 1, b"slotplan: CannotListen\n")
 

@@ -1,4 +1,4 @@
-"""Wireshark's tables of a plan, by examples/wireshark: typed by hand from the format, and tried by tshark, which decodes captures of plans.
+"""Wireshark's tables of a plan, by clients/wireshark: typed by hand from the format, and tried by tshark, which decodes captures of plans.
 
 Without tshark these last tests are skipped, and that is no failure."""
 import json
@@ -7,10 +7,10 @@ import re
 import subprocess
 import sys
 
-from examples.wireshark import capture, tables
-from examples.wireshark.packing import packed, places
-from examples.wireshark.plan import Cell, Frame, Plan, Signal, read
-from examples.wireshark.sources import RegisterFile, Server
+from clients.wireshark import capture, tables
+from clients.wireshark.packing import packed, places
+from clients.wireshark.plan import Cell, Frame, Plan, Signal, read
+from clients.wireshark.sources import RegisterFile, Server
 from tests.lib import tshark
 from tests.lib.case import Case
 from tests.lib.following import THERE, follow
@@ -19,7 +19,7 @@ from tests.lib.plans import Register, examples
 from tests.lib.program import SECONDS, TOP, program
 from tests.lib.registers import RegisterCase
 
-PAGE = TOP / "examples/wireshark/README.md"
+PAGE = "clients/wireshark/README.md"
 FIGURES = {"payload_words": 8, "cycles": 64, "macroticks_per_cycle": 100, "slot_macroticks": 10}
 Y, X = Signal("y", 3, 8, "big"), Signal("x", 4, 8, "little")
 
@@ -164,7 +164,7 @@ class Commands(RegisterCase):
 
     def client(self, *words, given=""):
         """How the client ends: its status, what it writes and what it says."""
-        command = [sys.executable, "-m", "examples.wireshark", *map(str, words)]
+        command = [sys.executable, "-m", "clients.wireshark", *map(str, words)]
         ended = subprocess.run(command, cwd=TOP, input=given, capture_output=True, text=True, timeout=SECONDS)
         return ended.returncode, ended.stdout, ended.stderr
 
@@ -178,7 +178,7 @@ class Commands(RegisterCase):
     def has_none(self, why, *source, variant="v1"):
         """There is no report of this source, and the client says why."""
         place, *more = source
-        said = f"python3 -m examples.wireshark: {why}\n"
+        said = f"python3 -m clients.wireshark: {why}\n"
         self.see(f"tables of {variant} of {source}", (1, "", said), self.client("tables", place, variant, self.folder / "none", *more))
 
     def test_file(self):
@@ -207,10 +207,10 @@ class Commands(RegisterCase):
 
 
 class Page(Case):
-    """The commands of the page of examples/wireshark print what stands behind them there."""
+    """The commands of the page of clients/wireshark print what stands behind them there."""
 
     def test_commands(self):
-        _, steps = follow(PAGE.read_text(), THERE[PAGE.name])
+        _, steps = follow((TOP / PAGE).read_text(), THERE[PAGE])
         self.see("it has commands", True, bool(steps))
         for step in steps:
             self.see(f"$ {step.command}", step.wanted, step.printed)
@@ -285,7 +285,7 @@ class Decoded(Case):
         """What the page shows of a packet is what tshark says of it."""
         name, cluster, requests = next(it for it in examples() if it[0] == "powertrain")
         self.packets(self.read(Register(self.folder, cluster, requests), "my26"))
-        shown = re.search("```text\n(.*?)```", PAGE.read_text(), re.DOTALL)[1]
+        shown = re.search("```text\n(.*?)```", (TOP / PAGE).read_text(), re.DOTALL)[1]
         self.see("the end of the first packet", shown, tshark.told(self.folder, "plan", self.folder / "bus.pcap", "-V", "-c", "1")[-len(shown) - 1 : -1])
 
     def test_wrong_order(self):

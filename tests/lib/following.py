@@ -13,6 +13,8 @@ import time
 from pathlib import Path
 from typing import NamedTuple
 
+from clients import archive
+
 from .program import TOP, program
 from .server import TRIES, free_port
 
@@ -21,7 +23,13 @@ SECONDS = 30
 BLOCK = re.compile(r"(?P<before>[^\n]*)\n\n```(?P<kind>\w+)\n(?P<text>.*?)```\n", re.DOTALL)
 SAVED = re.compile(r"Save this as `([\w.]+)`:")
 # What of the repository lies in the folder where a page begins.
-THERE = {"README.md": ("examples",), "docs/HTTP.md": ("examples",)}
+THERE = {
+    "README.md": ("examples",),
+    "docs/HTTP.md": ("examples",),
+    "clients/README.md": ("examples", "clients"),
+    "clients/AUTOSAR.md": ("examples",),
+    "clients/wireshark/README.md": ("examples", "clients"),
+}
 
 
 class Step(NamedTuple):
@@ -39,6 +47,7 @@ class Shell:
         (folder.parent / "bin").mkdir()
         (folder.parent / "bin/slotplan").symlink_to(Path(program()).resolve())
         (folder.parent / "bin/python3").symlink_to(sys.executable)
+        archive.make(folder.parent / "bin/slotplan-plans")
         path = f"{folder.parent}/bin:/usr/local/bin:/usr/bin:/bin"
         self.shell = subprocess.Popen(
             ["bash", "--norc"], cwd=folder, env={"PATH": path, "LC_ALL": "C"}, stdin=subprocess.PIPE, stdout=subprocess.PIPE, stderr=subprocess.STDOUT, bufsize=0

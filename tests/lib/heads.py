@@ -1,5 +1,5 @@
-"""What each file is for: python3 -m tests.lib.heads [WHERE..] prints the first sentence of the comment with which it begins; WHERE is a crate, tests or
-bench, and without it all are printed. `make map` runs it.
+"""What each file is for: python3 -m tests.lib.heads [WHERE..] prints the first sentence of the comment with which it begins; WHERE is a crate, tests,
+bench or clients, and without it all are printed. `make map` runs it.
 
 A head is the comment at a file's beginning, up to its first empty line. That of a file of specs/ begins with the words that the file gives a meaning,
 and a colon. Files of src/ stand by name, and those of specs/ behind the ones that they need. Of a test's module each class stands below it. lib.rt and
@@ -14,7 +14,7 @@ from .program import TOP
 
 # The lowest first.
 CRATES = [line.partition(":")[0].split()[0] for line in (TOP / "crates.txt").read_text().splitlines() if line and not line.startswith("#")]
-FOLDERS = "tests", "bench"
+FOLDERS = "tests", "bench", "clients"
 END = re.compile(r"[.!?](?= [A-Z`\d])|[.!?]$")
 
 

@@ -1,5 +1,5 @@
 """The C libraries of tests/programs, made by cc and loaded before the C library: they refuse a program's memory, stop its calls on files, let its
-connections fail, give it a file in pieces, or have some calls fail while it runs."""
+connections fail, interrupt what it prints, give it a file in pieces, or have some calls fail while it runs."""
 import shutil
 import subprocess
 from itertools import chain, count
@@ -60,6 +60,15 @@ class Links(Library):
     def ending(self, **how):
         """What a program's environment has more, so that its first connection or its input ends so."""
         return {"LD_PRELOAD": str(self.path), "LINK_MARK": str(self.mark), **{name: str(value) for name, value in how.items()}}
+
+
+class Interrupts(Library):
+    def __init__(self, room):
+        super().__init__(room, "interrupts")
+
+    def before_writes(self, times):
+        """What a program's environment has more, so that each write to its standard output is interrupted so often before it is carried out."""
+        return {"LD_PRELOAD": str(self.path), "INTERRUPTIONS": str(times), "INTERRUPTED_MARK": str(self.mark)}
 
 
 class Pieces(Library):

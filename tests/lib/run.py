@@ -1,4 +1,4 @@
-"""Runs classes of tests, several at once: python3 -m tests.lib.run [-f] [-k WORD] [--alone] [NAME..]
+"""Runs classes of tests, several at once: python3 -m tests.lib.run [-f] [-k WORD] [--alone] [--program] [NAME..]
 
 A NAME is a module, a class or a test, as `python3 -m unittest` takes it; without one all are run. The program is the one that SLOTPLAN names. The
 last line counts the checks: 'N passed, M failed'. A test that was left out has failed, and so has one that checked nothing; only one that may be
@@ -13,6 +13,8 @@ from .case import Case
 from .steps import SideBySide, Step
 
 TESTS = Path(__file__).resolve().parents[1]
+# What is tried of the clients, which are python3, and of the planners' page in a browser, which is the same whoever made the program.
+AROUND = "test_autosar", "test_browser", "test_clients", "test_demo", "test_page_built", "test_wireshark"
 
 
 class Result(unittest.TestResult):
@@ -67,10 +69,11 @@ def tests_in(suite):
         yield from tests_in(it) if isinstance(it, unittest.TestSuite) else [it]
 
 
-def found(names, word=""):
-    """The tests of these names, all without one, that have the word in theirs."""
+def found(names, word="", around=True):
+    """The tests of these names, that have the word in theirs; without a name all, or all but what is around the program."""
     loader = unittest.TestLoader()
-    suite = loader.loadTestsFromNames(names or [f"tests.{file.stem}" for file in sorted(TESTS.glob("test_*.py"))])
+    files = [file.stem for file in sorted(TESTS.glob("test_*.py")) if around or not file.stem.startswith(AROUND)]
+    suite = loader.loadTestsFromNames(names or [f"tests.{name}" for name in files])
     if loader.errors:
         sys.exit("\n".join(loader.errors))
     return [test for test in tests_in(suite) if word in test.id()]
@@ -107,10 +110,11 @@ def main():
     words.add_argument("-f", "--failfast", action="store_true", help="stop at the first failure")
     words.add_argument("-k", dest="word", default="", help="only tests with this in their names")
     words.add_argument("--alone", action="store_true", help="in this process")
+    words.add_argument("--program", action="store_true", help="none of the clients, and none of the page in a browser")
     words.add_argument("--jobs", type=int, default=len(os.sched_getaffinity(0)))
     words.add_argument("names", nargs="*")
     given = words.parse_args()
-    tests = found(given.names, given.word)
+    tests = found(given.names, given.word, around=not given.program)
     if not tests:
         sys.exit("no test has such a name")
     if given.alone:

@@ -6,7 +6,7 @@ import shutil
 import subprocess
 from typing import NamedTuple
 
-from examples.wireshark.plan import Cell
+from clients.wireshark.plan import Cell
 
 PROGRAM = os.environ.get("TSHARK") or shutil.which("tshark")
 SECONDS = 600

@@ -2,6 +2,7 @@
 // bytes, and takes one of them away:
 //   fdatasync, pwrite          as where a disk fails, and where it is full
 //   aborted, protocol, crowded accept4, as where a connection is gone already, and where there is room for no more
+//   deaf                       accept4, as where the socket is none that listens
 #define _GNU_SOURCE
 #include <dlfcn.h>
 #include <errno.h>
@@ -30,7 +31,8 @@ ssize_t pwrite(int file, const void *bytes, size_t n, off_t at) {
 ssize_t pwrite64(int file, const void *bytes, size_t n, off_t at) { return pwrite(file, bytes, n, at); }
 int accept4(int socket, struct sockaddr *address, socklen_t *length, int flags) {
     int (*real)(int, struct sockaddr *, socklen_t *, int) = dlsym(RTLD_NEXT, "accept4");
-    if (fails("aborted", ECONNABORTED) || fails("protocol", EPROTO) || fails("crowded", ENOBUFS))
+    if (fails("aborted", ECONNABORTED) || fails("protocol", EPROTO) || fails("crowded", ENOBUFS) ||
+        fails("deaf", EINVAL))
         return -1;
     return real(socket, address, length, flags);
 }

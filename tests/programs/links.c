@@ -42,9 +42,10 @@ static size_t may_take(size_t n, size_t had, const char *room, const char *piece
 int accept4(int socket, struct sockaddr *address, socklen_t *length, int flags) {
     int (*real)(int, struct sockaddr *, socklen_t *, int) = dlsym(RTLD_NEXT, "accept4");
     int stream = real(socket, address, length, flags);
-    if (!is_done)
+    if (!is_done && stream >= 0) {
         stream_of_first = stream;
-    is_done = 1;
+        is_done = 1;
+    }
     return stream;
 }
 static int is_first(int fd) { return fd >= 0 && (fd == stream_of_first || fd == copy_of_first); }

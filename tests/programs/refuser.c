@@ -21,6 +21,6 @@ void *realloc(void *p, size_t n) { return refused() ? 0 : __libc_realloc(p, n); 
 int accept4(int socket, struct sockaddr *address, socklen_t *length, int flags) {
     int (*real)(int, struct sockaddr *, socklen_t *, int) = dlsym(RTLD_NEXT, "accept4");
     int stream = real(socket, address, length, flags);
-    ++accepted;
+    accepted += stream >= 0;
     return stream;
 }

@@ -1,0 +1,32 @@
+"""canmatrix, an outside reader of AUTOSAR: which python3 has it, and what it reads.
+
+The variable CANMATRIX names a python3; else this one is asked, and then the system's."""
+import json
+import os
+import subprocess
+import sys
+from functools import cache
+from pathlib import Path
+
+READS = Path(__file__).with_name("canmatrix_reads.py")
+SECONDS = 300
+
+
+@cache
+def python():
+    """A python3 that has it, or none."""
+    for path in filter(None, (os.environ.get("CANMATRIX"), sys.executable, "/usr/bin/python3")):
+        try:
+            if subprocess.run([path, "-c", "import canmatrix.formats.arxml"], capture_output=True, timeout=SECONDS).returncode == 0:
+                return path
+        except OSError:
+            continue
+    return None
+
+
+def reads(file, given=()):
+    """What it reads, as canmatrix_reads.py says."""
+    ended = subprocess.run([python(), READS, file], input=json.dumps(dict(given)), capture_output=True, text=True, timeout=SECONDS)
+    if ended.returncode != 0:
+        raise OSError(f"canmatrix: {ended.stderr.strip()[-300:]!r}")
+    return json.loads(ended.stdout.splitlines()[-1])

@@ -1,0 +1,109 @@
+"""AUTOSAR system descriptions, by clients/slotplan_plans: a plan as a file, and that file as a register that has the same reports."""
+import json
+import random
+import re
+import xml.etree.ElementTree as ET
+from collections import Counter
+from dataclasses import replace
+
+from clients.slotplan_plans.autosar import folder as folders
+from clients.slotplan_plans.autosar import reading, writing
+from clients.slotplan_plans.autosar.proposal import Proposal
+from clients.slotplan_plans.plan import Variant
+from clients.slotplan_plans.reading import read
+from tests.lib.case import Case, for_each
+from tests.lib.descriptions import Shape, Told, reports, requests_of
+from tests.lib.made import DONE
+from tests.lib.plans import examples
+
+# Plans by chance: on one channel and on two, of many counts of cycles, without a payload and with the longest.
+SHAPES = {
+    "64 cycles": Shape(),
+    "12 cycles": Shape(cycles=12),
+    "10 cycles": Shape(cycles=10),
+    "50 cycles": Shape(cycles=50),
+    "A, a word": Shape(channels="A", words=1),
+    "B, no payload": Shape(channels="B", words=0),
+    "127 words": Shape(words=127, frames=20),
+    "5 suppliers": Shape(slots=60, frames=30, suppliers=5),
+}
+KINDS = "ECU-INSTANCE", "FLEXRAY-FRAME", "I-SIGNAL-I-PDU", "I-SIGNAL", "SYSTEM-SIGNAL"
+# Those of which a second plan has a triggering for each timing.
+EACH = "64 cycles", "50 cycles"
+
+
+class ComesBack(Case):
+    """A test that makes a register of a description, and compares its reports with those of the first."""
+
+    in_memory = True
+
+    def described(self, plan, **options):
+        """The path of a plan's description."""
+        with open(self.folder / "plan.arxml", "w", encoding="utf-8") as file:
+            writing.write(file, plan, writing.Options(**options))
+        return self.folder / "plan.arxml"
+
+    def is_sound(self, what, file):
+        """Short names are AUTOSAR's, and of these kinds each is alone in the cluster, whatever its case. References lead to elements of their kind."""
+        paths, names, refs = {}, Counter(), []
+
+        def walk(element, path):
+            tag, name = element.tag.rpartition("}")[2], element.find("{*}SHORT-NAME")
+            if name is not None:
+                path = f"{path}/{name.text}"
+                names[tag if tag in KINDS else path.rpartition("/")[0].lower(), name.text.lower()] += 1
+                paths[path] = tag
+                self.see(f"{what}: {path}", True, re.fullmatch("[A-Za-z][A-Za-z0-9_]{0,127}", name.text) is not None)
+            if tag.endswith("-REF"):
+                refs.append((element.text, element.get("DEST")))
+            for child in element:
+                walk(child, path)
+
+        walk(ET.parse(file).getroot(), "")
+        self.see(f"{what}: short names that are there twice", [], [name for name, count in names.items() if count > 1])
+        self.see(f"{what}: references", True, len(refs) > 10)
+        self.see(f"{what}: references that lead elsewhere", [], [(path, kind) for path, kind in refs if paths.get(path) != kind])
+
+    def comes_back(self, what, told, variant, frames, **options):
+        """The variant as a description, and that as a register: all its reports are those of the first."""
+        plan = read(Told(told), variant)
+        self.is_sound(what, self.described(plan, **options))
+        proposal = Proposal(reading.read([self.folder / "plan.arxml"]), {})
+        self.see(f"{what}: the plan", replace(plan, variant=Variant(variant, None, 1, False)), proposal.plan)
+        self.see(f"{what}: notes of rows", [], [note for note in proposal.notes if note.kind != "not kept"])
+        place = self.folder / what
+        folders.write(place, proposal.plan, proposal.notes, "a comment")
+        answers, got = reports((place / "cluster.toml").read_text(), requests_of(place), [variant], frames)
+        self.see(f"{what}: refusals", [], [it for it in answers if not it.startswith('{"ok":')])
+        wanted = {key: answer for key, answer in told.items() if key[2:3] in ((), (variant,)) and key[1] != "variants"}
+        self.see(f"{what}: its reports", sorted(wanted), sorted(key for key in got if key[1] != "variants"))
+        for key, answer in wanted.items():
+            self.see(f"{what}: {key}", answer, got.get(key))
+
+
+CASES = [(f"{name} together", shape, False) for name, shape in SHAPES.items()] + [(f"{name} each", SHAPES[name], True) for name in EACH]
+
+
+@for_each(CASES)
+class RandomPlans(ComesBack):
+    """A plan by chance comes back from its description. Names differ by case, or several suppliers have one; lanes are idle, frames unplaced."""
+
+    seconds = 30
+
+    def tried(self, shape, each):
+        dice = random.Random(self.id())
+        answers, told = reports(shape.cluster(dice), "".join(shape.requests(dice)), ["v1"], shape.frame_names)
+        self.see("it has rows", True, answers.count(DONE) > 50)
+        self.comes_back("v1", told, "v1", shape.frame_names, each=each, macrotick=dice.choice((None, "1.375")))
+
+
+@for_each(examples())
+class Examples(ComesBack):
+    """Each variant of each example comes back from its description."""
+
+    def tried(self, cluster, requests):
+        frames = sorted(set(re.findall(r'"frame":"(\w+)"', requests)))
+        variants = sorted(set(re.findall(r'"open_variant","variant":"(\w+)"', requests)))
+        _, told = reports(cluster, requests, variants, frames)
+        for variant in [line.split(" ")[0] for line in json.loads(told["", "variants"])["lines"]]:
+            self.comes_back(variant, told, variant, frames)

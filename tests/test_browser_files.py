@@ -1,0 +1,239 @@
+"""Files and differences in the planners' page, in a browser: files as spreadsheets write them, files of many rows, exports, and what differs."""
+from tests.lib.planner import PlannerCase
+from tests.lib.workbook import workbook
+from tests.lib.years import BOSS, CAMERA, CHANGED, CLUSTER, REQUESTS
+
+HEADER = "frame,node,slot,channels,base,repetition\n"
+SIGNALS = "frame,signal,start,length,order\n"
+# In slot 17 base 1 of 2 is free on both channels.
+ROWS = "glare,front_camera,17,A,1,4\nrain,front_camera,17,B,1,4\n"
+WOULD = "All 2 rows would be carried out."
+
+
+class FileCase(PlannerCase):
+    """The supplier camtech before its files."""
+
+    def setUp(self):
+        super().setUp()
+        self.plan(CLUSTER, REQUESTS)
+        self.enter(CAMERA)
+        self.view("files")
+
+    def frames(self):
+        return self.api.get(CAMERA, "variants/my29/frames")
+
+    def told(self):
+        """What the page tells of the file."""
+        return self.seen("#view-files")
+
+    def fates(self, count):
+        script = "return document.querySelectorAll('#view-files tbody tr').length === arguments[0]"
+        self.browser.wait(f"{count} rows", script, count)
+        return [row[-1] for row in self.table("#view-files")]
+
+    def carried(self, words):
+        self.browser.click("#carry-out")
+        return self.says(words)
+
+
+class Files(FileCase):
+    """A file is tried row by row, and then imported, or put in the place of what was there."""
+
+    def test_fates(self):
+        """Each refused row is told in words; the file is not sent; a click shows the cell that is taken."""
+        before = self.frames()
+        rows = "new_1,front_camera,19,A,0,2", "object_1,front_camera,11,A,0,4", "new_2,nobody,17,A,1,4", "new_3,front_camera,17,A,3"
+        self.file("week 48.csv", HEADER + "\n".join([*rows, "new_4,front_camera,17,A,1,3"]))
+        fates = self.fates(5)
+        wanted = ["NotGranted (21)", "In cycle 0 on channel A the frame lane_left is sent already.", "NoNode (15)", "BadText (1)", "BadCycles (5)"]
+        for fate, words in zip(fates, wanted):
+            self.see(f"{fate!r} says {words}", True, words in fate)
+        self.see("the label that is proposed", "week_48", self.browser.run("return document.getElementById('label').value"))
+        self.see("the file cannot be sent", True, self.browser.run("return document.getElementById('carry-out').disabled"))
+        self.browser.press("Show the cell", "#view-files")
+        shown = "return document.getElementById('view-plan').checkVisibility() && document.getElementById('cell').textContent"
+        self.see("the cell", True, self.browser.wait("the cell", shown).startswith("Cycle 0, slot 11 A: lane_left"))
+        self.see("nothing has changed", before, self.frames())
+
+    def test_import(self):
+        self.file("week 48.csv", HEADER + ROWS)
+        self.fates(2)
+        self.carried("2 rows of week 48.csv imported under the label week_48.")
+        self.see("the register has them", True, "FRAME glare front_camera\nAT 0017 A 01 04\n" in self.frames())
+        # The label is kept with that file now.
+        self.file("week 48.csv", HEADER + "dusk,front_camera,17,A,3,4\n")
+        self.fates(1)
+        self.carried("LabelUsed (9)")
+        self.see("nothing has changed", False, "dusk" in self.frames())
+
+    def test_replacement(self):
+        self.file("walk.csv", HEADER + "walkers,front_camera,17,AB,1,2\n")
+        self.fates(1)
+        self.browser.click("input[value=replace]")
+        self.rests()
+        self.carried("1 row of walk.csv took the place")
+        self.see("the register has it", True, "FRAME walkers front_camera\nAT 0017 AB 01 02\n" in self.frames())
+
+    def test_drop(self):
+        """A file is dropped from a window of the desk."""
+        path = self.folder / "glare.csv"
+        path.write_text(HEADER + ROWS)
+        box = self.browser.run("const it = document.querySelector('.drop').getBoundingClientRect(); return [it.x + 20, it.y + 10]")
+        self.browser.drop(box, path)
+        self.fates(2)
+        self.see("it would be carried out", True, WOULD in self.told())
+
+    def test_drop_elsewhere(self):
+        """A file that is dropped beside the place for it is taken too, and not opened by the browser."""
+        self.view("plan")
+        path = self.folder / "glare.csv"
+        path.write_text(HEADER + ROWS)
+        self.browser.drop((640, 400), path)
+        self.fates(2)
+        self.see("it would be carried out", True, WOULD in self.told())
+
+
+class OfSpreadsheets(FileCase):
+    """Files as spreadsheets write them are named, and mended by a click where it is sure what is meant."""
+
+    def tells(self, name, content, words, mend=None):
+        """The page says these words of the file. Where it mends it by a click, the rows would then be carried out."""
+        self.file(name, content)
+        self.see(f"{name}: {self.told()!r:.200} says {words!r}", True, words in self.told())
+        if mend:
+            self.browser.press(mend, "#view-files")
+            self.rests()
+        offered = self.browser.run("const it = document.getElementById('carry-out'); return Boolean(it && !it.disabled)")
+        self.see(f"{name} can be sent", mend is not None, offered)
+        self.see(f"{name}: its rows would be carried out", mend is not None, WOULD in self.told())
+
+    def test_files(self):
+        text = (HEADER + ROWS).replace("\n", "\r\n")
+        self.tells("mark.csv", b"\xef\xbb\xbf" + text.encode(), "begins with a byte order mark", mend="")
+        self.tells("semicolons.csv", text.replace(",", ";"), "separated by semicolons", mend="Turn")
+        self.tells("tabs.txt", text.replace(",", "\t"), "separated by tabs", mend="Turn")
+        self.tells("capitals.csv", text.replace("frame,node", "Frame, Node"), "no capitals, no spaces", mend="Mend")
+        self.tells("book.xlsx", b"PK\x03\x04\x14\x00\x06\x00rest", "workbook (.xlsx)")
+        self.tells("other.csv", "id;name\n1;2\n", "no header that the register knows")
+        self.tells("empty.csv", "", "The file is empty.")
+        self.tells("latin.csv", HEADER.encode() + b"b\xe4r,front_camera,17,A,1,4\n", "not UTF-8")
+        self.see("none of them was sent", False, "glare" in self.frames())
+
+    def test_more_of_excel(self):
+        """Text in UTF-16, a first line for spreadsheets alone, blank rows, empty columns behind the others, and a workbook."""
+        self.tells("unicode.txt", (HEADER + ROWS).replace(",", "\t").encode("utf-16"), "UTF-16", mend="Turn")
+        self.tells("hint.csv", "sep=;\r\n" + (HEADER + ROWS).replace(",", ";"), "separated by semicolons", mend="Turn")
+        self.tells("blank.csv", HEADER + ROWS.replace("\n", "\n,,,,,\n", 1), "nothing in it", mend="Mend")
+        self.tells("wide.csv", (HEADER + ROWS).replace("\n", ",,\n"), "Empty columns", mend="Mend")
+        book = workbook([line.split(",") for line in (HEADER + ROWS).splitlines()])
+        self.tells("weeks.xlsx", book, "Its sheet slots & cycles has rows", mend="Take the sheet")
+        self.browser.click("#carry-out")
+        self.says("2 rows of weeks.xlsx imported under the label weeks.")
+        self.see("the register has them", True, "FRAME rain front_camera\nAT 0017 B 01 04\n" in self.frames())
+
+
+class ManyRows(FileCase):
+    """Files of more than 512 rows go in parts of whole frames, and an export of several parts comes as one file."""
+
+    PARTS = (1, 480), (2, 480), (3, 240)
+
+    def next_part(self, shown):
+        """The next part was tried, and can be sent."""
+        self.browser.wait("the next part", f"const go = document.getElementById('carry-out'); return {shown} && go && !go.disabled")
+        self.rests()
+
+    def has_all(self, what):
+        """The register has all rows. Gives its export's parts."""
+        parts = [self.api.get(CAMERA, f"variants/my29/exports/signals/{part}").splitlines(True) for part in range(4)]
+        self.see(f"the rows that were {what}", 1200, sum(row.startswith("many_") for part in parts for row in part))
+        return parts
+
+    def test_parts(self):
+        frames = [f"many_{number:02}" for number in range(20)]
+        self.file("frames.csv", "frame,node\n" + "".join(f"{frame},front_camera\n" for frame in frames))
+        self.fates(20)
+        self.carried("20 rows")
+        # 60 signals of a bit each, those of a frame far apart: a part of 512 rows has 8 such frames.
+        rows = SIGNALS + "".join(f"{frame},bit_{bit:02},{bit},1,little\n" for bit in range(60) for frame in frames)
+        self.file("signals.csv", rows)
+        self.see("it goes in parts", True, "in 3 parts" in self.told())
+        for number, count in self.PARTS:
+            self.next_part(f"document.getElementById('label')?.value === 'signals_{number}'")
+            self.carried(f"{count} rows of signals.csv imported")
+        self.has_all("imported")
+        # The same rows in their own place: no part takes away what another one brought.
+        self.file("signals.csv", rows)
+        self.browser.click("input[value=replace]")
+        for number, count in self.PARTS:
+            self.next_part(f"document.getElementById('view-files').textContent.includes('this is part {number}')")
+            self.carried(f"{count} rows of signals.csv took the place")
+        parts = self.has_all("replaced")
+        self.browser.press("signals.csv", "#view-files")
+        self.see("the export is whole", SIGNALS + "".join(row for part in parts for row in part[1:]), self.browser.taken("my29_signals.csv"))
+
+
+class Exports(FileCase):
+    """What the page gives to take away is what the register's routes give."""
+
+    def test_exports(self):
+        for kind in "frames", "placements", "signals":
+            self.browser.press(f"{kind}.csv", "#view-files")
+            self.see(kind, self.api.get(CAMERA, f"variants/my29/exports/{kind}/0"), self.browser.taken(f"my29_{kind}.csv"))
+        self.browser.press("picture.html", "#view-files")
+        self.see("the picture", self.api.get(CAMERA, "variants/my29/picture"), self.browser.taken("my29.html"))
+
+
+class Differences(PlannerCase):
+    """The rows in which two variants differ stand in a table, and are marked in the plan."""
+
+    def setUp(self):
+        super().setUp()
+        self.plan(CLUSTER, REQUESTS)
+
+    def compared(self, key):
+        browser = self.enter(key)
+        self.view("diff")
+        browser.choose("#from", "my28")
+        browser.press("Compare", "#view-diff")
+        self.rests()
+        return browser
+
+    def test_table(self):
+        """camtech sees what was typed by hand; the integrator the same, with the supplier in each row."""
+        self.see("what was typed is what the register tells", CHANGED, self.api.get(CAMERA, "variants/my29/since/my28"))
+        words = {"GRANT": "grant", "FRAME": "frame", "AT": "placement", "SIGNAL": "signal", "GAP": "gap"}
+        wanted = [(line[0] == "+", words[line.split()[1]]) for line in CHANGED.splitlines()]
+        for key in CAMERA, BOSS:
+            self.compared(key)
+            rows = self.table("#view-diff")
+            self.see(f"signs and kinds of {key}", wanted, [(row[0].startswith("+"), row[1]) for row in rows])
+            self.see("each row is some supplier's", key == BOSS, all("camtech" in row for row in rows))
+        for words in "slot 13 B, base 0, repetition 4", "count: 8 bits from bit 0, little", "80,000 macroticks", "sent by front_camera":
+            self.see(f"a row has {words}", True, any(words in cell for row in rows for cell in row))
+
+    def test_marks(self):
+        """The cells that are new and those that are gone are told as such, also those that are both sent in both."""
+        browser = self.compared(CAMERA)
+        browser.press("Mark it in the plan", "#view-diff")
+        told = self.cells()
+        new = {it.partition(":")[0] for it in told if "New since my28" in it}
+        gone = {it.partition(":")[0] for it in told if "In my28" in it}
+        # walkers is new in slot 17 on A and B; camera_status was in 12 A at 4 of 16, and free_space in 13 B at 0 of 2, now 0 of 4.
+        self.see("new", {f"Cycle {cycle}, slot 17 {channel}" for cycle in range(0, 64, 2) for channel in "AB"}, {it for it in new if "slot 17" in it})
+        lost = {f"Cycle {cycle}, slot 12 A" for cycle in range(4, 64, 16)} | {f"Cycle {cycle}, slot 13 B" for cycle in range(2, 64, 4)}
+        self.see("gone", lost, {it for it in gone if "slot 13" not in it or int(it.split()[1].strip(",")) % 4})
+        browser.press("Differences", "#tabs")
+        browser.press("Forget it", "#view-diff")
+        self.view("plan")
+        self.see("marks that are left", [], [it for it in self.cells() if "since my28" in it or "In my28" in it])
+
+    def test_none(self):
+        """A variant that was just opened differs in nothing."""
+        self.see("my29 is released", {"ok": "done"}, self.api.command(BOSS, do="release", variant="my29"))
+        self.see("my30 is opened", {"ok": "done"}, self.api.command(BOSS, do="open_variant", variant="my30", **{"from": "my29"}))
+        browser = self.enter(CAMERA)
+        self.view("diff")
+        browser.choose("#from", "my29")
+        browser.press("Compare", "#view-diff")
+        self.rests()
+        self.see("nothing differs", True, "Nothing differs." in self.seen("#view-diff"))
