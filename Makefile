@@ -1,41 +1,48 @@
 # make run      runs a script: by the proved program where it is there, else by the program compiled without proof, which is kept
+# make demo     makes the register of an example in out/demo, serves it with the planners' page at http://127.0.0.1:8080/, and says which keys to try;
+#               PORT=9000 names another port. Ctrl+C ends it
 # make test     the tests, with no proof: the program compiled without proof is tried, and the tests of the crates are run. Some minutes.
 #               JOBS=2 runs two steps at once, in place of as many as there are processors
 # make prove    the gate: every proof from nothing, the must-fail edits, the tests, how rows are found, and the
 #               proved program tried, as each of two compilers made it. An hour or two
 # make edits    asks the prover of every wrong body, also of those that the gate leaves out; CRATES='fr_base ..' names some.
 #               Run it when a contract has changed, some minutes a crate; no part of the gate
-# make map      prints what each file of the crates, the tests and bench/ is for; CRATES='fr_base tests ..' names some
+# make map      prints what each file of the crates, the tests, bench/ and clients/ is for; CRATES='fr_base tests ..' names some
 # make calls    prints what each public call of CRATES='fr_base ..' promises: its text, and its clauses
 # make try      tries the built program alone, as the gate does: rows, examples, faults, limits, counts of cycles, register files and
 #               their migration, the server, the commands of docs/TUTORIAL.md, docs/HTTP.md and README.md, docs/openapi.yaml, and pictures;
 #               and every so many cases of make hostile and make refuse
-# make look     draws the plans of the examples and one at the limits into out/look; where there is chromium, it takes screenshots of the
-#               pages, and counts their cells as the browser has them
+# make look     draws the plans of the examples and one at the limits into out/look, by the program that make run takes; where there is chromium,
+#               it takes screenshots of the pages, and counts their cells as the browser has them; where there is chromium-driver too,
+#               also of the planners' page
+# make page     makes the planner's page, crates/fr_page/src/page.rt, of its sources in page/, and out/page.html to look at
 # make hostile  stops the built program at each of its calls on files, gives it files cut and changed at many places, and
 #               connections that fail at each byte; the gate does every so many of these. It needs a C compiler, cc
 # make refuse   refuses the built program each allocation in turn, of which the gate refuses every so many; and so to a register's calls
 #               and to the crates' tests. It needs cc too, and proves and builds what it runs
 # make store    tries a register's files, its pages and edits, with the SQLite of python3; no part of the gate
-# make install  proves and builds the program where that is still to be done, and puts it at $(PREFIX)/bin/slotplan. PROVED=no puts there
-#               the program that was compiled without proof; its --version says so
-# make bench    prints the program's speed and memory beside those of a register that python3's sqlite3 keeps, how
-#               a change's time grows with its supplier's rows and beside others', what reports and files of rows cost beside one another,
-#               and the speed of texts alone; no test
+# make out/slotplan-plans  makes one file of the command for plans in other files, clients/README.md, which python3 runs
+# make install  proves and builds the program where that is still to be done, and puts it at $(PREFIX)/bin/slotplan, and slotplan-plans
+#               beside it. PROVED=no puts there the program that was compiled without proof; its --version says so
+# make bench    prints the program's speed and memory beside those of a register that python3's sqlite3 keeps, what a change costs with its
+#               supplier's rows and beside others', what reports and files of rows cost beside one another, the speed of texts alone, and how each
+#               report and change grows with a plan, which fails where one grows too fast; no test
 # make bench-all prints these figures, and those of the server, of instructions by valgrind, of a migration, of imports read, of
 #               placements decided, of registers in files and of variants that keep their differences; an hour or so
 
 SCRIPT ?= examples/first.script
 CRATES ?=
 PREFIX ?= /usr/local
+PORT ?= 8080
 PROVED ?= yes
 
 program := crates/slotplan/out/slotplan
 unproved := out/unproved/slotplan
+plans := out/slotplan-plans
 build_log := out/build.log
 sources := -name out -prune -o \( -name '*.rt' -o -name '*.antt' -o -name crates.txt \)
 
-.PHONY: run run-unproved test prove edits map calls try look hostile refuse store install bench bench-all build toolchain
+.PHONY: run run-unproved demo demo-unproved test prove edits map calls try look page hostile refuse store install bench bench-all build toolchain
 
 # A program is run where no source is newer.
 run:
@@ -46,6 +53,14 @@ run:
 run-unproved: $(unproved)
 	@echo "make: this is $(unproved), which was compiled without proof; make install proves the program" >&2
 	@$(unproved) run < $(SCRIPT)
+
+demo:
+	@if test -x $(program) && test -z "$$(find crates crates.txt $(sources) -newer $(program) -print)"; then \
+	  python3 -m examples.demo $(program) $(PORT); \
+	else $(MAKE) --no-print-directory -s demo-unproved; fi
+
+demo-unproved: $(unproved)
+	@python3 -m examples.demo $(unproved) $(PORT)
 
 # The files below src/ are all that is compiled without proof.
 $(unproved): tests/unproved.py $(shell find crates -name out -prune -o -name '*.rt' -print) crates.txt | toolchain
@@ -70,8 +85,19 @@ calls:
 try: build
 	@SLOTPLAN=$(program) python3 -m tests.lib.run
 
-look: build
-	@SLOTPLAN=$(program) python3 -m tests.look
+# By the program that make run takes.
+look:
+	@if test -x $(program) && test -z "$$(find crates crates.txt $(sources) -newer $(program) -print)"; then \
+	  SLOTPLAN=$(program) python3 -m tests.look; \
+	else $(MAKE) --no-print-directory -s look-unproved; fi
+
+.PHONY: look-unproved
+look-unproved: $(unproved)
+	@echo "make: this is $(unproved), which was compiled without proof; make install proves the program" >&2
+	@SLOTPLAN=$(unproved) python3 -m tests.look
+
+page:
+	@python3 page/build.py
 
 hostile: build
 	@WHOLE=yes SLOTPLAN=$(program) python3 -m tests.lib.run tests.test_stops tests.test_foreign tests.test_links
@@ -88,22 +114,27 @@ out/programs/%: tests/programs/%.rt.txt tests/lib/rattle.py $(shell find crates 
 store: out/programs/store_files out/programs/store_pages
 	@python3 -m tests.lib.run tests.outside.test_store_files tests.outside.test_store_pages tests.outside.test_foreign_rows
 
+$(plans): clients/archive.py $(shell find clients/slotplan_plans -name '*.py')
+	@python3 -m clients.archive $@
+
 ifeq ($(PROVED),yes)
-install: build
+install: build $(plans)
 	install -D -m 755 $(program) $(DESTDIR)$(PREFIX)/bin/slotplan
+	install -D -m 755 $(plans) $(DESTDIR)$(PREFIX)/bin/slotplan-plans
 else ifeq ($(PROVED),no)
-install: $(unproved)
+install: $(unproved) $(plans)
 	install -D -m 755 $(unproved) $(DESTDIR)$(PREFIX)/bin/slotplan
+	install -D -m 755 $(plans) $(DESTDIR)$(PREFIX)/bin/slotplan-plans
 else
 $(error PROVED is yes or no)
 endif
 
 bench: build
 	@python3 bench/run.py
-	@python3 bench/growth.py
 	@python3 bench/turns.py
 	@python3 bench/reports.py
 	@python3 bench/texts.py
+	@python3 bench/growth.py
 
 bench-all: bench $(addprefix out/programs/,measure_store measure_decisions measure_imports store_pages)
 	@python3 bench/serve.py

@@ -14,9 +14,8 @@ import sys
 import tempfile
 from pathlib import Path
 
-from growth import CYCLES, PLACEMENTS, RUNS, processor_seconds
 from scripts import FRAMES, SLOTS, cluster_file, key_of
-from turns import line
+from turns import CYCLES, PLACEMENTS, RUNS, line, processor_seconds
 
 HERE = Path(__file__).resolve().parent
 TOP = HERE.parent

@@ -10,12 +10,17 @@ is that of the whole run less that of a run without these requests, each the lea
 all of bench/, it promises nothing."""
 import argparse
 import json
+import resource
+import subprocess
+import sys
 from pathlib import Path
 
-from growth import CYCLES, PLACEMENTS, placement, seconds_of
 from scripts import cluster_file, key_of
 
 HERE = Path(__file__).resolve().parent
+PLACEMENTS = 8
+CYCLES = 64
+RUNS = 3
 FRAMES = (4, 64, 256)
 BESIDE = 16  # frames of each supplier where others have rows too
 OTHERS = (0, 15, 63)
@@ -24,6 +29,30 @@ VARIANTS = 64
 
 def line(key, do, **fields):
     return f"{key} {json.dumps({'do': do, **fields}, separators=(',', ':'))}"
+
+
+def placement(frame, nth):
+    """Each placement of each frame is one cell of its own."""
+    slot, base = divmod(frame * PLACEMENTS + nth, CYCLES)
+    return dict(frame=f"frame{frame}", slot=slot + 1, channels="A", base=base, repetition=CYCLES)
+
+
+def processor_seconds():
+    """Those of all processes that were started here and have ended."""
+    return resource.getrusage(resource.RUSAGE_CHILDREN).ru_utime
+
+
+def seconds_of(program, cluster, lines):
+    """The least of some runs; no request may be refused."""
+    script = "\n".join([*cluster, *lines]).encode()
+    runs = []
+    for _ in range(RUNS):
+        before = processor_seconds()
+        answers = subprocess.run([program, "run"], input=script, stdout=subprocess.PIPE, check=True).stdout
+        runs.append(processor_seconds() - before)
+        if answers.count(b"\n") != len(lines) or b"refused" in answers:
+            sys.exit("a request was refused")
+    return min(runs)
 
 
 def plan(suppliers, frames, variant="v0"):
