@@ -9,6 +9,7 @@
 #               Run it when a contract has changed, some minutes a crate; no part of the gate
 # make map      prints what each file of the crates, the tests, bench/ and clients/ is for; CRATES='fr_base tests ..' names some
 # make calls    prints what each public call of CRATES='fr_base ..' promises: its text, and its clauses
+# make laws     prints the laws of each crate, or of CRATES='fr_base ..', with their definitions; WORD=released prints those with that word
 # make try      tries the built program alone, as the gate does: rows, examples, faults, limits, counts of cycles, register files and
 #               their migration, the server, the commands of docs/TUTORIAL.md, docs/HTTP.md and README.md, docs/openapi.yaml, and pictures;
 #               and every so many cases of make hostile and make refuse
@@ -32,6 +33,7 @@
 
 SCRIPT ?= examples/first.script
 CRATES ?=
+WORD ?=
 PREFIX ?= /usr/local
 PORT ?= 8080
 PROVED ?= yes
@@ -42,7 +44,7 @@ plans := out/slotplan-plans
 build_log := out/build.log
 sources := -name out -prune -o \( -name '*.rt' -o -name '*.antt' -o -name crates.txt \)
 
-.PHONY: run run-unproved demo demo-unproved test prove edits map calls try look page hostile refuse store install bench bench-all build toolchain
+.PHONY: run run-unproved demo demo-unproved test prove edits map calls laws try look page hostile refuse store install bench bench-all build toolchain
 
 # A program is run where no source is newer.
 run:
@@ -81,6 +83,9 @@ map:
 
 calls:
 	@python3 -m tests.lib.calls $(CRATES)
+
+laws:
+	@python3 -m tests.lib.laws --word='$(WORD)' $(CRATES)
 
 try: build
 	@SLOTPLAN=$(program) python3 -m tests.lib.run
