@@ -130,8 +130,9 @@ class OpenApi(Case):
         for path, route in self.paths.items():
             for method in methods(route):
                 told = {int(it) for it in route[method]["responses"]}
-                asks = [2, 28] if path != "/" else []
+                asks = [] if route[method].get("security") == [] else [2] if path.startswith("/v1/checks/") else [2, 28]
                 meets = every if path == "/v1/commands" else {status[n] for n in [*asks, *(route[method]["x-refusals"])]}
+                meets |= {404} if "{word}" in path else set()
                 self.see(f"{method} {path}: statuses", meets | {200, 400, 405, 431, 501} | (set() if method == "get" else {411, 413}), told)
 
     def test_valid(self):

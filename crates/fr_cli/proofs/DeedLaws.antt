@@ -39,7 +39,7 @@ use Rattle.fr_cli.specs.Picturing.{plans_for}
 use Rattle.fr_cli.specs.Queries.{reader_named}
 use Rattle.fr_cli.specs.Reading.{PrintsRead}
 use Rattle.fr_cli.specs.RegisterFiles.{IsAnswerOfFile, IsDeliveryToFile, IsReadOfFile, LeadsInFile, StaysInFile}
-use Rattle.fr_cli.specs.Script.{request_lines}
+use Rattle.fr_text.specs.Script.{request_lines}
 use Rattle.fr_cli.specs.ScriptRun.{AreAnswered, Replied, asks_in, with_ask}
 use Rattle.fr_cli.specs.Series.{AsksRegister, Follows, IsNextOf, LeadsBy, WasNotOpened, end_of}
 use Rattle.fr_cli.specs.Serving.{IsServed, ServesAll}

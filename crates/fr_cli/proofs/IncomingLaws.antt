@@ -12,8 +12,8 @@ use Rattle.fr_base.specs.declared.desk.Desk as Desk
 use Rattle.fr_desks.specs.FileDesk.{Held, IsLeftWith}
 use Rattle.fr_cli.specs.Answering.{Account, AnswersEach, AnswersLines, BeginWith, GoOnBehind, IsStill, WasCutShort, account_by}
 use Rattle.fr_cli.specs.Guarding.{script_fault_unwatched}
-use Rattle.fr_cli.specs.Incoming.{AreFirstOf, AreFirstOfAll, AreShort, EndsAsking, EndsLines, HasAnswered, WasAsked, HasHeard, HasLongLine, IsAsked, account_over, max_line}
-use Rattle.fr_cli.specs.Script.{HasNo, max_script, request_lines}
+use Rattle.fr_cli.specs.Incoming.{AreFirstOf, AreFirstOfAll, AreShort, EndsAsking, EndsLines, HasAnswered, WasAsked, HasHeard, HasLongLine, IsAsked, account_over}
+use Rattle.fr_text.specs.Script.{HasNo, max_line, max_script, request_lines}
 use Rattle.fr_cli.specs.ScriptFault.{script_fault_of}
 use Rattle.fr_cli.specs.declared.fault.Fault.{Fault}
 use Rattle.fr_cli.specs.declared.input.InputFault.{InputFault}
@@ -24,7 +24,7 @@ use Rattle.fr_cli.specs.declared.watch.WatchFault.{WatchFault}
 use Rattle.fr_cli.specs.declared.watch.WatchFault.TheVariants as watch
 use Rattle.fr_cli.proofs.AnsweringLaws.{Tells, cut_after, cut_as, cut_here, cut_told, cut_unasked, each_told, lines_as, lines_stay, lines_then, told_moved}
 use Rattle.fr_cli.proofs.EndedLines.{requests-append}
-use Rattle.fr_cli.proofs.LineLemmas.{request_lines-none}
+use Rattle.fr_text.proofs.LineLemmas.{request_lines-none}
 use Rattle.fr_cli.proofs.ErrandLaws.{done_over}
 use Rattle.fr_cli.specs.Errands.{AnswersInput, IsDoneOver}
 use Rattle.fr_cli.specs.Opened.{IsOver}

@@ -1,4 +1,4 @@
-mod LineLemmas
+mod ShortLines
 mod EndedLines
 pub mod ErrandLaws
 pub mod IncomingLaws
@@ -25,7 +25,6 @@ pub mod PicturingLaws
 pub mod TextLaws
 pub mod ServingLaws
 pub mod VisitLaws
-mod NumberedLaws
 mod EachFault
 mod CheckingLaws
 mod HoldingLaws

@@ -11,7 +11,7 @@ use Rattle.fr_base.specs.declared.desk.Desk as Desk
 use Rattle.fr_cli.specs.Answering.{Account, Anything, WasWritten, account_by, account_of}
 use Rattle.fr_cli.specs.Output.{IsAnsweredTo, IsCutShort, IsOutputTo, LacksMemory}
 use Rattle.fr_cli.specs.Runs.{IsRunOf}
-use Rattle.fr_cli.specs.Script.{max_script, parts_of, request_lines}
+use Rattle.fr_text.specs.Script.{max_script, parts_of, request_lines}
 use Rattle.fr_cli.proofs.AnsweringLaws.{Tells, cut_told, each_told, lines_as}
 use Rattle.fr_cli.proofs.OutputLaws.{answered_to}
 use Rattle.fr_cli.specs.declared.script_fault.ScriptFault.{ScriptFault}

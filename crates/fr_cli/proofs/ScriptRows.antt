@@ -22,7 +22,7 @@ use Rattle.fr_base.proofs.WorkedRows.{a_small_register, file}
 use Rattle.fr_cli.specs.Asked.{ask_in}
 use Rattle.fr_text.specs.Fields.{value_of, is_among, only, text, text_or_null, whole}
 use Rattle.fr_text.specs.RequestText as request
-use Rattle.fr_cli.specs.Script.{key_and_text, request_lines}
+use Rattle.fr_text.specs.Script.{key_and_text, request_lines}
 use Rattle.fr_cli.specs.ScriptRun.{answers_of, answers_to, lines_of}
 
 -- what the rows below unfold

@@ -11,7 +11,7 @@ use Rattle.fr_base.specs.declared.refusal.Refusal.{Refusal}
 use Rattle.fr_base.specs.declared.request.Ask.{Ask}
 use Rattle.fr_desks.specs.FileDesk.{Held}
 use Rattle.fr_desks.specs.Sessions.{Session}
-use Rattle.fr_http.specs.Exchanges.{Answered, AreExchanged, Asks, Dealing, Drawn, Exchanged}
+use Rattle.fr_http.specs.Exchanges.{Advised, Answered, AreExchanged, Asks, Dealing, Drawn, Exchanged}
 use Rattle.fr_office.specs.Headline.{WereAnswered}
 use Rattle.fr_office.proofs.RunLaws.{runs_joined, were_answered}
 use Rattle.fr_cli.specs.Deeds.{Asked, Deed, Did, Drawn as DrawnBy, Lines, Visits, WasLeft, WasReplied, asks_at, asks_by, session_of}
@@ -40,6 +40,7 @@ dealt_run : (c : Cluster) (b next last : Book) (x : Exchanged) (asked : Option D
     → Runs c next (session_of rest) last → Runs c b (session_of (asks_at asked ++ rest)) last
 dealt_run c b next last x (Some (Answered ask method answer)) rest is run = runs_joined c b next last (ask ∷ []) (session_of rest).asks (answer ∷ []) (session_of rest).answers is.deals run
 dealt_run c b next last x (Some (Drawn reader variant drawn)) rest is run = subst (λ d. Runs c d (session_of rest) last) is.deals.0 run
+dealt_run c b next last x (Some (Advised reader subject text)) rest is run = subst (λ d. Runs c d (session_of rest) last) is.deals run
 dealt_run c b next last x None rest is run = subst (λ d. Runs c d (session_of rest) last) is.0 run
 
 exchanges_run : (c : Cluster) (b last : Book) (xs : List Exchanged) → AreExchanged c b xs last → Runs c b (session_of (asks_by xs)) last

@@ -15,7 +15,7 @@ use Rattle.fr_cli.specs.Asked.{ask_in}
 use Rattle.fr_cli.specs.Outcomes.{line_of}
 use Rattle.fr_cli.specs.Outlets.{StopsSo}
 use Rattle.fr_cli.specs.Output.{text_of_answers}
-use Rattle.fr_cli.specs.Script.{request_lines}
+use Rattle.fr_text.specs.Script.{request_lines}
 use Rattle.fr_cli.specs.ScriptRun.{AreAnswered, Replied}
 use Rattle.fr_cli.specs.Visits.{SinkGhosts}
 use Rattle.fr_cli.specs.declared.script_fault.ScriptFault.{ScriptFault}

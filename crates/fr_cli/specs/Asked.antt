@@ -10,7 +10,7 @@ use Rattle.fr_base.specs.declared.refusal.Refusal.TheVariants.{BadText, UnknownK
 use Rattle.fr_base.specs.declared.request.Ask.{Ask}
 use Rattle.fr_base.specs.declared.request.Request.{Request}
 use Rattle.fr_text.specs.RequestText.{request_of}
-use Rattle.fr_cli.specs.Script.{key_and_text}
+use Rattle.fr_text.specs.Script.{key_and_text}
 
 -- whoever has the key asks the request; a key of nobody's is refused
 abbrev pub asked_by : Option Actor → Request → Result Ask Refusal

@@ -1,20 +1,16 @@
 -- Check: what is said of a file, and how that ends. It is a cluster file; or none, and the line begins with the word of its fault. Or its
 -- lines are requests, or its records rows, and how many is said; or each fault of them has a line. Or it cannot be read, or memory is wanting.
-use Rattle.std.specs.Prelude.{◌≡◌, ◌⊎◌, ◌++◌, ◌+◌, ◌-◌, ℕ, Bool, true, false, ◌&&◌, nat_le, if◌then◌else◌, List, [], ◌∷◌, length, codes, decimal, Option, Some, None, Result, Ok, Err}
+use Rattle.std.specs.Prelude.{◌≡◌, ◌⊎◌, ◌++◌, ◌-◌, ℕ, true, false, List, length, codes, decimal, Result, Ok, Err}
 use Rattle.std.specs.Global.{Vec}
-use Rattle.std.specs.List.{AllByRecursion}
-use Rattle.std.specs.Str.Lines.{lines}
 use Rattle.fr_base.specs.Cluster.{ClusterFile}
-use Rattle.fr_base.specs.Names.{is_key}
 use Rattle.fr_text.specs.ClusterFile.{config_fault_word, config_of}
 use Rattle.fr_text.specs.declared.cluster_file.ConfigFault.{ConfigFault}
-use Rattle.fr_guide.specs.Faults.{all_fine, all_lines, is_fine}
-use Rattle.fr_guide.specs.Requests.{is_fine_request}
-use Rattle.fr_guide.specs.Rows.{AreToldOfRows, numbers_of}
+use Rattle.fr_guide.specs.Faults.{all_fine, all_lines}
+use Rattle.fr_guide.specs.RequestFile.{AreToldOfRequests}
+use Rattle.fr_guide.specs.Rows.{AreToldOfRows}
 use Rattle.fr_guide.specs.declared.line_faults.LineFaults.{LineFaults}
 use Rattle.fr_cli.specs.Endings.{word_line}
-use Rattle.fr_cli.specs.Incoming.{max_line}
-use Rattle.fr_cli.specs.Script.{key_and_text, max_script, request_lines}
+use Rattle.fr_text.specs.Script.{max_script, request_lines}
 use Rattle.fr_cli.specs.Texts.{IsUnread, Readings, max_config, max_rows}
 use Rattle.fr_cli.specs.declared.failure.Failure.{Failure}
 use Rattle.fr_cli.specs.declared.failure.Failure.TheVariants as failure
@@ -30,33 +26,6 @@ IsChecked bytes (Err (failure.RefusedRows text)) = ⊥
 IsChecked bytes (Err (failure.Refused line)) = (fault : ConfigFault) × (place : List ℕ) × (config_of bytes ≡ Err fault)
     × (line.items ≡ word_line (config_fault_word fault ++ codes ": " ++ place))
 IsChecked bytes (Err (failure.Fault fault)) = fault ≡ NoMemory
-
--- whether the key may be somebody's, and the text is a request, whoever asks
-abbrev pub is_fine_ask : List ℕ → List ℕ → Bool
-is_fine_ask key text = is_key key && is_fine_request text
-
--- whether the line's parts are such a key and such a text
-abbrev pub is_fine_parts : Option (List ℕ × List ℕ) → Bool
-is_fine_parts None = false
-is_fine_parts (Some parts) = is_fine_ask parts.0 parts.1
-
--- Whether a line is a key and a request, and no longer than one that comes in may be. An empty one is passed over.
-unfoldable pub is_fine_line : List ℕ → Bool
-is_fine_line [] = true
-is_fine_line (b ∷ line) = nat_le (length (b ∷ line)) max_line && is_fine_parts (key_and_text (b ∷ line))
-
--- the numbers of those lines that are none, the first line with this number
-unfoldable pub bad_lines : ℕ → List (List ℕ) → List ℕ
-bad_lines number [] = []
-bad_lines number (line ∷ more) = if is_fine_line line then bad_lines (number + 1) more else number ∷ bad_lines (number + 1) more
-
--- Something is told of the line.
-abbrev pub HasFault : LineFaults → Type 0
-HasFault told = is_fine told ≡ false
-
--- Something is told of just the lines that are no request, by their numbers, from 1 on.
-abbrev pub AreToldOfRequests : List ℕ → List LineFaults → Type 0
-AreToldOfRequests bytes told = (numbers_of told ≡ bad_lines 1 (lines bytes)) × AllByRecursion HasFault told
 
 -- the line that says that so many have no fault
 abbrev pub fine_line : List ℕ → ℕ → List ℕ

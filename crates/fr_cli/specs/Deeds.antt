@@ -25,7 +25,7 @@ use Rattle.fr_cli.specs.Performing.{Says}
 use Rattle.fr_cli.specs.Picturing.{plans_for}
 use Rattle.fr_cli.specs.Queries.{reader_named}
 use Rattle.fr_cli.specs.Reading.{PrintsRead}
-use Rattle.fr_cli.specs.Script.{request_lines}
+use Rattle.fr_text.specs.Script.{request_lines}
 use Rattle.fr_cli.specs.ScriptRun.{AreAnswered, Replied, asks_in, with_ask}
 use Rattle.fr_cli.specs.Texts.{Readings, max_rows}
 use Rattle.fr_cli.specs.Visits.{Comings, SinkGhosts, Visit, visit_of}
@@ -50,7 +50,7 @@ pub data Deed : Type 0 where
 abbrev pub session_of : List (Ask × Answer) → Session
 session_of asked = record { asks = map (λ one. one.0) asked; answers = map (λ one. one.1) asked }
 
--- the request that a register answered, with its answer; a picture asks none
+-- the request that a register answered, with its answer; a picture and advice ask none
 abbrev pub asks_at : Option Dealing → List (Ask × Answer)
 asks_at (Some (Answered ask method answer)) = (ask, answer) ∷ []
 asks_at _ = []

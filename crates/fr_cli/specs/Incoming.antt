@@ -15,7 +15,7 @@ use Rattle.fr_cli.specs.Faults.{IsNotOpened}
 use Rattle.fr_cli.specs.Opened.{IsOver}
 use Rattle.fr_cli.specs.Outlets.{Outlet, StopsSo, held_before, held_behind}
 use Rattle.fr_cli.specs.Performing.{of_script}
-use Rattle.fr_cli.specs.Script.{HasNo, max_script, request_lines}
+use Rattle.fr_text.specs.Script.{HasNo, max_line, max_script, request_lines}
 use Rattle.fr_cli.specs.ScriptFault.{script_fault_of}
 use Rattle.fr_cli.specs.Visits.{SinkGhosts}
 use Rattle.fr_cli.specs.declared.fault.Fault.{Fault}
@@ -52,10 +52,6 @@ pub record HasAsked {D W : Type 0} (desk : Desk.Ghosts D) (writer : SinkGhosts W
   pub falls : desk.clean new → desk.clean old
   pub same_writer : now.writer.ghost_name ≡ held.writer.ghost_name
   pub stops : StopsSo writer now.writer.now done
-
--- how many bytes a line that comes in has at most, without its line feed
-abbrev pub max_line : ℕ
-max_line = 1048576
 
 -- No line is longer.
 abbrev pub AreShort : List (List ℕ) → Type 0

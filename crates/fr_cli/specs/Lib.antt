@@ -1,4 +1,3 @@
-pub mod Script
 pub mod ScriptFault
 pub mod Asked
 pub mod ScriptRun
@@ -31,7 +30,6 @@ pub mod Stops
 pub mod Errands
 pub mod Runs
 pub mod Checking
-pub mod Numbers
 pub mod Explaining
 pub mod Jobs
 pub mod Deeds

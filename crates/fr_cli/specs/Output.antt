@@ -11,7 +11,7 @@ use Rattle.fr_base.specs.declared.answer.Answer.{Answer}
 use Rattle.fr_base.specs.declared.name.Name.{Name}
 use Rattle.fr_text.specs.AnswerText.{text_of}
 use Rattle.fr_text.specs.ClusterFile.{config_of}
-use Rattle.fr_cli.specs.Script.{max_script, parts_of, request_lines}
+use Rattle.fr_text.specs.Script.{max_script, parts_of, request_lines}
 use Rattle.fr_cli.specs.ScriptRun.{AreAnswered, AreAsIfAlone, WasCollisionFreeAfter}
 use Rattle.fr_text.specs.declared.cluster_file.ConfigFault.{ConfigFault}
 

@@ -6,7 +6,7 @@ use Rattle.fr_base.specs.Cluster.{ClusterFile, IsWellFormed}
 use Rattle.fr_text.specs.declared.cluster_file.ConfigFault.{ConfigFault}
 use Rattle.fr_text.specs.declared.cluster_file.ConfigFault.TheVariants as cluster
 use Rattle.fr_cli.specs.Output.{IsCutShort, IsOutput, LacksMemory, cluster_in}
-use Rattle.fr_cli.specs.Script.{max_script}
+use Rattle.fr_text.specs.Script.{max_script}
 use Rattle.fr_cli.specs.declared.script_fault.ScriptFault.{ScriptFault}
 use Rattle.fr_cli.specs.declared.script_fault.ScriptFault.TheVariants.{TooLong, TooManyReads, ReadFailed, NoSeparator, Config, Unavailable, NoMemory, WriteFailed}
 

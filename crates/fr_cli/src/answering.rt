@@ -5,11 +5,10 @@ ghost use Rattle.fr_http.specs.Connection.{InSound};
 ghost use Rattle.fr_picture.specs.Reports.{AsksDesk};
 ghost use Rattle.fr_cli.specs.Answering.{GivesAnswer, HasWritten, Reads};
 
-use crate::lines::{RequestLines, key_and_text};
 use crate::lines_out::line_of;
 use crate::script_fault::ScriptFault;
 use fr_base::{Actor, Answer, Ask, Desk, Refusal};
-use fr_text::{Output, Sink, read_command};
+use fr_text::{Output, RequestLines, Sink, key_and_text, read_command};
 use std::alloc::Global;
 use std::str;
 

@@ -1,7 +1,8 @@
 //! Checks the text of a file: of a cluster, of requests, or of an import's rows.
 ghost use Rattle.std.specs.Prelude.{◌≡◌, ◌++◌, IfOk, IfErr, codes};
+ghost use Rattle.fr_guide.specs.RequestFile.{AreToldOfRequests};
 ghost use Rattle.fr_guide.specs.Rows.{AreToldOfRows};
-ghost use Rattle.fr_cli.specs.Checking.{AreChecked, AreToldOfRequests, IsChecked, IsCheckedAs, IsCheckedFile, IsReadOf, fine_line, fine_requests, fine_rows, path_of};
+ghost use Rattle.fr_cli.specs.Checking.{AreChecked, IsChecked, IsCheckedAs, IsCheckedFile, IsReadOf, fine_line, fine_requests, fine_rows, path_of};
 ghost use Rattle.fr_cli.specs.Endings.{word_line};
 ghost use Rattle.fr_cli.specs.Texts.{IsUnread, readings};
 
@@ -11,12 +12,13 @@ use crate::failure::Failure;
 use crate::fault::Fault;
 use crate::files::{read_file, read_front};
 use crate::input::SCRIPT_BYTES;
-use crate::lines::RequestLines;
-use crate::request_file::request_faults;
 use crate::text_file::TextFile;
 use crate::text_files::TextFiles;
 use fr_base::NoMemory;
-use fr_guide::{Finding, LineFaults, are_fine, examine, fault_lines, row_faults};
+use fr_guide::{
+    Finding, LineFaults, are_fine, examine, fault_lines, request_file_faults, row_faults,
+};
+use fr_text::RequestLines;
 use std::alloc::Global;
 
 /// A line on what the file says, if it has no fault. Else it is refused: with a line on a cluster file's fault, or with a
@@ -74,7 +76,7 @@ fn check_config(alloc: Global, text: &[u8]) -> Result<Vec<u8>, Failure>
 fn check_requests(alloc: Global, text: &[u8]) -> Result<Vec<u8>, Failure>
     ensures { AreChecked (AreToldOfRequests text.now) (fine_requests text.now) result }
 {
-    let told = request_faults(alloc, text)?;
+    let told = request_file_faults(alloc, text)?;
     let count = RequestLines::new(text).count();
     tell(alloc, &told, "requests", count)
 }

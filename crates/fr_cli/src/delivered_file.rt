@@ -15,12 +15,12 @@ use crate::failure::Failure;
 use crate::fault::Fault;
 use crate::files::read_front;
 use crate::input::{ReadBounds, read_line};
-use crate::lines::next_line;
 use crate::over_file::over_file;
 use crate::script_fault::ScriptFault;
 use crate::telling::Telling;
 use crate::text_files::TextFiles;
 use fr_desks::Left;
+use fr_text::next_line;
 use sqlite::Start;
 use std::io::Read;
 

@@ -3,9 +3,8 @@ ghost use Rattle.std.specs.Prelude.{◌≡◌, IfOk};
 ghost use Rattle.fr_cli.specs.Explaining.{IsExplained, IsUnknown, hint};
 
 use crate::failure::Failure;
-use crate::numbers::meant_word;
 use fr_base::NoMemory;
-use fr_guide::{alike, explanation, overview};
+use fr_guide::{alike, explanation, meant_word, overview};
 use std::alloc::Global;
 
 /// What the word means, or the refusal of this number. Where no word is given, all words are listed, with a line on each. A word

@@ -4,20 +4,16 @@ ghost use Rattle.std.specs.Io.KnownBytes.{IsAtEnd};
 ghost use Rattle.fr_cli.specs.Answering.{account_by};
 ghost use Rattle.fr_cli.specs.Incoming.{EndsAsking, HasAnswered, HasAsked, HasHeard};
 ghost use Rattle.fr_cli.specs.Outlets.{StopsSo};
-ghost use Rattle.fr_cli.specs.Script.{HasNo};
+ghost use Rattle.fr_text.specs.Script.{HasNo};
 ghost use Rattle.fr_cli.specs.declared.input.InputFault.{InputFault};
 
 use crate::answering::write_answers;
 use crate::input::{InputFault, PIECE_BYTES, SCRIPT_BYTES, SCRIPT_READS, append};
 use crate::lasting::Lasting;
-use crate::lines::{RequestLines, split_once};
 use crate::script_fault::ScriptFault;
-use fr_text::{Output, Sink, try_again};
+use fr_text::{LINE_BYTES, Output, RequestLines, Sink, split_once, try_again};
 use std::alloc::Global;
 use std::io::Read;
-
-/// How many bytes a line has at most, without its line feed.
-pub const LINE_BYTES: usize = 1_048_576;
 
 /// Answers requests that come in, a line each, in order. All lines are answered; or a fault ends the run, and what was answered
 /// stays. The fault is `Unavailable` behind the answer after which the register came to an end. The bounds are those of a

@@ -6,10 +6,9 @@ ghost use Rattle.fr_cli.specs.ScriptFault.{script_fault_of};
 ghost use Rattle.fr_cli.specs.declared.input.InputFault.{InputFault};
 ghost use Rattle.fr_cli.specs.declared.input.InputFault.TheVariants.{NoMemory, TooLong};
 
-use crate::lines::split_once;
 use crate::script_fault::ScriptFault;
 use fr_base::NoMemory;
-use fr_text::try_again;
+use fr_text::{split_once, try_again};
 use std::alloc::Global;
 use std::io::Read;
 

@@ -1,7 +1,6 @@
 //! Laws of a script's answers, of the words of faults, and of jobs: lines that are answered one after another are a run of the
-//! register, and come to one end; each fault's word is explained, and each refusal's number means its name; what jobs ask, one
-//! after another at one register's file, is a run of the register too, whatever stops come between them.
-ghost use Rattle.fr_cli.specs.Numbers.{EachNumberIsNamed};
+//! register, and come to one end; each fault's word is explained; what jobs ask, one after another at one register's file, is a
+//! run of the register too, whatever stops come between them.
 ghost use Rattle.fr_cli.specs.Laws.{AnsweredLinesAreARun, AvailableAnswersAreSteps, EachFaultIsExplained};
 ghost use Rattle.fr_cli.specs.OutputLaws.{AnsweredLinesAreOne, OutputIsOne};
 ghost use Rattle.fr_cli.specs.Series.{AllJobsAreKept, JobLeads, JobsAreKept, MadeIsHeld};
@@ -37,11 +36,6 @@ pub fn answered_lines_are_one()
 /// Two outputs of a script, `Unavailable` at the same places or nowhere, are the same bytes.
 pub fn output_is_one()
     ensures { OutputIsOne }
-{}
-
-/// Each refusal's number means its name, where it is to be explained.
-pub fn each_number_is_named()
-    ensures { EachNumberIsNamed }
 {}
 
 /// Each word of a fault that ends a job or a connection is explained.

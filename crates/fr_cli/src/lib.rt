@@ -19,19 +19,16 @@ mod incoming;
 mod input;
 mod lasting;
 mod laws;
-mod lines;
 mod lines_out;
 mod listener;
 mod local_files;
 mod local_listener;
-mod numbers;
 mod outcome;
 mod over_file;
 pub mod perform;
 mod picturing;
 mod printing;
 mod query;
-mod request_file;
 mod script;
 mod script_fault;
 mod serving;
@@ -47,7 +44,7 @@ pub use incoming::answer_input;
 pub use lasting::Lasting;
 pub use laws::{
     answered_lines_are_a_run, answered_lines_are_one, available_answers_are_steps,
-    each_fault_is_explained, each_number_is_named, output_is_one,
+    each_fault_is_explained, output_is_one,
 };
 pub use listener::Listener;
 pub use local_files::LocalFiles;

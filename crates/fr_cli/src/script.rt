@@ -4,10 +4,9 @@ ghost use Rattle.fr_cli.specs.Runs.{IsRunOf};
 
 use crate::answering::write_answers;
 use crate::input::read_all;
-use crate::lines::split_script;
 use crate::script_fault::ScriptFault;
 use fr_desks::MemoryDesk;
-use fr_text::{Output, Sink, read_config};
+use fr_text::{Output, Sink, read_config, split_script};
 use std::alloc::Global;
 use std::io::Read;
 

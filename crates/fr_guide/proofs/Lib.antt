@@ -5,3 +5,6 @@ pub mod RowLaws
 mod LineLemmas
 mod RowLemmas
 mod TopicLemmas
+mod NumberedLaws
+pub mod AdviceLaws
+pub mod RequestFileLaws

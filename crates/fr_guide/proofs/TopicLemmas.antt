@@ -1,8 +1,10 @@
 -- Words of topics, and the topic of a word.
-use Rattle.std.proofs.Common.{◌≡◌, ◌∙◌, ◌++◌, ◌||◌, ℕ, List, [], ◌∷◌, Bool, true, false, cond, Some, is_some, refl, ap, ap₂}
-use Rattle.std.specs.Prelude.{find}
+use Rattle.std.proofs.Common.{◌≡◌, ◌∙◌, ◌++◌, ◌||◌, ℕ, List, [], ◌∷◌, Bool, true, false, cond, Option, Some, None, is_some, refl, sym, ap, ap₂}
+use Rattle.std.specs.Borrow.{Bor}
+use Rattle.std.specs.Prelude.{find, option_copied}
 use Rattle.std.specs.List.{list_any}
 use Rattle.std.specs.Str.{bytes_eq}
+use Rattle.std.proofs.lemmas.List.Folds.{list_any-append}
 use Rattle.std.proofs.lemmas.Slice.Eq.{bytes_eq-Decides}
 use Rattle.fr_guide.specs.declared.topic.Topic.{Topic}
 use Rattle.fr_guide.specs.Topics.{words_of}
@@ -30,3 +32,11 @@ found-word word (t ∷ ts) topic found = elim (bytes_eq t.word.now word) as (λ 
       ap (λ (x : Topic). x.word.now) same ∙ (bytes_eq-Decides t.word.now word).0 passes
   | false ↦ λ fails is. found-word word ts topic is
 ] refl found
+
+pub is_some-copied : (found : Option (Bor Topic)) → is_some found ≡ is_some (option_copied found)
+is_some-copied None = refl
+is_some-copied (Some topic) = refl
+
+-- words are among those of two parts where they are among the one's or the other's
+pub any_more : (is : List ℕ → Bool) (xs ys : List (List ℕ)) (one other : Bool) → one ≡ list_any is xs → other ≡ list_any is ys → (one || other) ≡ list_any is (xs ++ ys)
+any_more is xs ys one other e f = ap₂ (λ (a b : Bool). a || b) e f ∙ sym (list_any-append is xs ys)

@@ -6,3 +6,6 @@ pub mod Faults
 pub mod Requests
 pub mod RequestFields
 pub mod Rows
+pub mod RequestFile
+pub mod Advice
+pub mod Numbers

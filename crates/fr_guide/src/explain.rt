@@ -1,12 +1,10 @@
 //! The explanation of one word, of all words, or of the words that begin alike.
-ghost use Rattle.std.specs.Prelude.{◌≡◌, ◌++◌, IfOk, OnOk, option_copied};
-ghost use Rattle.std.specs.List.{find};
-ghost use Rattle.std.specs.Str.{bytes_eq};
+ghost use Rattle.std.specs.Prelude.{◌≡◌, ◌++◌, IfOk, OnOk};
 ghost use Rattle.fr_guide.specs.Explaining.{Explains, ListsAlike, ListsAll};
-ghost use Rattle.fr_guide.specs.Topics.{begin_alike, line_of, lines_of, page_of};
+ghost use Rattle.fr_guide.specs.Topics.{begin_alike, is_explained, line_of, lines_of, page_of};
 
 use crate::topic::Topic;
-use crate::topics::topics;
+use crate::topics::{are_about, find, topics};
 use fr_base::NoMemory;
 use std::alloc::Global;
 
@@ -24,6 +22,13 @@ pub fn explanation(alloc: Global, word: &str) -> Result<Option<Vec<u8>>, NoMemor
     }
 }
 
+/// Whether the word is a refusal's name or a fault's word, of which [`explanation`] says more.
+pub fn explains(word: &str) -> bool
+    ensures { result ≡ is_explained word.now }
+{
+    are_about(word)
+}
+
 /// A line for each word that is explained, with its meaning.
 pub fn overview(alloc: Global) -> Result<Vec<u8>, NoMemory>
     ensures { IfOk result (λ text. ListsAll text.items) }
@@ -39,13 +44,6 @@ pub fn alike(alloc: Global, word: &str) -> Result<Vec<u8>, NoMemory>
     let mut topics = topics(alloc)?;
     topics.retain(|topic| begin_alike(topic.word, word));
     lines(alloc, &topics)
-}
-
-// The topic of this word.
-fn find<'a>(topics: &'a [Topic], word: &str) -> Option<&'a Topic>
-    ensures { option_copied result ≡ find (λ t. bytes_eq t.word.now word.now) topics.now }
-{
-    topics.iter().find(|topic| topic.word == word)
 }
 
 // All lines of a topic.

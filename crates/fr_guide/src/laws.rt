@@ -1,6 +1,8 @@
 //! Laws of the words that are explained: each refusal's name, and each fault's word of a cluster
-//! file. Laws of requests and rows: a fault is told exactly where the register refuses the text,
-//! whatever it holds.
+//! file; each refusal's number means its name. Laws of requests and rows: a fault is told exactly where the register refuses the text,
+//! whatever it holds. Advice tells nothing exactly where a text has no fault.
+ghost use Rattle.fr_guide.specs.Advice.{AdviceIsExact};
+ghost use Rattle.fr_guide.specs.Numbers.{EachNumberIsNamed};
 ghost use Rattle.fr_guide.specs.Laws.{EachConfigFaultIsExplained, EachRefusalIsExplained, MisformedRequestsAreRefused, MisformedRowsAreRefused};
 
 /// The name of each refusal is explained, also that of an import's refused row.
@@ -13,6 +15,11 @@ pub fn each_config_fault_is_explained()
     ensures { EachConfigFaultIsExplained }
 {}
 
+/// Each refusal's number means its name, where it is to be explained.
+pub fn each_number_is_named()
+    ensures { EachNumberIsNamed }
+{}
+
 /// A fault of a request's names or keys is told exactly where the register refuses the request for
 /// one of them.
 pub fn misformed_requests_are_refused()
@@ -22,4 +29,9 @@ pub fn misformed_requests_are_refused()
 /// A fault of a record is told exactly where the row is refused for its text or a name.
 pub fn misformed_rows_are_refused()
     ensures { MisformedRowsAreRefused }
+{}
+
+/// Advice on a text tells nothing exactly where each record of it is fine, or each of its lines.
+pub fn advice_is_exact()
+    ensures { AdviceIsExact }
 {}

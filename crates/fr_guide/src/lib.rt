@@ -2,24 +2,30 @@
 //! an import's file.
 #![tactic(auto)]
 
+mod advice;
 mod explain;
 mod finding;
 mod form;
 mod laws;
 mod line_faults;
+mod numbers;
 mod place;
+mod request_file;
 mod requests;
 mod rows;
 mod shown;
 mod topic;
 mod topics;
 
-pub use explain::{alike, explanation, overview};
+pub use advice::{Subject, advise};
+pub use explain::{alike, explains, explanation, overview};
 pub use finding::{Finding, examine};
 pub use laws::{
-    each_config_fault_is_explained, each_refusal_is_explained, misformed_requests_are_refused,
-    misformed_rows_are_refused,
+    advice_is_exact, each_config_fault_is_explained, each_number_is_named,
+    each_refusal_is_explained, misformed_requests_are_refused, misformed_rows_are_refused,
 };
 pub use line_faults::{LineFaults, are_fine, fault_lines, one_fault};
+pub use numbers::meant_word;
+pub use request_file::request_file_faults;
 pub use requests::request_faults;
 pub use rows::row_faults;

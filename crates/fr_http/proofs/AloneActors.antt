@@ -18,7 +18,7 @@ use Rattle.fr_base.specs.declared.refusal.Refusal.{Refusal}
 use Rattle.fr_base.specs.declared.refusal.Refusal.TheVariants.{Unavailable}
 use Rattle.fr_base.specs.declared.request.Request.{Request}
 use Rattle.fr_picture.specs.declared.plan.Plan.{Plan}
-use Rattle.fr_http.specs.Exchanges.{is_own_picture}
+use Rattle.fr_http.specs.Exchanges.{is_own_advice, is_own_picture}
 
 -- whether it is the integrator or the supplier
 abbrev pub is_heard : Name → Option Actor → Bool
@@ -49,6 +49,11 @@ module _ (s : Name) where
   pub picture-heard : (reader : Actor) (drawn : Result Plan Refusal) → is_own_picture s reader drawn ≡ true → is_heard s (Some reader) ≡ true
   picture-heard Integrator drawn own = cc
   picture-heard (Supplier t) drawn own = and_left _ _ own
+
+  -- whose advice is the supplier's is heard
+  pub advice-heard : (reader : Actor) → is_own_advice s reader ≡ true → is_heard s (Some reader) ≡ true
+  advice-heard Integrator own = cc
+  advice-heard (Supplier t) own = own
 
   abbrev sending : Option (Name × Key) → Option Actor
   sending row = option_map (λ r. Supplier r.0) row

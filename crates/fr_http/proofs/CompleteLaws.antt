@@ -1,5 +1,5 @@
 -- Laws of complete requests.
-use Rattle.std.proofs.Common.{◌≡◌, ◌≢◌, ℕ, ◌≤◌, ◌<◌, ◌+◌, Bool, true, false, List, [], ◌++◌, length, take, drop, Option, Some, None, Result, Ok, Err, ◌⊎◌, refl, sym, ap, ◌∙◌, subst, append-nil, append_assoc, length-append, arith, inl, inr}
+use Rattle.std.proofs.Common.{◌≡◌, ◌≢◌, ℕ, ◌≤◌, ◌<◌, ◌+◌, Bool, true, false, List, [], ◌++◌, length, take, drop, Option, Some, None, Result, Ok, Err, ◌⊎◌, refl, sym, ap, ◌∙◌, subst, append-nil, append_assoc, length-append, arith, inl, inr, true≢false}
 use Rattle.std.proofs.Math.Seq.{take-append_seam, take-append-add}
 use Rattle.std.proofs.lemmas.List.{length-take, take_all, take-append-drop, take-append-le}
 use Rattle.std.proofs.lemmas.Bool.{le-leb, lt-leb}
@@ -12,7 +12,7 @@ use Rattle.httparse.specs.declared.Error.{Error}
 use Rattle.httparse.specs.declared.Error.TheVariants.{HeaderName, HeaderValue, NewLine, Status, Token, TooManyHeaders, Version}
 use Rattle.fr_base.specs.Refusing.{◌>>=◌, ◌>>◌, ◌or◌}
 use Rattle.fr_base.specs.declared.actor.Actor.{Actor}
-use Rattle.fr_base.specs.declared.refusal.Refusal.TheVariants.{BadText, UnknownKey}
+use Rattle.fr_base.specs.declared.refusal.Refusal.TheVariants.{UnknownKey}
 use Rattle.fr_http.specs.Complete.{IsCut, IsEnough, IsKnown, IsOpen, Needs, needed}
 use Rattle.fr_http.specs.Head.{BeginsWith, HasNoHead, HeadData, key_of, max_fields, max_head, said}
 use Rattle.fr_http.specs.Outcome.{HeadFails, IsOutcome, Wanted, asked_by, by_engine, continue_if, due, front, holder, interim, outcome_of, plan_of}
@@ -28,7 +28,7 @@ use Rattle.fr_http.specs.declared.fault.Unasked.TheVariants.{Engine, Fault, Page
 use Rattle.fr_http.specs.declared.method.Method.{Method}
 use Rattle.fr_http.proofs.OutcomeLaws.{outcome-one}
 use Rattle.fr_http.proofs.ReadingLaws.{never_head, no_head, receives}
-use Rattle.fr_http.proofs.ServeLaws.{begins_more, cut, interim_none, interim_planned, rejected, why_not}
+use Rattle.fr_http.proofs.ServeLaws.{begins_more, cut, interim_none, interim_planned, is_fault, rejected, why_not}
 
 -- ---- where a head is there
 
@@ -82,16 +82,15 @@ unfolding ◌>>=◌ ◌or◌
 found_or_not None what method is = absurd cc
 found_or_not (Some actor) what method is = absurd cc
 
-refused : (unasked : Unasked) → (unasked ≡ Page) ⊎ (unasked ≡ Refused BadText) → unasked ≢ Fault Truncated
-refused unasked (inl page) is = let both : Page ≡ Fault Truncated = sym page ∙ is in absurd cc
-refused unasked (inr text) is = let both : Refused BadText ≡ Fault Truncated = sym text ∙ is in absurd cc
+refused : (unasked : Unasked) → is_fault unasked ≡ false → unasked ≢ Fault Truncated
+refused unasked none is = true≢false (sym (ap is_fault is) ∙ none)
 
 cause_of : Result Exchange Unasked → Unasked
 cause_of (Ok exchange) = Page
 cause_of (Err unasked) = unasked
 
 made_or_not : (who : List ℕ → Option Actor) (head : HeadData) (method : Method) (made : Result Matter Unasked)
-    → ((unasked : Unasked) → made ≡ Err unasked → (unasked ≡ Page) ⊎ (unasked ≡ Refused BadText)) → ends who head method made ≢ Err (Fault Truncated)
+    → ((unasked : Unasked) → made ≡ Err unasked → is_fault unasked ≡ false) → ends who head method made ≢ Err (Fault Truncated)
 unfolding ◌>>=◌ cause_of
 made_or_not who head method (Ok what) why is = found_or_not (holder who (key_of head)) what method is
 made_or_not who head method (Err unasked) why is = refused unasked (why unasked refl) (ap cause_of is)

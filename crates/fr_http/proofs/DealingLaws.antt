@@ -17,8 +17,9 @@ use Rattle.fr_picture.specs.Plans.{IsPlan}
 use Rattle.fr_picture.specs.Reports.{Reads, Standing}
 use Rattle.fr_picture.specs.declared.plan.Plan.{Plan}
 use Rattle.fr_http.specs.Connection.{HasDealt, HasDrawn}
-use Rattle.fr_http.specs.Exchanges.{Answered, Drawn}
-use Rattle.fr_http.specs.Reply.{answer_reply, page_reply}
+use Rattle.fr_guide.specs.declared.advice.Subject.{Subject}
+use Rattle.fr_http.specs.Exchanges.{Advised, AdvisesOn, Answered, Drawn}
+use Rattle.fr_http.specs.Reply.{Reply, answer_reply, page_reply}
 use Rattle.fr_http.specs.declared.asking.Exchange.TheVariants as exchange
 use Rattle.fr_http.specs.declared.method.Method.{Method}
 use Rattle.fr_http.specs.declared.method.Method.TheVariants.{Get}
@@ -33,6 +34,16 @@ module _ (clean : Type 0) (old new : Standing) where
     is_asked = refl;
     deals = λ cl c b stood sound. let (last, stands, run) = answered cl c b stood sound in (last, run, stands);
     is_reply = refl;
+  }
+
+  -- advice was given, and the register stands as it stood
+  pub advice_dealt : (reader : Actor) (subject : Subject) (text : List ℕ) (reply : Reply) → AdvisesOn subject text reply → ((c : Cluster) (b : Book) → old c b → new c b)
+      → HasDealt clean old new (exchange.Advice reader subject text) reply
+  advice_dealt reader subject text reply advises stays = record {
+    dealing = Advised reader subject text;
+    is_asked = refl;
+    deals = λ cl c b stood sound. (b, refl, stays c b stood);
+    is_reply = advises;
   }
 
   module _ (reader : Actor) (variant : List ℕ) where

@@ -15,7 +15,7 @@ use Rattle.fr_base.specs.declared.refusal.Refusal.TheVariants.{BadText, UnknownK
 use Rattle.fr_base.specs.declared.request.Ask.{Ask}
 use Rattle.fr_base.proofs.SoundSteps.{step-sound}
 use Rattle.fr_base.proofs.AloneSteps.{step-alone, step-not_mine}
-use Rattle.fr_http.specs.Exchanges.{AreExchanged, Answered, Asks, Deals, Dealing, Drawn, Exchanged, IsReplied, IsUnasked, asked_in, is_own, own_exchanges}
+use Rattle.fr_http.specs.Exchanges.{Advised, AreExchanged, Answered, Asks, Deals, Dealing, Drawn, Exchanged, IsReplied, IsUnasked, asked_in, is_own, own_exchanges}
 use Rattle.fr_http.specs.Head.{HeadData, key_of, said}
 use Rattle.fr_http.specs.Outcome.{IsOutcome, asked_by, by_engine, front, holder, outcome_of, plan_of}
 use Rattle.fr_http.specs.Routes.{matter_by, method_of, path_of}
@@ -29,7 +29,7 @@ use Rattle.fr_http.specs.declared.fault.LinkFault.{LinkFault}
 use Rattle.fr_http.specs.declared.fault.LinkFault.TheVariants.{NoMemory, ReadFailed, TooManyReads, Truncated, WriteFailed}
 use Rattle.fr_http.specs.declared.method.Method.{Method}
 use Rattle.fr_http.specs.declared.serve.Served.{Served}
-use Rattle.fr_http.proofs.AloneActors.{actor-alone, is_heard, mine-heard, nobody-alone, not_lacked, picture-heard}
+use Rattle.fr_http.proofs.AloneActors.{actor-alone, advice-heard, is_heard, mine-heard, nobody-alone, not_lacked, picture-heard}
 use Rattle.fr_http.proofs.AlonePictures.{picture-alone}
 
 -- ---- what bytes ask, where the key of who asks has the same holder
@@ -44,6 +44,7 @@ bind_alike (Err e) f g v same is = absurd cc
 abbrev sender : Exchange → Actor
 sender (exchange.Request ask method) = ask.actor
 sender (exchange.Picture reader variant) = reader
+sender (exchange.Advice reader subject text) = reader
 
 actor_in : Actor → Result Exchange Unasked → Actor
 actor_in other (Ok exchange) = sender exchange
@@ -59,6 +60,7 @@ module _ (who alone : List ℕ → Option Actor) (exchange : Exchange) (heard : 
   is_found None what method is = absurd cc
   is_found (Some actor) (matter.Request request) method is = ap Some (ap (actor_in actor) is)
   is_found (Some actor) (matter.Picture variant) method is = ap Some (ap (actor_in actor) is)
+  is_found (Some actor) (matter.Advice subject text) method is = ap Some (ap (actor_in actor) is)
 
   held_alike : (key : Option (List ℕ)) (what : Matter) (method : Method) → asks_found (holder who key) what method ≡ Ok exchange → asks_found (holder alone key) what method ≡ Ok exchange
   held_alike None what method is = is
@@ -151,6 +153,7 @@ module _ (c : Cluster) (b last : Book) where
   deals-keep : IsSound c b → (dealing : Dealing) → Deals c b dealing last → IsSound c last
   deals-keep sound (Answered ask method answer) deals = step-keeps sound ask answer deals
   deals-keep sound (Drawn reader variant drawn) deals = subst (IsSound c) (sym deals.0) sound
+  deals-keep sound (Advised reader subject text) deals = subst (IsSound c) (sym deals) sound
 
   asks-sound : (x : Exchanged) (a : Option Dealing) → IsSound c b → Asks c b x a last → IsSound c last
   asks-sound x None sound so = subst (IsSound c) (sym so.0) sound
@@ -172,14 +175,17 @@ module _ (s : Name) (c : Cluster) (b last : Book) where
   own-heard : (dealing : Dealing) → is_own s (Some dealing) ≡ true → is_heard s (Some (sender (asked_in dealing))) ≡ true
   own-heard (Answered ask method answer) own = mine-heard s ask.actor ask.request answer own
   own-heard (Drawn reader variant drawn) own = picture-heard s reader drawn own
+  own-heard (Advised reader subject text) own = advice-heard s reader own
 
   deals-own : IsSound c b → (dealing : Dealing) → is_own s (Some dealing) ≡ true → Deals c b dealing last → Deals c (rows_of s b) dealing (rows_of s last)
   deals-own sound (Answered ask method answer) own deals = step-own sound ask answer own deals
   deals-own sound (Drawn reader variant drawn) own deals = (ap (rows_of s) deals.0, picture-alone c b s sound reader variant drawn own deals.1)
+  deals-own sound (Advised reader subject text) own deals = ap (rows_of s) deals
 
   deals-other : (dealing : Dealing) → is_own s (Some dealing) ≡ false → Deals c b dealing last → rows_of s last ≡ rows_of s b
   deals-other (Answered ask method answer) other deals = step-other ask answer other deals
   deals-other (Drawn reader variant drawn) other deals = ap (rows_of s) deals.0
+  deals-other (Advised reader subject text) other deals = ap (rows_of s) deals
 
   -- what asks nothing has the same reply in that register, since a key that is nobody's is nobody's there
   replied-alone : (x : Exchanged) → IsReplied c b x → IsReplied c (rows_of s b) x

@@ -18,18 +18,8 @@ use Rattle.fr_base.specs.declared.config.Supplier.{Supplier}
 use Rattle.fr_base.specs.declared.actor.Actor.{Actor}
 use Rattle.fr_http.specs.Head.{only_one}
 use Rattle.fr_http.specs.Outcome.{holder}
+use Rattle.fr_guide.proofs.RequestFileLaws.{key_is_text}
 use Rattle.fr_base.proofs.ActorsLemmas.{has_key, listed_now}
-
-key_byte_is_ascii : (c : ℕ) → is_key_byte c ≡ true → c < 128
-key_byte_is_ascii c h = grind (arith, nat_tests)
-
-key_bytes_are_ascii : (text : List ℕ) → list_all is_key_byte text ≡ true → IsAscii text
-key_bytes_are_ascii [] h = IsAscii-nil
-key_bytes_are_ascii (c ∷ text) h = IsAscii-cons c text (key_byte_is_ascii c (and_parts _ _ h).0) (key_bytes_are_ascii text (and_parts _ _ h).1)
-
-pub key_is_text : (text : List ℕ) → is_key text ≡ true → IsUtf8 text
-unfolding is_key
-key_is_text text h = IsUtf8-from_ascii text (key_bytes_are_ascii text (and_parts _ _ h).1)
 
 -- what is no text is not this key
 other_than : (k text : List ℕ) → is_key k ≡ true → (IsUtf8 text → ⊥) → same_text k text ≡ false

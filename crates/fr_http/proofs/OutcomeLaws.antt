@@ -1,6 +1,6 @@
 -- Bytes that begin with a head have one outcome; so two exchanges with them, from one book, have one reply.
-use Rattle.std.proofs.Common.{◌≡◌, inl, inr, ℕ, Bool, true, false, true≢false, List, [], ◌∷◌, ◌++◌, Option, Some, None, Result, Ok, Err, MatchResult, sym, ap, ◌∙◌, subst}
-use Rattle.std.specs.Prelude.{unwrap_or}
+use Rattle.std.proofs.Common.{◌≡◌, inl, inr, ℕ, Bool, true, false, true≢false, List, [], ◌∷◌, ◌++◌, Option, Some, None, Result, Ok, Err, MatchResult, refl, sym, ap, ◌∙◌, subst}
+use Rattle.std.proofs.lemmas.Bool.{cases_Bool}
 use Rattle.httparse.specs.Grammar.{RequestHead}
 use Rattle.httparse.proofs.GrammarLemmas.{request_unique}
 use Rattle.fr_base.specs.Actors.{actor_of}
@@ -11,14 +11,29 @@ use Rattle.fr_base.specs.declared.actor.Actor.{Actor}
 use Rattle.fr_base.specs.declared.answer.Answer.{Answer}
 use Rattle.fr_base.specs.declared.request.Ask.{Ask}
 use Rattle.fr_base.proofs.RunLaws.{runs-one}
-use Rattle.fr_http.specs.Exchanges.{Answered, Asks, Dealing, Drawn, Exchanged, IsBrokenOff, IsExchange, IsReplied, IsTold, IsUnasked, asked_in, unasked_reply}
-use Rattle.fr_http.specs.Head.{BeginsWith, said}
-use Rattle.fr_http.specs.Outcome.{IsOutcome, interim, outcome_of}
-use Rattle.fr_http.specs.OutcomeLaws.{is_drawn, was_lacking}
+use Rattle.fr_http.specs.Exchanges.{Advised, Answered, Asks, Dealing, Drawn, Exchanged, IsBrokenOff, IsExchange, IsReplied, IsReplyWithout, IsTold, IsUnasked, asked_in}
+use Rattle.fr_base.specs.Refusing.{◌>>=◌, ◌or◌}
+use Rattle.fr_base.specs.declared.refusal.Refusal.TheVariants.{UnknownKey}
+use Rattle.fr_base.specs.QueryNames.{query_by}
+use Rattle.fr_base.specs.declared.request.Request.{Request}
+use Rattle.fr_base.specs.declared.request.Request.TheVariants as request
+use Rattle.fr_text.specs.RequestText.{request_of}
+use Rattle.std.specs.Option.{option_map}
+use Rattle.fr_http.specs.Head.{BeginsWith, HeadData, key_of, said}
+use Rattle.fr_http.specs.Outcome.{IsOutcome, Wanted, asked_by, by_engine, front, holder, interim, outcome_of, plan_of}
+use Rattle.fr_http.specs.OutcomeLaws.{asks_explanation, is_explanation, is_worded, plans_explanation, was_lacking}
+use Rattle.fr_http.specs.Routes.{asked_or_refused, matter_by, method_of, number_in, part, path_of}
 use Rattle.fr_http.specs.Reply.{Reply, answer_reply, print}
 use Rattle.fr_http.specs.declared.asking.Exchange.{Exchange}
 use Rattle.fr_http.specs.declared.asking.Exchange.TheVariants as asked
+use Rattle.fr_http.specs.declared.asking.Matter.{Matter}
+use Rattle.fr_http.specs.declared.asking.Matter.TheVariants as matter
+use Rattle.fr_http.specs.declared.fault.LinkFault.TheVariants.{Truncated}
+use Rattle.fr_http.specs.declared.fault.Rejection.{Rejection}
 use Rattle.fr_http.specs.declared.fault.Unasked.{Unasked}
+use Rattle.fr_http.specs.declared.fault.Unasked.TheVariants.{Engine, Explained, Fault, Page, Refused}
+use Rattle.fr_http.specs.declared.routes.Route.{Route}
+use Rattle.fr_http.specs.declared.routes.Route.TheVariants.{Advice, Commands, Explanation, Explanations, Import, Replace, Try, Query, Picture, Page as OwnPage}
 use Rattle.fr_http.specs.declared.method.Method.{Method}
 use Rattle.fr_http.specs.declared.serve.Served.{Served}
 
@@ -43,9 +58,9 @@ was_asked : Result Exchange Unasked → Bool
 was_asked (Ok asked) = true
 was_asked (Err unasked) = false
 
-is_picture : Result Exchange Unasked → Bool
-is_picture (Ok (asked.Picture reader variant)) = true
-is_picture _ = false
+is_request : Result Exchange Unasked → Bool
+is_request (Ok (asked.Request ask method)) = true
+is_request _ = false
 
 ask_in : Ask → Result Exchange Unasked → Ask
 ask_in other (Ok (asked.Request ask method)) = ask
@@ -58,6 +73,77 @@ method_in other _ = other
 first_of : Answer → List Answer → Answer
 first_of other [] = other
 first_of other (answer ∷ answers) = answer
+
+-- ---- what is explained is asked for by its route
+
+-- whether it is that something is to be explained
+abbrev is_told : Unasked → Bool
+is_told (Explained word) = true
+is_told _ = false
+
+abbrev tells : {A : Type 0} → Result A Unasked → Bool
+tells (Ok x) = false
+tells (Err unasked) = is_told unasked
+
+module _ (who : List ℕ → Option Actor) where
+  -- the last lines of an outcome
+  abbrev found_by : Option Actor → Method → Matter → Result Exchange Unasked
+  found_by found method what = (found or Refused UnknownKey) >>= λ actor. Ok (asked_by actor method what)
+
+  found-plain : (found : Option Actor) (method : Method) (what : Matter) → tells (found_by found method what) ≡ false
+  unfolding ◌>>=◌ ◌or◌
+  found-plain None method what = refl
+  found-plain (Some actor) method what = refl
+
+  text-plain : (asked : Option Request) (found : Option Actor) (method : Method) → tells (asked_or_refused asked >>= found_by found method) ≡ false
+  unfolding ◌>>=◌
+  text-plain (Some request) found method = found-plain found method (matter.Request request)
+  text-plain None found method = refl
+
+  by_route : (route : Route) (path body : List ℕ) (found : Option Actor) (method : Method) → is_explanation route ≡ false → tells (matter_by route path body >>= found_by found method) ≡ false
+  unfolding matter_by ◌>>=◌
+  by_route OwnPage path body found method plain = refl
+  by_route Explanations path body found method plain = absurd (true≢false plain)
+  by_route Explanation path body found method plain = absurd (true≢false plain)
+  by_route (Advice subject) path body found method plain = found-plain found method (matter.Advice subject body)
+  by_route Commands path body found method plain = text-plain (request_of body) found method
+  by_route Import path body found method plain = found-plain found method (matter.Request (request.Import (part 3 path) (part 5 path) body))
+  by_route Replace path body found method plain = found-plain found method (matter.Request (request.Replace (part 3 path) body))
+  by_route (Try replaces) path body found method plain = found-plain found method (matter.Request (request.Try (part 3 path) replaces body))
+  by_route (Query asked) path body found method plain =
+      text-plain (option_map request.Query (query_by (λ slashes. part slashes path) (λ slashes. number_in slashes path) asked)) found method
+  by_route Picture path body found method plain = found-plain found method (matter.Picture (part 3 path))
+
+  by_body : (body : Option (List ℕ)) (route : Route) (path : List ℕ) (found : Option Actor) (method : Method) → is_explanation route ≡ false
+      → tells ((body or Fault Truncated) >>= λ body. matter_by route path body >>= found_by found method) ≡ false
+  unfolding ◌>>=◌ ◌or◌
+  by_body None route path found method plain = refl
+  by_body (Some body) route path found method plain = by_route route path body found method plain
+
+  by_plan : (head : HeadData) (rest : List ℕ) (plan : Result Wanted Rejection) → plans_explanation plan ≡ false
+      → tells (by_engine plan >>= λ plan. (front plan.length rest or Fault Truncated) >>= λ body. matter_by plan.route (path_of head.target) body >>= found_by (holder who (key_of head)) (method_of plan.route)) ≡ false
+  unfolding ◌>>=◌
+  by_plan head rest (Ok wanted) plain = by_body (front wanted.length rest) wanted.route (path_of head.target) (holder who (key_of head)) (method_of wanted.route) plain
+  by_plan head rest (Err rejection) plain = refl
+
+  outcome-plain : (head : HeadData) (rest : List ℕ) → asks_explanation head ≡ false → tells (outcome_of who head rest) ≡ false
+  unfolding outcome_of
+  outcome-plain head rest plain = by_plan head rest (plan_of head) plain
+
+  cause-plain : (bytes before : List ℕ) (unasked : Unasked) (head : RequestHead) (rest : List ℕ) → BeginsWith bytes head rest → IsOutcome who bytes before (Err unasked)
+      → asks_explanation (said head) ≡ false → is_told unasked ≡ false
+  cause-plain bytes before unasked head rest begins (inl a) plain =
+      let same = request_unique bytes a.head head a.rest rest a.begins.reads begins.reads in
+      ap tells (a.asks ∙ ap (λ (z : RequestHead × List ℕ). outcome_of who (said z.0) z.1) (λ i. (same.0 i, same.1 i))) ∙ outcome-plain (said head) rest plain
+  cause-plain bytes before unasked head rest begins (inr a) plain = absurd (a.none head rest begins)
+
+-- the reply where nothing is asked is one, but for what is explained
+same_without : (unasked : Unasked) (one other : Reply) → is_told unasked ≡ false → IsReplyWithout unasked one → IsReplyWithout unasked other → one ≡ other
+same_without (Engine rejection) one other plain is too = is ∙ sym too
+same_without Page one other plain is too = is ∙ sym too
+same_without (Explained word) one other plain is too = absurd (true≢false plain)
+same_without (Refused refusal) one other plain is too = is ∙ sym too
+same_without (Fault fault) one other plain is too = absurd is
 
 -- ---- a reply that was told
 
@@ -78,7 +164,7 @@ told_alike x y before early reply answer served other x_done y_done x_told y_tol
     )
 
 module _ (c : Cluster) (b last end : Book) (x y : Exchanged) (head : RequestHead) (rest : List ℕ) (served other : Served)
-    (same : x.read ≡ y.read) (begins : BeginsWith x.read head rest) (x_done : x.done ≡ Ok served) (y_done : y.done ≡ Ok other) where
+    (same : x.read ≡ y.read) (begins : BeginsWith x.read head rest) (x_done : x.done ≡ Ok served) (y_done : y.done ≡ Ok other) (plain : asks_explanation (said head) ≡ false) where
   -- the outcomes of both
   alike : (before early : List ℕ) (outcome another : Result Exchange Unasked) →
       IsOutcome (actor_of c b) x.read before outcome → IsOutcome (actor_of c b) y.read early another → (outcome ≡ another) × (before ≡ early)
@@ -93,15 +179,17 @@ module _ (c : Cluster) (b last end : Book) (x y : Exchanged) (head : RequestHead
   replied_too unasked = subst (IsUnasked c b y) y_done unasked
 
   asks-one : (mine theirs : Option Dealing) → Asks c b x mine last → Asks c b y theirs end →
-      is_drawn mine ≡ false → was_lacking mine ≡ was_lacking theirs →
+      is_worded mine ≡ false → was_lacking mine ≡ was_lacking theirs →
       (x.written ≡ y.written) × (served.status ≡ other.status) × (last ≡ end)
-  unfolding unasked_in was_asked is_picture ask_in method_in first_of
+  unfolding unasked_in was_asked is_request ask_in method_in first_of
   asks-one None None one two drawn lacking =
       let a = replied one.1 in
       let d = replied_too two.1 in
       let is = alike a.before d.before (Err a.unasked) (Err d.unasked) a.outcome d.outcome in
       let cause : a.unasked ≡ d.unasked = ap (unasked_in a.unasked) is.0 in
-      let reply : a.reply ≡ d.reply = ap (λ o. unwrap_or o a.reply) (sym a.is_reply ∙ ap unasked_reply cause ∙ d.is_reply) in
+      let reply : a.reply ≡ d.reply =
+      same_without a.unasked a.reply d.reply (cause-plain (actor_of c b) x.read a.before a.unasked head rest begins a.outcome plain) a.is_reply
+      (subst (λ u. IsReplyWithout u d.reply) (sym cause) d.is_reply) in
       let told = told_alike x y a.before d.before a.reply d.reply served other x_done y_done a.told d.told is.1 reply in
       (told.0, told.1, one.0 ∙ sym two.0)
   asks-one None (Some theirs) one two drawn lacking =
@@ -111,8 +199,11 @@ module _ (c : Cluster) (b last end : Book) (x y : Exchanged) (head : RequestHead
       let d = replied_too two.1 in
       absurd (true≢false (ap was_asked (alike one.before d.before (Ok (asked_in mine)) (Err d.unasked) one.outcome d.outcome).0))
   asks-one (Some (Drawn reader variant plan)) (Some theirs) one two drawn lacking = absurd (true≢false drawn)
+  asks-one (Some (Advised reader subject text)) (Some theirs) one two drawn lacking = absurd (true≢false drawn)
   asks-one (Some (Answered ask method answer)) (Some (Drawn reader variant plan)) one two drawn lacking =
-      absurd (true≢false (sym (ap is_picture (alike one.before two.before (Ok (asked.Request ask method)) (Ok (asked.Picture reader variant)) one.outcome two.outcome).0)))
+      absurd (true≢false (ap is_request (alike one.before two.before (Ok (asked.Request ask method)) (Ok (asked.Picture reader variant)) one.outcome two.outcome).0))
+  asks-one (Some (Answered ask method answer)) (Some (Advised reader subject text)) one two drawn lacking =
+      absurd (true≢false (ap is_request (alike one.before two.before (Ok (asked.Request ask method)) (Ok (asked.Advice reader subject text)) one.outcome two.outcome).0))
   asks-one (Some (Answered ask method answer)) (Some (Answered ask' method' answer')) one two drawn lacking =
       let is = alike one.before two.before (Ok (asked.Request ask method)) (Ok (asked.Request ask' method')) one.outcome two.outcome in
       let asks : ask ≡ ask' = ap (ask_in ask) is.0 in
@@ -126,7 +217,7 @@ module _ (c : Cluster) (b last end : Book) (x y : Exchanged) (head : RequestHead
 
 pub exchange-one : (c : Cluster) (b last end : Book) (x y : Exchanged) (head : RequestHead) (rest : List ℕ) (told other : Served) →
     IsExchange c b x last → IsExchange c b y end → x.read ≡ y.read → BeginsWith x.read head rest →
-    x.done ≡ Ok told → y.done ≡ Ok other → is_drawn x.asked ≡ false → was_lacking x.asked ≡ was_lacking y.asked →
+    x.done ≡ Ok told → y.done ≡ Ok other → is_worded x.asked ≡ false → asks_explanation (said head) ≡ false → was_lacking x.asked ≡ was_lacking y.asked →
     (x.written ≡ y.written) × (told.status ≡ other.status) × (last ≡ end)
-exchange-one c b last end x y head rest told other one two same begins x_done y_done drawn lacking =
-    asks-one c b last end x y head rest told other same begins x_done y_done x.asked y.asked one.1 two.1 drawn lacking
+exchange-one c b last end x y head rest told other one two same begins x_done y_done worded plain lacking =
+    asks-one c b last end x y head rest told other same begins x_done y_done plain x.asked y.asked one.1 two.1 worded lacking

@@ -1,5 +1,5 @@
 -- Laws of a connection's outcome.
-use Rattle.std.proofs.Common.{◌≡◌, ℕ, Bool, true, false, List, [], ◌∷◌, ◌++◌, length, ◌≤◌, ◌-◌, ◌⊎◌, Option, Some, None, Result, Ok, Err, refl, sym, ap, ◌∙◌, subst, append_assoc, length-append, inl, inr, arith}
+use Rattle.std.proofs.Common.{◌≡◌, ℕ, Bool, true, false, true≢false, List, [], ◌∷◌, ◌++◌, length, ◌≤◌, ◌-◌, ◌⊎◌, Option, Some, None, Result, Ok, Err, refl, sym, ap, ◌∙◌, subst, append_assoc, length-append, inl, inr, arith}
 use Rattle.std.proofs.KnownBytes.{Appends-kept, Appends-nil, Appends-trans, Consumes-trans, Keeps-refl}
 use Rattle.std.specs.Io.KnownBytes.{Appends, Consumes, Keeps}
 use Rattle.httparse.specs.Grammar.{RequestHead}
@@ -19,9 +19,9 @@ use Rattle.fr_http.specs.Replying.{IsReply}
 use Rattle.fr_http.specs.declared.reply.ReplyText.{ReplyText}
 use Rattle.fr_http.specs.declared.serve.Served.{Served}
 use Rattle.fr_http.specs.Connection.{AppendsFront, HasAnswered, HasDealt, HasReplied, HasTaken, IsConnection, InSound, ReadsNoMore, Sends, Takes}
-use Rattle.fr_http.specs.Exchanges.{Deals, Dealing, IsAnswered, IsBrokenOff, IsExchange, IsFront, IsInterim, IsTold, IsUnasked, unasked_reply}
+use Rattle.fr_http.specs.Exchanges.{Deals, Dealing, IsAnswered, IsBrokenOff, IsExchange, IsFront, IsInterim, IsTold, IsExplanation, IsReplyWithout, IsUnasked, is_asked}
 use Rattle.fr_http.specs.Head.{BeginsWith, HeadData, key_of, max_head, said}
-use Rattle.fr_http.specs.Outcome.{IsOutcome, Wanted, asked_before, asked_by, continue_if, continue_reply, due, front, holder, interim, outcome_of, plan_of}
+use Rattle.fr_http.specs.Outcome.{IsOutcome, Wanted, asked_before, asked_by, continue_if, continue_reply, due, front, holder, interim, is_ask, outcome_of, plan_of}
 use Rattle.fr_http.specs.Reading.{HasReceived, LacksBody}
 use Rattle.fr_http.specs.Routes.{asked_or_refused, matter_by, method_of, path_of}
 use Rattle.fr_http.specs.declared.asking.Exchange.{Exchange}
@@ -30,9 +30,9 @@ use Rattle.fr_http.specs.declared.fault.LinkFault.{LinkFault}
 use Rattle.fr_http.specs.declared.fault.LinkFault.TheVariants.{Truncated, ReadFailed, TooManyReads, WriteFailed, NoMemory}
 use Rattle.fr_http.specs.declared.fault.Rejection.{Rejection}
 use Rattle.fr_http.specs.declared.fault.Unasked.{Unasked}
-use Rattle.fr_http.specs.declared.fault.Unasked.TheVariants.{Engine, Page, Refused, Fault}
+use Rattle.fr_http.specs.declared.fault.Unasked.TheVariants.{Engine, Explained, Page, Refused, Fault}
 use Rattle.fr_http.specs.declared.routes.Route.{Route}
-use Rattle.fr_http.specs.declared.routes.Route.TheVariants.{Commands, Import, Replace, Try, Query, Picture, Page as OwnPage}
+use Rattle.fr_http.specs.declared.routes.Route.TheVariants.{Advice, Commands, Explanation, Explanations, Import, Replace, Try, Query, Picture, Page as OwnPage}
 
 -- ---- outcomes, step by step
 
@@ -50,20 +50,35 @@ no_text : (who : List ℕ → Option Actor) (head : HeadData) (rest body : List 
 unfolding outcome_of ◌>>=◌ ◌>>◌ ◌or◌
 no_text who head rest body w unasked h there none = rw h (rw there (rw none refl))
 
--- a route asks nothing because it is that of the planner's page, or because a text is no request
-refused_or_page : (asked : Option Request) (unasked : Unasked) → asked_or_refused asked ≡ Err unasked → (unasked ≡ Page) ⊎ (unasked ≡ Refused BadText)
-refused_or_page (Some request) unasked is = grind (arith, is)
-refused_or_page None unasked is = grind (arith, is)
+-- whether it is a fault
+abbrev pub is_fault : Unasked → Bool
+is_fault (Fault fault) = true
+is_fault _ = false
 
-pub why_not : (route : Route) (path body : List ℕ) (unasked : Unasked) → matter_by route path body ≡ Err unasked → (unasked ≡ Page) ⊎ (unasked ≡ Refused BadText)
+abbrev has_fault : Result Matter Unasked → Bool
+has_fault (Ok what) = false
+has_fault (Err unasked) = is_fault unasked
+
+text_no_fault : (asked : Option Request) → has_fault (asked_or_refused asked) ≡ false
+text_no_fault (Some request) = refl
+text_no_fault None = refl
+
+matter_no_fault : (route : Route) (path body : List ℕ) → has_fault (matter_by route path body) ≡ false
 unfolding matter_by
-why_not OwnPage path body unasked is = grind (arith, is)
-why_not Commands path body unasked is = refused_or_page _ unasked is
-why_not Import path body unasked is = grind (arith, is)
-why_not Replace path body unasked is = grind (arith, is)
-why_not (Try replaces) path body unasked is = grind (arith, is)
-why_not (Query asked) path body unasked is = refused_or_page _ unasked is
-why_not Picture path body unasked is = grind (arith, is)
+matter_no_fault OwnPage path body = refl
+matter_no_fault Explanations path body = refl
+matter_no_fault Explanation path body = refl
+matter_no_fault (Advice subject) path body = refl
+matter_no_fault Commands path body = text_no_fault _
+matter_no_fault Import path body = refl
+matter_no_fault Replace path body = refl
+matter_no_fault (Try replaces) path body = refl
+matter_no_fault (Query asked) path body = text_no_fault _
+matter_no_fault Picture path body = refl
+
+-- a route asks nothing for no fault
+pub why_not : (route : Route) (path body : List ℕ) (unasked : Unasked) → matter_by route path body ≡ Err unasked → is_fault unasked ≡ false
+why_not route path body unasked is = sym (ap has_fault is) ∙ matter_no_fault route path body
 
 nobody : (who : List ℕ → Option Actor) (head : HeadData) (rest body : List ℕ) (w : Wanted) (what : Matter) → plan_of head ≡ Ok w → front w.length rest ≡ Some body
     → matter_by w.route (path_of head.target) body ≡ Ok what → holder who (key_of head) ≡ None → outcome_of who head rest ≡ Err (Refused UnknownKey)
@@ -110,6 +125,7 @@ received_nothing stands input left held (Engine r) (bytes, consumed, fails, size
   bound = inl size;
 }
 received_nothing stands input left held Page (bytes, consumed, fails, size) = absurd fails
+received_nothing stands input left held (Explained word) (bytes, consumed, fails, size) = absurd fails
 received_nothing stands input left held (Refused refusal) (bytes, consumed, fails, size) = absurd fails
 received_nothing stands input left held (Fault Truncated) (bytes, consumed, fails, size) = record {
   bytes = bytes;
@@ -188,6 +204,15 @@ not_invited stands input left held now received w fault (bytes, consumed, (h, be
   bound = inl size;
 }
 
+-- what is no fault was taken so
+takes_so : (stands : Standing) (bytes written : List ℕ) (left : Option (List ℕ)) (unasked : Unasked) → is_fault unasked ≡ false → IsInterim bytes written
+    → InSound stands (λ c b. IsOutcome (actor_of c b) bytes written (Err unasked)) → Takes stands bytes written left (Err unasked)
+takes_so stands bytes written left (Engine rejection) none only so = (only, so)
+takes_so stands bytes written left Page none only so = (only, so)
+takes_so stands bytes written left (Explained word) none only so = (only, so)
+takes_so stands bytes written left (Refused refusal) none only so = (only, so)
+takes_so stands bytes written left (Fault fault) none only so = absurd (true≢false none)
+
 -- ---- behind the head
 
 -- behind the bytes that came with a head no more was read than the body still wants
@@ -252,25 +277,14 @@ module _ (stands : Standing) (input mid left held now : Option (List ℕ)) (rece
   no_body invited behind (WriteFailed asked) lacks = absurd lacks
   no_body invited behind (NoMemory asked) lacks = by_head invited behind _ (lacks, is_interim invited)
 
-  -- a request's text is none, or the planner's page is asked for, or memory was wanting
+  -- a request's text is none, or what is asked for is the engine's own, or memory was wanting
   pub no_matter : (invited : Invited input mid held now received w) → Behind mid left received w more → (body : List ℕ) → front w.length (received.1 ++ more) ≡ Some body
       → (unasked : Unasked) → MakesMatter w.route (path_of received.0.target) body (Err unasked) → HasTaken stands input left held now (Err unasked)
   no_matter invited behind body there unasked (inl lacks) =
       subst (λ u. HasTaken stands input left held now (Err u)) (sym lacks) (by_head invited behind _ (refl, is_interim invited))
-  no_matter invited behind body there unasked (inr none) = because (why_not w.route (path_of received.0.target) body unasked none)
-    where
-      outcome : (c : Cluster) (b : Book) → stands c b → IsSound c b → IsOutcome (actor_of c b) (invited.has.0 ++ more) (continue_if (due w.length received.0)) (Err unasked)
-      outcome c b s i = outcome_with invited (actor_of c b) (Err unasked) (no_text (actor_of c b) received.0 (received.1 ++ more) body w unasked invited.plan there none)
-
-      because : (unasked ≡ Page) ⊎ (unasked ≡ Refused BadText) → HasTaken stands input left held now (Err unasked)
-      because (inl is) = subst (λ u. HasTaken stands input left held now (Err u)) (sym is) (by_head invited behind (Err Page) (
-        is_interim invited,
-        λ c b s i. subst (λ u. IsOutcome (actor_of c b) (invited.has.0 ++ more) (continue_if (due w.length received.0)) (Err u)) is (outcome c b s i),
-      ))
-      because (inr is) = subst (λ u. HasTaken stands input left held now (Err u)) (sym is) (by_head invited behind (Err (Refused BadText)) (
-        is_interim invited,
-        λ c b s i. subst (λ u. IsOutcome (actor_of c b) (invited.has.0 ++ more) (continue_if (due w.length received.0)) (Err u)) is (outcome c b s i),
-      ))
+  no_matter invited behind body there unasked (inr none) =
+      by_head invited behind (Err unasked) (takes_so stands _ _ left unasked (why_not w.route (path_of received.0.target) body unasked none) (is_interim invited)
+      (λ c b s i. outcome_with invited (actor_of c b) (Err unasked) (no_text (actor_of c b) received.0 (received.1 ++ more) body w unasked invited.plan there none)))
 
   -- the key is nobody's
   pub no_actor : (invited : Invited input mid held now received w) → Behind mid left received w more → (body : List ℕ) → front w.length (received.1 ++ more) ≡ Some body
@@ -335,26 +349,26 @@ module _ (clean : Type 0) (old new : Standing) (input left held mid now : Option
     appended = Appends-trans _ _ _ _ _ t.appended h.replied.0;
     exchanged = λ cl c b s i.
         let (last, deals, stands) = h.dealt.deals cl c b s i in
-        (Some h.dealt.dealing, last, (h.replied.2, answered exchange h.dealt t c b last s i deals (refl, h.replied.1)), stands);
+        (Some h.dealt.dealing, last, (h.replied.2 ∙ ap is_ask (sym h.dealt.is_asked), answered exchange h.dealt t c b last s i deals (refl, h.replied.1)), stands);
     truncated = λ e. grind (arith, e);
     silent = tt;
     bound = t.bound;
   }
   served_asked exchange (Err fault) t h = unanswered h.replied
     where
-      exchanged : (f : LinkFault) (written : List ℕ) → asked_before f ≡ true → IsBrokenOff f written t.written h.reply → clean → InSound old (λ c b. (a : Option Dealing) × (last : Book)
+      exchanged : (f : LinkFault) (written : List ℕ) → asked_before f ≡ is_ask exchange → IsBrokenOff f written t.written h.reply → clean → InSound old (λ c b. (a : Option Dealing) × (last : Book)
           × IsExchange c b (record { read = t.bytes; written = written; done = Err f; asked = a }) last × new c last)
       exchanged f written before broken cl c b s i =
           let (last, deals, stands) = h.dealt.deals cl c b s i in
-          (Some h.dealt.dealing, last, (before, answered exchange h.dealt t c b last s i deals broken), stands)
+          (Some h.dealt.dealing, last, (before ∙ ap is_ask (sym h.dealt.is_asked), answered exchange h.dealt t c b last s i deals broken), stands)
 
-      unanswered : HasReplied h.reply true mid now (Err fault) → IsConnection clean old new input left held now (Err fault)
+      unanswered : HasReplied h.reply (is_ask exchange) mid now (Err fault) → IsConnection clean old new input left held now (Err fault)
       unanswered (inl (is, keeps)) = subst (λ f. IsConnection clean old new input left held now (Err f)) (sym is) (record {
         bytes = t.bytes;
         written = t.written;
         consumed = t.consumed;
         appended = Appends-kept _ _ _ _ t.appended keeps;
-        exchanged = exchanged (NoMemory true) t.written refl refl;
+        exchanged = exchanged (NoMemory (is_ask exchange)) t.written refl refl;
         truncated = λ e. grind (arith, e);
         silent = λ _. t.takes.0;
         bound = t.bound;
@@ -364,7 +378,7 @@ module _ (clean : Type 0) (old new : Standing) (input left held mid now : Option
         written = t.written ++ w;
         consumed = t.consumed;
         appended = Appends-trans _ _ _ _ _ t.appended appended;
-        exchanged = exchanged (WriteFailed true) (t.written ++ w) refl (front_behind t.written _ w front);
+        exchanged = exchanged (WriteFailed (is_ask exchange)) (t.written ++ w) refl (front_behind t.written _ w front);
         truncated = λ e. grind (arith, e);
         silent = λ e. grind (arith, e);
         bound = t.bound;
@@ -380,7 +394,7 @@ module _ (clean : Type 0) (old : Standing) (input left held mid now : Option (Li
   -- a reply was to be written without asking
   pub served_unasked : (unasked : Unasked) (reply : Reply) (done : Result Served LinkFault) (t : HasTaken old input left held mid (Err unasked))
       → IsInterim t.bytes t.written → InSound old (λ c b. IsOutcome (actor_of c b) t.bytes t.written (Err unasked))
-      → unasked_reply unasked ≡ Some reply → HasReplied reply false mid now done → IsConnection clean old old input left held now done
+      → IsReplyWithout unasked reply → HasReplied reply false mid now done → IsConnection clean old old input left held now done
   served_unasked unasked reply (Ok served) t only outcome is_reply h = record {
     bytes = t.bytes;
     written = t.written ++ print reply;
@@ -411,6 +425,22 @@ module _ (clean : Type 0) (old : Standing) (input left held mid now : Option (Li
         inl (record { before = t.written; unasked = unasked; outcome = outcome c b s i; reply = reply; is_reply = is_reply; told = front_behind t.written _ w front }));
     truncated = λ e. grind (arith, e);
     silent = λ e. grind (arith, e);
+    bound = t.bound;
+  })
+
+  -- what is explained was to be written, or memory was wanting for it
+  pub served_explained : {E : Type 0} (word : Option (List ℕ)) (text : Result ReplyText E) (done : Result Served LinkFault) → HasTaken old input left held mid (Err (Explained word))
+      → IfOk text (λ (r : ReplyText). (reply : Reply) × IsExplanation word reply × IsReply reply r) → Sends text false mid now done → IsConnection clean old old input left held now done
+  served_explained {E} word (Ok text) done t (reply, says, is) sent =
+      served_unasked (Explained word) reply done t t.takes.0 t.takes.1 says (replied {E = E} (Ok text) reply false mid now done is sent)
+  served_explained {E} word (Err e) done t none (failed, same) = subst (λ d. IsConnection clean old old input left held now d) (sym failed) (record {
+    bytes = t.bytes;
+    written = t.written;
+    consumed = t.consumed;
+    appended = Appends-kept _ _ _ _ t.appended (subst (Keeps mid) (sym same) (Keeps-refl mid));
+    exchanged = not_asked t.bytes t.written (NoMemory false) refl (λ c b s i. t.takes.0);
+    truncated = λ e. grind (arith, e);
+    silent = λ _. t.takes.0;
     bound = t.bound;
   })
 

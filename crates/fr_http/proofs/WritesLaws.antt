@@ -1,5 +1,5 @@
 -- Writes and flushes that failed, and faults that are none of writing.
-use Rattle.std.proofs.Common.{◌≡◌, Bool, cond, ℕ, List, Option, Result, Ok, Err, inl, inr, refl, sym, subst, ◌⊎◌}
+use Rattle.std.proofs.Common.{◌≡◌, Bool, cond, false, true≢false, ℕ, List, Option, Result, Ok, Err, inl, inr, refl, sym, subst, ◌⊎◌}
 use Rattle.std.specs.Prelude.{◌↔◌, IsOk, OnErr, ⊤}
 use Rattle.std.specs.declared.io.Error.{Error}
 use Rattle.fr_text.specs.Writing.{Ends, IsWriting, Progress, Writes}
@@ -11,10 +11,9 @@ use Rattle.fr_http.specs.Writes.{Flushes, LastFailed, MayFail, MayFailAsking}
 use Rattle.fr_http.specs.declared.fault.LinkFault.{LinkFault}
 use Rattle.fr_http.specs.declared.fault.LinkFault.TheVariants.{Truncated, ReadFailed, TooManyReads, WriteFailed, NoMemory}
 use Rattle.fr_http.specs.declared.fault.Unasked.{Unasked}
-use Rattle.fr_http.specs.declared.fault.Unasked.TheVariants.{Engine, Fault, Page, Refused}
-use Rattle.fr_base.specs.declared.refusal.Refusal.TheVariants.{BadText}
+use Rattle.fr_http.specs.declared.fault.Unasked.TheVariants.{Engine, Explained, Fault, Page, Refused}
 use Rattle.fr_http.specs.Reads.{MayEndAsking, Reads}
-use Rattle.fr_http.proofs.ServeLaws.{why_not}
+use Rattle.fr_http.proofs.ServeLaws.{is_fault, why_not}
 use Rattle.fr_http.specs.declared.routes.Route.{Route}
 
 module _ {W : Type 0} (writes : Writes W) (flushes : Flushes W) where
@@ -41,6 +40,7 @@ module _ {W : Type 0} (writes : Writes W) (flushes : Flushes W) where
   pub unreceived : (input left : Option (List ℕ)) (unasked : Unasked) (last : W) → HasReceived input left (Err unasked) → MayFailAsking writes flushes unasked last
   unreceived input left (Engine rejection) last has = tt
   unreceived input left Page last has = tt
+  unreceived input left (Explained word) last has = tt
   unreceived input left (Refused refusal) last has = tt
   unreceived input left (Fault Truncated) last has = tt
   unreceived input left (Fault ReadFailed) last has = tt
@@ -56,21 +56,28 @@ module _ {W : Type 0} (writes : Writes W) (flushes : Flushes W) where
   unbodied n bytes left (WriteFailed asked) last lacks = absurd lacks
   unbodied n bytes left (NoMemory asked) last lacks = tt
 
+  -- what is no fault is none of writing
+  unfailed : (unasked : Unasked) (last : W) → is_fault unasked ≡ false → MayFailAsking writes flushes unasked last
+  unfailed (Engine rejection) last none = tt
+  unfailed Page last none = tt
+  unfailed (Explained word) last none = tt
+  unfailed (Refused refusal) last none = tt
+  unfailed (Fault fault) last none = absurd (true≢false none)
+
   -- where the text is no request
   pub unmade : (route : Route) (path body : List ℕ) (unasked : Unasked) (last : W) → MakesMatter route path body (Err unasked) → MayFailAsking writes flushes unasked last
   unmade route path body unasked last (inl lacks) = subst (λ u. MayFailAsking writes flushes u last) (sym lacks) tt
-  unmade route path body unasked last (inr none) = because (why_not route path body unasked none)
-    where
-      because : (unasked ≡ Page) ⊎ (unasked ≡ Refused BadText) → MayFailAsking writes flushes unasked last
-      because (inl is) = subst (λ u. MayFailAsking writes flushes u last) (sym is) tt
-      because (inr is) = subst (λ u. MayFailAsking writes flushes u last) (sym is) tt
+  unmade route path body unasked last (inr none) = unfailed unasked last (why_not route path body unasked none)
 
 -- a fault of reading is no cause that a route asks nothing
 pub unread : {R : Type 0} (reads : Reads R) (route : Route) (path body : List ℕ) (unasked : Unasked) (new : R) (left : ℕ) → MakesMatter route path body (Err unasked)
     → MayEndAsking reads unasked new left
 unread reads route path body unasked new left (inl lacks) = subst (λ u. MayEndAsking reads u new left) (sym lacks) tt
-unread reads route path body unasked new left (inr none) = because (why_not route path body unasked none)
+unread reads route path body unasked new left (inr none) = unended unasked (why_not route path body unasked none)
   where
-    because : (unasked ≡ Page) ⊎ (unasked ≡ Refused BadText) → MayEndAsking reads unasked new left
-    because (inl is) = subst (λ u. MayEndAsking reads u new left) (sym is) tt
-    because (inr is) = subst (λ u. MayEndAsking reads u new left) (sym is) tt
+    unended : (u : Unasked) → is_fault u ≡ false → MayEndAsking reads u new left
+    unended (Engine rejection) none = tt
+    unended Page none = tt
+    unended (Explained word) none = tt
+    unended (Refused refusal) none = tt
+    unended (Fault fault) none = absurd (true≢false none)

@@ -16,14 +16,14 @@ use Rattle.fr_picture.specs.Reports.{Standing}
 use Rattle.fr_picture.specs.declared.plan.Plan.{Plan as Picture}
 use Rattle.fr_http.specs.Exchanges.{Deals, Dealing, IsExchange, IsFront, IsInterim, IsInterimFront, IsReplyTo, MayDraw, asked_in}
 use Rattle.fr_http.specs.Head.{BeginsWith, HeadData, max_head, said}
-use Rattle.fr_http.specs.Outcome.{IsOutcome, Wanted, asked_before, continue_if, continue_reply, due, plan_of}
+use Rattle.fr_http.specs.Outcome.{IsOutcome, Wanted, asked_before, continue_if, continue_reply, due, is_ask, plan_of}
 use Rattle.fr_http.specs.Reply.{Reply, print}
 use Rattle.fr_http.specs.Replying.{IsReply}
 use Rattle.fr_http.specs.declared.asking.Exchange.{Exchange}
 use Rattle.fr_http.specs.declared.fault.LinkFault.{LinkFault}
 use Rattle.fr_http.specs.declared.fault.LinkFault.TheVariants.{Truncated, WriteFailed, NoMemory}
 use Rattle.fr_http.specs.declared.fault.Unasked.{Unasked}
-use Rattle.fr_http.specs.declared.fault.Unasked.TheVariants.{Engine, Page, Refused, Fault}
+use Rattle.fr_http.specs.declared.fault.Unasked.TheVariants.{Engine, Explained, Page, Refused, Fault}
 use Rattle.fr_http.specs.declared.plan.Plan.{Plan}
 use Rattle.fr_http.specs.declared.reply.ReplyText.{ReplyText}
 use Rattle.fr_http.specs.declared.serve.Served.{Served}
@@ -66,6 +66,8 @@ Takes stands bytes written left (Ok exchange) = IsInterim bytes written × InSou
 Takes stands bytes written left (Err (Engine rejection)) =
     IsInterim bytes written × InSound stands (λ c b. IsOutcome (actor_of c b) bytes written (Err (Engine rejection)))
 Takes stands bytes written left (Err Page) = IsInterim bytes written × InSound stands (λ c b. IsOutcome (actor_of c b) bytes written (Err Page))
+Takes stands bytes written left (Err (Explained word)) =
+    IsInterim bytes written × InSound stands (λ c b. IsOutcome (actor_of c b) bytes written (Err (Explained word)))
 Takes stands bytes written left (Err (Refused refusal)) =
     IsInterim bytes written × InSound stands (λ c b. IsOutcome (actor_of c b) bytes written (Err (Refused refusal)))
 Takes stands bytes written left (Err (Fault Truncated)) =
@@ -143,4 +145,4 @@ HasDrawn reader variant clean old new page =
 pub record HasAnswered (clean : Type 0) (old new : Standing) (exchange : Exchange) (held now : Option (List ℕ)) (done : Result Served LinkFault) : Type 0 where
   pub reply : Reply
   pub dealt : HasDealt clean old new exchange reply
-  pub replied : HasReplied reply true held now done
+  pub replied : HasReplied reply (is_ask exchange) held now done

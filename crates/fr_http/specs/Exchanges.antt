@@ -1,8 +1,9 @@
 -- Exchanged: what happened on a connection: the bytes that were read and written, and what the
--- register was asked, with what it gave: a request's answer, or a picture's plan. When that is an
+-- register was asked, with what it gave: a request's answer, or a picture's plan; or on which text
+-- advice was given, for which it was asked only whose a key is. When that is an
 -- exchange with a register from a book, and when several are, one after another. Which of them are
 -- one supplier's; those that ask nothing are among them.
-use Rattle.std.specs.Prelude.{◌≡◌, ◌⊎◌, ⊤, ℕ, Bool, true, false, not, ◌&&◌, List, [], ◌∷◌, ◌++◌, filter, Option, Some, None, is_some, Result, Ok, Err, MatchResult}
+use Rattle.std.specs.Prelude.{◌≡◌, ◌⊎◌, ⊤, ℕ, Bool, true, false, not, ◌&&◌, List, [], ◌∷◌, ◌++◌, filter, Option, Some, None, Result, Ok, Err, MatchResult}
 use Rattle.httparse.specs.Grammar.{RequestHead}
 use Rattle.fr_base.specs.Actors.{actor_of}
 use Rattle.fr_base.specs.Alone.{is_mine, lacked}
@@ -21,15 +22,21 @@ use Rattle.fr_picture.specs.Frames.{MayRefusePlan}
 use Rattle.fr_picture.specs.Pages.{IsPage}
 use Rattle.fr_picture.specs.Plans.{IsPlan}
 use Rattle.fr_picture.specs.declared.plan.Plan.{Plan}
+use Rattle.std.specs.Global.{Vec}
+use Rattle.fr_guide.specs.Advice.{IsAdvice}
+use Rattle.fr_guide.specs.Explaining.{Explains, ListsAll}
+use Rattle.fr_guide.specs.Numbers.{meant_word}
+use Rattle.fr_guide.specs.declared.advice.Subject.{Subject}
 use Rattle.fr_http.specs.Head.{BeginsWith, said}
-use Rattle.fr_http.specs.Outcome.{IsOutcome, asked_before, continue_reply, interim}
-use Rattle.fr_http.specs.Reply.{Reply, answer_reply, engine_reply, page_reply, planner_reply, print}
+use Rattle.fr_http.specs.Outcome.{IsOutcome, asked_before, continue_reply, interim, is_ask}
+use Rattle.fr_http.specs.Reply.{Reply, advice_reply, answer_reply, engine_reply, explanation_reply, page_reply, planner_reply, print}
 use Rattle.fr_http.specs.declared.asking.Exchange.{Exchange}
 use Rattle.fr_http.specs.declared.asking.Exchange.TheVariants as exchange
 use Rattle.fr_http.specs.declared.fault.LinkFault.{LinkFault}
 use Rattle.fr_http.specs.declared.fault.LinkFault.TheVariants.{WriteFailed}
+use Rattle.fr_http.specs.declared.fault.Rejection.TheVariants.{NotFound}
 use Rattle.fr_http.specs.declared.fault.Unasked.{Unasked}
-use Rattle.fr_http.specs.declared.fault.Unasked.TheVariants.{Engine, Page, Refused, Fault}
+use Rattle.fr_http.specs.declared.fault.Unasked.TheVariants.{Engine, Explained, Page, Refused, Fault}
 use Rattle.fr_http.specs.declared.method.Method.{Method}
 use Rattle.fr_http.specs.declared.method.Method.TheVariants.{Get, Post}
 use Rattle.fr_http.specs.declared.serve.Served.{Served}
@@ -37,15 +44,23 @@ use Rattle.fr_http.specs.declared.serve.Served.{Served}
 -- ---- one connection
 
 -- What the register was asked, and what it gave: a request with its method, and the answer; or the
--- picture of a variant, and the plan as the reader sees it, or why there is none.
+-- picture of a variant, and the plan as the reader sees it, or why there is none; or it was asked
+-- whose a key is, and gave advice on a text.
 pub data Dealing : Type 0 where
   Answered : Ask → Method → Answer → Dealing
   Drawn : Actor → List ℕ → Result Plan Refusal → Dealing
+  Advised : Actor → Subject → List ℕ → Dealing
 
 -- the exchange that the register dealt with
 abbrev pub asked_in : Dealing → Exchange
 asked_in (Answered ask method answer) = exchange.Request ask method
 asked_in (Drawn reader variant drawn) = exchange.Picture reader variant
+asked_in (Advised reader subject text) = exchange.Advice reader subject text
+
+-- whether the register was asked for more than whose a key is
+abbrev pub is_asked : Option Dealing → Bool
+is_asked None = false
+is_asked (Some dealing) = is_ask (asked_in dealing)
 
 -- What happened on a connection: the bytes that were read and those that were written; how it
 -- ended; and what the register was asked, with what it gave, if it was asked.
@@ -60,12 +75,28 @@ abbrev pub was_asked : Result Served LinkFault → Bool
 was_asked (Ok served) = served.asked
 was_asked (Err fault) = asked_before fault
 
--- the reply where nothing is asked of the register, if there is one
-abbrev pub unasked_reply : Unasked → Option Reply
-unasked_reply (Engine rejection) = Some (engine_reply rejection)
-unasked_reply Page = Some planner_reply
-unasked_reply (Refused refusal) = Some (answer_reply Post (answer.Refused refusal))
-unasked_reply (Fault fault) = None
+-- the reply with a text that was found, or that there is none
+abbrev pub found_reply : Option (Vec ℕ) → Reply
+found_reply (Some text) = explanation_reply text.items
+found_reply None = engine_reply NotFound
+
+-- The reply says what the word means, or the refusal of this number; or that there is nothing, where no word is explained; or, without a
+-- word, a line on each that is.
+abbrev pub IsExplanation : Option (List ℕ) → Reply → Type 0
+IsExplanation None reply = (text : List ℕ) × ListsAll text × (reply ≡ explanation_reply text)
+IsExplanation (Some word) reply = (found : Option (Vec ℕ)) × Explains (meant_word word) found × (reply ≡ found_reply found)
+
+-- The reply has advice on the text.
+abbrev pub AdvisesOn : Subject → List ℕ → Reply → Type 0
+AdvisesOn subject text reply = (lines : List ℕ) × IsAdvice subject text lines × (reply ≡ advice_reply lines)
+
+-- The reply is that where nothing is asked of the register, for this cause.
+abbrev pub IsReplyWithout : Unasked → Reply → Type 0
+IsReplyWithout (Explained word) reply = IsExplanation word reply
+IsReplyWithout (Engine rejection) reply = reply ≡ engine_reply rejection
+IsReplyWithout Page reply = reply ≡ planner_reply
+IsReplyWithout (Refused refusal) reply = reply ≡ answer_reply Post (answer.Refused refusal)
+IsReplyWithout (Fault fault) reply = ⊥
 
 -- The text begins so.
 abbrev pub IsFront : List ℕ → List ℕ → Type 0
@@ -90,17 +121,19 @@ abbrev pub MayDraw : Cluster → Book → Actor → List ℕ → Result Plan Ref
 MayDraw c b reader variant drawn = MatchResult drawn (IsPlan c b reader variant) (MayRefusePlan c b reader variant)
 
 -- From this book the register deals with the exchange, and the last book is the one after that. A
--- request is answered by one step. A picture leaves the book as it is.
+-- request is answered by one step. A picture, and advice, leave the book as it is.
 abbrev pub Deals : Cluster → Book → Dealing → Book → Type 0
 Deals c b (Answered ask method answer) last = IsRun c b (ask ∷ []) (answer ∷ []) last
 Deals c b (Drawn reader variant drawn) last = (last ≡ b) × MayDraw c b reader variant drawn
+Deals c b (Advised reader subject text) last = last ≡ b
 
 -- The reply is that of the answer, by the request's method; or it has the page of the plan; or it
--- is the refusal of a GET.
+-- is the refusal of a GET; or it has advice.
 abbrev pub IsReplyTo : Dealing → Reply → Type 0
 IsReplyTo (Answered ask method answer) reply = reply ≡ answer_reply method answer
 IsReplyTo (Drawn reader variant (Ok plan)) reply = (page : List ℕ) × IsPage plan page × (reply ≡ page_reply page)
 IsReplyTo (Drawn reader variant (Err refusal)) reply = reply ≡ answer_reply Get (answer.Refused refusal)
+IsReplyTo (Advised reader subject text) reply = AdvisesOn subject text reply
 
 -- From this book the bytes that were read demand this. The register dealt with it, and the last
 -- book is the one after that. This was the reply.
@@ -119,7 +152,7 @@ pub record IsReplied (c : Cluster) (b : Book) (x : Exchanged) : Type 0 where
   pub unasked : Unasked
   pub outcome : IsOutcome (actor_of c b) x.read before (Err unasked)
   pub reply : Reply
-  pub is_reply : unasked_reply unasked ≡ Some reply
+  pub is_reply : IsReplyWithout unasked reply
   pub told : IsTold x before reply
 
 -- Nothing but an interim reply that is due was written.
@@ -147,7 +180,7 @@ Asks c b x None last = (last ≡ b) × IsUnasked c b x x.done
 
 -- From this book a connection may be served so, and the last book is the one after that.
 abbrev pub IsExchange : Cluster → Book → Exchanged → Book → Type 0
-IsExchange c b x last = (was_asked x.done ≡ is_some x.asked) × Asks c b x x.asked last
+IsExchange c b x last = (was_asked x.done ≡ is_asked x.asked) × Asks c b x x.asked last
 
 -- ---- connections one after another
 
@@ -167,6 +200,11 @@ abbrev pub is_own_picture : Name → Actor → Result Plan Refusal → Bool
 is_own_picture s (Supplier t) drawn = same_text t s && not (lacks_plan drawn)
 is_own_picture s Integrator drawn = false
 
+-- whether advice that the reader asked for is the supplier's: its own
+abbrev pub is_own_advice : Name → Actor → Bool
+is_own_advice s (Supplier t) = same_text t s
+is_own_advice s Integrator = false
+
 -- Whether an exchange is among the supplier's, by what was asked and answered: its own, unless it
 -- was answered Unavailable; or the integrator's, if it was done and is common or names the
 -- supplier. An exchange that asks nothing is among them, whoever sent it. So is what the supplier
@@ -175,6 +213,7 @@ abbrev pub is_own : Name → Option Dealing → Bool
 is_own s None = true
 is_own s (Some (Answered ask method answer)) = is_mine s ask.actor ask.request answer
 is_own s (Some (Drawn reader variant drawn)) = is_own_picture s reader drawn
+is_own s (Some (Advised reader subject text)) = is_own_advice s reader
 
 -- the exchanges that are the supplier's, and those that ask nothing, in order
 abbrev pub own_exchanges : Name → List Exchanged → List Exchanged

@@ -1,6 +1,6 @@
 -- Outcome: what the bytes of a connection demand, or why they demand nothing, step by step. Whether
 -- `100 Continue` is due. What may be answered where there is no head.
-use Rattle.std.specs.Prelude.{ℕ, ◌≡◌, ◌⊎◌, ◌≤◌, ◌<◌, Bool, false, not, ◌&&◌, ◌==◌, nat_lt, nat_le, List, [], ◌∷◌, length, take, codes, Option, Some, None, Result, Ok, Err, if◌then◌else◌}
+use Rattle.std.specs.Prelude.{ℕ, ◌≡◌, ◌⊎◌, ◌≤◌, ◌<◌, Bool, true, false, not, ◌&&◌, ◌==◌, nat_lt, nat_le, List, [], ◌∷◌, length, take, codes, Option, Some, None, Result, Ok, Err, if◌then◌else◌}
 use Rattle.std.specs.Char.{is_ascii_digit}
 use Rattle.std.specs.List.{list_all, list_any}
 use Rattle.std.specs.Option.{option_map}
@@ -112,10 +112,17 @@ abbrev pub holder : (List ℕ → Option Actor) → Option (List ℕ) → Option
 holder who None = None
 holder who (Some key) = who key
 
--- the exchange of this actor by this method: a request's answer; or a picture, as the actor sees it
+-- the exchange of this actor by this method: a request's answer; a picture, as the actor sees it; or advice on a text
 abbrev pub asked_by : Actor → Method → Matter → Exchange
 asked_by actor method (matter.Request request) = exchange.Request (record { actor = actor; request = request }) method
 asked_by actor method (matter.Picture variant) = exchange.Picture actor variant
+asked_by actor method (matter.Advice subject text) = exchange.Advice actor subject text
+
+-- whether the register is asked for more than whose a key is
+abbrev pub is_ask : Exchange → Bool
+is_ask (exchange.Request ask method) = true
+is_ask (exchange.Picture reader variant) = true
+is_ask (exchange.Advice reader subject text) = false
 
 -- What is demanded, or why nothing is, by the head and by the bytes behind it. If a body is cut
 -- short, the input ended there.

@@ -9,7 +9,7 @@ use Rattle.fr_http.specs.Outcome.{HeadFails, asked_before, front}
 use Rattle.fr_http.specs.declared.fault.LinkFault.{LinkFault}
 use Rattle.fr_http.specs.declared.fault.LinkFault.TheVariants.{Truncated, WriteFailed}
 use Rattle.fr_http.specs.declared.fault.Unasked.{Unasked}
-use Rattle.fr_http.specs.declared.fault.Unasked.TheVariants.{Engine, Page, Refused, Fault}
+use Rattle.fr_http.specs.declared.fault.Unasked.TheVariants.{Engine, Explained, Page, Refused, Fault}
 
 -- One read gave so many bytes of the piece, which are gone from the input, and none only at the input's end; or it failed, and the
 -- input stays.
@@ -33,6 +33,7 @@ pub record Fails (bytes : List ℕ) (unasked : Unasked) : Type 0 where
 abbrev pub FailsToReceive : List ℕ → Option (List ℕ) → Unasked → Type 0
 FailsToReceive bytes left (Engine rejection) = Fails bytes (Engine rejection)
 FailsToReceive bytes left Page = ⊥
+FailsToReceive bytes left (Explained _) = ⊥
 FailsToReceive bytes left (Refused _) = ⊥
 FailsToReceive bytes left (Fault Truncated) = Fails bytes (Fault Truncated) × IsAtEnd left
 FailsToReceive bytes left (Fault (WriteFailed _)) = ⊥

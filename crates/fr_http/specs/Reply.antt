@@ -1,5 +1,5 @@
--- Reply: the bytes of a reply: one that the engine gives itself, the planner's page among them, one
--- with a picture's page, or one to an answer of the register.
+-- Reply: the bytes of a reply: one that the engine gives itself, the planner's page and what is
+-- explained among them, one with a picture's page or with advice, or one to an answer of the register.
 use Rattle.std.specs.Prelude.{ℕ, Bool, true, false, ◌==◌, List, [], ◌++◌, length, codes, decimal, unwrap_or, if◌then◌else◌}
 use Rattle.http.specs.StatusCode.{reason_phrase}
 use Rattle.fr_base.specs.Refusals.{status_of}
@@ -129,6 +129,14 @@ reply_with status type body = record { status = status; fields = body_fields sta
 unfoldable pub body_of : Bool → Answer → List ℕ
 body_of true answer = report_of answer
 body_of false answer = text_of answer
+
+-- the reply that explains
+unfoldable pub explanation_reply : List ℕ → Reply
+explanation_reply text = reply_with 200 (codes "text/plain; charset=us-ascii") text
+
+-- the reply that has advice
+unfoldable pub advice_reply : List ℕ → Reply
+advice_reply lines = reply_with 200 (codes "text/plain; charset=utf-8") lines
 
 -- the reply that has a page
 unfoldable pub page_reply : List ℕ → Reply

@@ -1,5 +1,5 @@
 -- Route: what a path asks for, by `matchit`, with its names and numbers.
-use Rattle.std.specs.Prelude.{ℕ, ◌==◌, true, false, List, [], ◌∷◌, codes, Option, Some, None, Result, Ok, Err, if◌then◌else◌, unwrap_or}
+use Rattle.std.specs.Prelude.{ℕ, ◌==◌, Bool, true, false, List, [], ◌∷◌, codes, Option, Some, None, Result, Ok, Err, if◌then◌else◌, unwrap_or}
 use Rattle.std.specs.List.{before_first, fold, list_all, slice_get, slice_split}
 use Rattle.std.specs.Option.{option_map}
 use Rattle.std.specs.Result.{result_ok}
@@ -24,16 +24,19 @@ use Rattle.fr_base.specs.declared.refusal.Refusal.TheVariants.{BadText}
 use Rattle.fr_base.specs.declared.request.Request.{Request}
 use Rattle.fr_base.specs.declared.request.Request.TheVariants as request
 use Rattle.fr_text.specs.RequestText.{request_of}
+use Rattle.fr_guide.specs.Numbers.{meant_word}
+use Rattle.fr_guide.specs.Topics.{is_explained}
+use Rattle.fr_guide.specs.declared.advice.Subject.TheVariants as subject
 use Rattle.fr_http.specs.declared.asking.Matter.{Matter}
 use Rattle.fr_http.specs.declared.asking.Matter.TheVariants as matter
 use Rattle.fr_http.specs.declared.fault.Unasked.{Unasked}
-use Rattle.fr_http.specs.declared.fault.Unasked.TheVariants.{Refused, Page as OwnPage}
+use Rattle.fr_http.specs.declared.fault.Unasked.TheVariants.{Explained, Refused, Page as OwnPage}
 use Rattle.fr_http.specs.declared.method.Allowed.{Allowed}
 use Rattle.fr_http.specs.declared.method.Allowed.TheVariants.{Only, PostAndPut}
 use Rattle.fr_http.specs.declared.method.Method.{Method}
 use Rattle.fr_http.specs.declared.method.Method.TheVariants.{Get, Post, Put}
 use Rattle.fr_http.specs.declared.routes.Route.{Route}
-use Rattle.fr_http.specs.declared.routes.Route.TheVariants.{Page, Commands, Import, Replace, Try, Query, Picture}
+use Rattle.fr_http.specs.declared.routes.Route.TheVariants.{Page, Explanations, Explanation, Advice, Commands, Import, Replace, Try, Query, Picture}
 
 -- a method as a request spells it
 abbrev pub text_of_method : Method → List ℕ
@@ -51,6 +54,9 @@ method_of (Try false) = Post
 method_of (Query asked) = Get
 method_of Picture = Get
 method_of Page = Get
+method_of Explanations = Get
+method_of Explanation = Get
+method_of (Advice on) = Post
 
 -- the methods that a route's path allows, as a reply lists them
 abbrev pub text_of_allowed : Allowed → List ℕ
@@ -90,6 +96,10 @@ export header = of_variant (Export header 6)
 unfoldable pub table : List (List ℕ × Route)
 table =
     (codes "/", Page)
+    ∷ (codes "/v1/explanations", Explanations)
+    ∷ (codes "/v1/explanations/{word}", Explanation)
+    ∷ (codes "/v1/checks/rows", Advice subject.Rows)
+    ∷ (codes "/v1/checks/requests", Advice subject.Requests)
     ∷ (codes "/v1/commands", Commands)
     ∷ (codes "/v1/cluster", of_register Cluster)
     ∷ (codes "/v1/variants", of_register Variants)
@@ -131,17 +141,27 @@ path_of target = before_first (λ b. b == 63) target
 abbrev pub ascii_text : List ℕ → Option (List ℕ)
 ascii_text text = if list_all is_ascii text then Some text else None
 
+-- the part of the path behind so many slashes, up to the next slash
+unfoldable pub part : ℕ → List ℕ → List ℕ
+part n path = unwrap_or (slice_get (slice_split (λ b. b == 47) path) n) []
+
+-- whether a path that matches the route leads to it: none leads to the explanation of a word that is not explained
+abbrev pub leads : List ℕ → Route → Bool
+leads path Explanation = is_explained (meant_word (part 3 path))
+leads path _ = true
+
+-- the route, if the path leads to it
+abbrev pub led : List ℕ → Option Route → Option Route
+led path None = None
+led path (Some route) = if leads path route then Some route else None
+
 -- the route that the path matches
 abbrev pub matched : List ℕ → Option Route
-matched path = option_map (λ r. r.value) (first router path)
+matched path = led path (option_map (λ r. r.value) (first router path))
 
 -- the route of a path; a path that is not ASCII has none
 unfoldable pub route_of : List ℕ → Option Route
 route_of path = if list_all is_ascii path then matched path else None
-
--- the part of the path behind so many slashes, up to the next slash
-unfoldable pub part : ℕ → List ℕ → List ℕ
-part n path = unwrap_or (slice_get (slice_split (λ b. b == 47) path) n) []
 
 -- the number that is the part of the path behind so many slashes, if it has the form of a number in
 -- an import's file
@@ -153,11 +173,14 @@ abbrev pub asked_or_refused : Option Request → Result Matter Unasked
 asked_or_refused (Some asked) = Ok (matter.Request asked)
 asked_or_refused None = Err (Refused BadText)
 
--- What a route asks for, or why it asks nothing: the planner's page is the engine's own. Its names
+-- What a route asks for, or why it asks nothing: the planner's page and what is explained are the engine's own. Its names
 -- and numbers are parts of the path, and the body is a command's text or a file. Where a part is not
 -- a number, the route asks for nothing.
 unfoldable pub matter_by : Route → List ℕ → List ℕ → Result Matter Unasked
 matter_by Page path body = Err OwnPage
+matter_by Explanations path body = Err (Explained None)
+matter_by Explanation path body = Err (Explained (Some (part 3 path)))
+matter_by (Advice on) path body = Ok (matter.Advice on body)
 matter_by Commands path body = asked_or_refused (request_of body)
 matter_by Import path body = Ok (matter.Request (request.Import (part 3 path) (part 5 path) body))
 matter_by Replace path body = Ok (matter.Request (request.Replace (part 3 path) body))

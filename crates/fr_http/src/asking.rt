@@ -1,7 +1,7 @@
 //! What a connection asks of the register, by a request's head and body, and who asks.
 ghost use Rattle.std.specs.Prelude.{◌≡◌, IfOk};
 ghost use Rattle.fr_http.specs.Asking.{FindsActor, MakesCommand, MakesMatter, unasked_by};
-ghost use Rattle.fr_http.specs.Outcome.{asked_by};
+ghost use Rattle.fr_http.specs.Outcome.{asked_by, is_ask};
 ghost use Rattle.fr_http.specs.Routes.{part};
 
 use crate::fault::{LinkFault, Unasked};
@@ -10,17 +10,40 @@ use crate::method::Method;
 use crate::plan::Plan;
 use crate::routes::{Route, part};
 use fr_base::{Actor, Ask, Body, Desk, NoMemory, QueryReader, Refusal, Request, Text};
+use fr_guide::Subject;
 use fr_text::{read_command, read_number};
 use std::alloc::Global;
 use std::str;
 
-/// An exchange with the register: what a connection asks of it, and who asks.
+/// An exchange with the register: what a connection asks of it, and who asks. Advice asks it only
+/// whose a key is.
 #[derive(Drop)]
 pub enum Exchange {
     /// The answer to a request. The form of the reply depends on the method.
-    Request { ask: Ask, method: Method },
+    Request {
+        ask: Ask,
+        method: Method,
+    },
     /// The page of a variant's plan, as the reader sees it.
-    Picture { reader: Actor, variant: Text },
+    Picture {
+        reader: Actor,
+        variant: Text,
+    },
+    /// Advice on a text.
+    Advice {
+        reader: Actor,
+        subject: Subject,
+        text: Body,
+    },
+}
+
+impl Exchange {
+    /// Whether the register is asked for more than whose a key is.
+    pub(crate) fn is_ask(&self) -> bool
+        ensures { result ≡ is_ask self.now }
+    {
+        !matches!(self, Exchange::Advice { .. })
+    }
 }
 
 /// What is asked, whoever asks it.
@@ -30,6 +53,8 @@ pub(crate) enum Matter {
     Request(Request),
     /// The page of a variant's plan.
     Picture { variant: Text },
+    /// Advice on a text.
+    Advice { subject: Subject, text: Body },
 }
 
 impl Matter {
@@ -46,6 +71,11 @@ impl Matter {
                 reader: actor,
                 variant,
             },
+            Matter::Advice { subject, text } => Exchange::Advice {
+                reader: actor,
+                subject,
+                text,
+            },
         }
     }
 }
@@ -57,6 +87,14 @@ pub(crate) fn asked_matter(alloc: Global, plan: &Plan<'_>, body: &[u8]) -> Resul
 {
     match plan.route {
         Route::Page => Err(Unasked::Page),
+        Route::Explanations => Err(Unasked::Explained { word: None }),
+        Route::Explanation => Err(Unasked::Explained {
+            word: Some(name(alloc, plan.path, 3)?),
+        }),
+        Route::Advice(subject) => Ok(Matter::Advice {
+            subject,
+            text: Body::copy(alloc, body)?,
+        }),
         Route::Commands => Ok(Matter::Request(command(alloc, body)?)),
         Route::Import => Ok(Matter::Request(Request::Import {
             variant: name(alloc, plan.path, 3)?,

@@ -1,22 +1,26 @@
-//! Deals with an exchange: the register answers a request, or a picture is drawn of what the
-//! register's reports say. Then comes a reply.
+//! Deals with an exchange: the register answers a request, a picture is drawn of what the register's
+//! reports say, or advice is given on a text. Then comes a reply.
+ghost use Rattle.std.specs.Prelude.{◌≡◌, false};
 ghost use Rattle.fr_picture.specs.Reports.{AsksDesk};
 ghost use Rattle.fr_http.specs.Connection.{GivesReply, HasDrawn};
+ghost use Rattle.fr_http.specs.Outcome.{is_ask};
 
 use crate::asking::Exchange;
 use crate::method::Method;
-use crate::reply::{ReplyText, answer_reply, page_reply};
+use crate::reply::{ReplyText, advice_reply, answer_reply, page_reply};
 use fr_base::{Actor, Answer, Desk, NoMemory, Refusal};
+use fr_guide::advise;
 use fr_picture::{View, read_plan, write_page};
 use std::alloc::Global;
 
-/// The reply of an exchange.
+/// The reply of an exchange. The desk stays where it is not asked.
 pub(crate) fn deal<D: Desk>(
     alloc: Global,
     exchange: &Exchange,
     desk: &mut D,
 ) -> Result<ReplyText, NoMemory>
-    ensures { AsksDesk D.Desk (GivesReply exchange.now) desk.old desk.new result }
+    ensures given { AsksDesk D.Desk (GivesReply exchange.now) desk.old desk.new result }
+    ensures stays { is_ask exchange.now ≡ false → desk.new ≡ desk.old }
 {
     match exchange {
         Exchange::Request { ask, method } => {
@@ -28,6 +32,14 @@ pub(crate) fn deal<D: Desk>(
                 Ok(page) => page_reply(page),
                 Err(refusal) => answer_reply(alloc, Method::Get, &Answer::Refused(refusal)),
             }
+        }
+        Exchange::Advice {
+            reader: _,
+            subject,
+            text,
+        } => {
+            let lines = advise(alloc, *subject, text.as_slice())?;
+            advice_reply(lines)
         }
     }
 }

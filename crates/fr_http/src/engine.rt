@@ -51,7 +51,8 @@ impl Engine {
     pub(crate) fn find_route(&self, path: &str) -> Option<Route>
         ensures { result ≡ matched path.now }
     {
-        self.routes.at(path).ok().map(|found| *found.value)
+        let route = self.routes.at(path).ok().map(|found| *found.value)?;
+        if route.leads(path) { Some(route) } else { None }
     }
 }
 

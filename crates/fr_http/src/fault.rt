@@ -1,7 +1,7 @@
 //! Why a connection asks nothing of the register: the engine answers itself, the request is refused,
 //! or a fault ends the connection.
 use crate::method::Allowed;
-use fr_base::{NoMemory, Refusal};
+use fr_base::{NoMemory, Refusal, Text};
 
 /// The answers that the engine gives itself.
 #[derive(Clone, Copy, PartialEq, Eq)]
@@ -40,12 +40,14 @@ pub enum LinkFault {
 }
 
 /// Why a connection asks nothing of the register.
-#[derive(Clone, Copy, PartialEq, Eq)]
+#[derive(Drop)]
 pub enum Unasked {
     /// The engine answers itself.
     Engine(Rejection),
     /// The planner's page is asked for, which is the engine's own.
     Page,
+    /// The meaning of a word or number is asked for, or a line on each word that is explained.
+    Explained { word: Option<Text> },
     /// The request is refused: its text is not a request, or its key is nobody's.
     Refused(Refusal),
     /// A fault ends the connection.

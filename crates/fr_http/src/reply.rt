@@ -1,12 +1,13 @@
 //! Writes the bytes of a reply.
 ghost use Rattle.std.specs.Prelude.{◌≡◌, ◌++◌, IfOk, OnOk};
 ghost use Rattle.fr_base.specs.Refusals.{status_of};
-ghost use Rattle.fr_http.specs.Reply.{allow, answer_reply, authenticate, body_of, closing, engine_reply, field_line, is_file, is_report, page_reply, phrase_of, planner_fields, planner_reply, reply_with, status_line, status_of_answer, status_of_rejection, type_of};
-ghost use Rattle.fr_http.specs.Replying.{IsReply, head_with};
+ghost use Rattle.fr_http.specs.Reply.{advice_reply, allow, answer_reply, authenticate, body_of, closing, engine_reply, explanation_reply, field_line, is_file, is_report, page_reply, phrase_of, planner_fields, planner_reply, reply_with, status_line, status_of_answer, status_of_rejection, type_of};
+ghost use Rattle.fr_http.specs.Replying.{IsReply, RepliesExplained, head_with};
 
 use crate::fault::Rejection;
 use crate::method::Method;
-use fr_base::{Answer, NoMemory, Refusal, ReportRows};
+use fr_base::{Answer, NoMemory, Refusal, ReportRows, Text};
+use fr_guide::{explanation, meant_word, overview};
 use fr_page::{planner_page, policy};
 use fr_text::{write_answer, write_lines};
 use http::StatusCode;
@@ -99,6 +100,36 @@ fn push_planner_fields(out: &mut Vec<u8>) -> Result<(), NoMemory>
     push_field("referrer-policy", "no-referrer", out)?;
     push_field("cross-origin-opener-policy", "same-origin", out)?;
     push_field("cache-control", "no-cache", out)
+}
+
+/// The reply that says what the word means, or the refusal of this number; that there is nothing
+/// where no word is explained; or, without a word, a line on each that is.
+pub(crate) fn explained_reply(alloc: Global, word: Option<&Text>) -> Result<ReplyText, NoMemory>
+    ensures { IfOk result (RepliesExplained word.entry) }
+{
+    let Some(word) = word else {
+        return explanation_reply(overview(alloc)?);
+    };
+    match explanation(alloc, meant_word(word.as_str()))? {
+        Some(text) => explanation_reply(text),
+        None => engine_reply(alloc, Rejection::NotFound),
+    }
+}
+
+// The reply that explains.
+#[tactic(auto, unfolding(crate::specs::Reply::explanation_reply))]
+fn explanation_reply(text: Vec<u8>) -> Result<ReplyText, NoMemory>
+    ensures { IfOk result (λ reply. IsReply (explanation_reply text.items) reply) }
+{
+    reply_with(StatusCode::OK, "text/plain; charset=us-ascii", text)
+}
+
+/// The reply that has advice. The texts on which it is given may be quoted in it, so it is UTF-8.
+#[tactic(auto, unfolding(crate::specs::Reply::advice_reply))]
+pub(crate) fn advice_reply(lines: Vec<u8>) -> Result<ReplyText, NoMemory>
+    ensures { IfOk result (λ reply. IsReply (advice_reply lines.items) reply) }
+{
+    reply_with(StatusCode::OK, "text/plain; charset=utf-8", lines)
 }
 
 /// The reply that has this page.

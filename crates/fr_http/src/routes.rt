@@ -3,10 +3,11 @@ ghost use Rattle.std.specs.Prelude.{◌≡◌, ◌==◌, map};
 ghost use Rattle.std.specs.Char.{is_ascii};
 ghost use Rattle.std.specs.List.{list_all, position};
 ghost use Rattle.std.specs.Option.{option_map};
-ghost use Rattle.fr_http.specs.Routes.{allowed, ascii_text, chosen, export, method_of, of_register, of_two, of_variant, part, path_of, table};
+ghost use Rattle.fr_http.specs.Routes.{allowed, ascii_text, chosen, export, leads, method_of, of_register, of_two, of_variant, part, path_of, table};
 
 use crate::method::{Allowed, Method};
 use fr_base::{Header, Inventory, Query, Report};
+use fr_guide::{Subject, explains, meant_word};
 use std::str;
 
 /// A route: what a path asks for.
@@ -14,6 +15,12 @@ use std::str;
 pub enum Route {
     /// The planner's page, which is the same for everybody.
     Page,
+    /// A line on each word that is explained.
+    Explanations,
+    /// What the word or number means that stands behind three slashes of the path.
+    Explanation,
+    /// The body is a text, on which advice is wanted.
+    Advice(Subject),
     /// The body is a request.
     Commands,
     /// The body is an import's file.
@@ -35,9 +42,14 @@ impl Route {
         ensures { result ≡ method_of self }
     {
         match self {
-            Route::Commands | Route::Import | Route::Try { replaces: false } => Method::Post,
+            Route::Advice(_) | Route::Commands | Route::Import | Route::Try { replaces: false } =>
+                Method::Post,
             Route::Replace | Route::Try { replaces: true } => Method::Put,
-            Route::Page | Route::Query(_) | Route::Picture => Method::Get,
+            Route::Page
+            | Route::Explanations
+            | Route::Explanation
+            | Route::Query(_)
+            | Route::Picture => Method::Get,
         }
     }
 
@@ -61,6 +73,17 @@ impl Route {
                 replaces: method == Method::Put.as_str().as_bytes(),
             },
             route => route,
+        }
+    }
+
+    /// Whether the path, which matches the route, leads to it. None leads to the explanation of a
+    /// word that is not explained.
+    pub(crate) fn leads(self, path: &str) -> bool
+        ensures { result ≡ leads path.now self }
+    {
+        match self {
+            Route::Explanation => explains(meant_word(part(path, 3))),
+            _ => true,
         }
     }
 }
@@ -138,11 +161,15 @@ fn export(header: Header) -> Route
 
 /// The routes, each with the text of the paths that match it.
 #[tactic(auto, unfolding(crate::specs::Routes::table))]
-pub(crate) fn routes() -> [(&'static str, Route); 20]
+pub(crate) fn routes() -> [(&'static str, Route); 24]
     ensures { map (λ entry. (entry.0.now, entry.1)) result ≡ table }
 {
     [
         ("/", Route::Page),
+        ("/v1/explanations", Route::Explanations),
+        ("/v1/explanations/{word}", Route::Explanation),
+        ("/v1/checks/rows", Route::Advice(Subject::Rows)),
+        ("/v1/checks/requests", Route::Advice(Subject::Requests)),
         ("/v1/commands", Route::Commands),
         ("/v1/cluster", of_register(Inventory::Cluster)),
         ("/v1/variants", of_register(Inventory::Variants)),

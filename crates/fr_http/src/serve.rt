@@ -18,7 +18,7 @@ use crate::input::{Input, MAX_READS};
 use crate::method::Method;
 use crate::plan::{Plan, make_plan};
 use crate::receive::receive;
-use crate::reply::{ReplyText, answer_reply, engine_reply, planner_reply};
+use crate::reply::{ReplyText, answer_reply, engine_reply, explained_reply, planner_reply};
 use crate::source::Source;
 use fr_base::{Answer, Desk, NoMemory, Refusal};
 use fr_text::{Output, Sink, WriteFailed};
@@ -31,8 +31,8 @@ pub struct Served {
     pub asked: bool,
 }
 
-/// Serves one connection: reads a request, asks the register or draws a picture of what the key's owner sees, and
-/// writes the reply. It gives the reply's status, or the fault that ended the connection, and whether the register
+/// Serves one connection: reads a request, asks the register, draws a picture of what the key's owner sees, or tells what
+/// asks nothing of the register, and writes the reply. It gives the reply's status, or the fault that ended the connection, and whether the register
 /// was asked. Where it was not, the desk is as it was.
 #[tactic(auto, using(crate::proofs::ReadsLaws::spending))]
 pub fn serve_one<R: Source, W: Sink, D: Desk>(
@@ -87,6 +87,11 @@ fn serve<R: Source, W: Sink, D: Desk>(
         Ok(exchange) => answer(alloc, &exchange, output, desk),
         Err(Unasked::Engine(rejection)) => send(engine_reply(alloc, rejection), output, false),
         Err(Unasked::Page) => send(planner_reply(alloc), output, false),
+        Err(Unasked::Explained { word }) => send(
+            explained_reply(alloc, word.as_ref()),
+            output,
+            false,
+        ),
         Err(Unasked::Refused(refusal)) => send(
             answer_reply(alloc, Method::Post, &Answer::Refused(refusal)),
             output,
@@ -168,6 +173,7 @@ fn answer<W: Sink, D: Desk>(
     desk: &mut D,
 ) -> Result<Served, LinkFault>
     ensures falls { D.clean desk.new → D.clean desk.old }
+    ensures stays { was_asked result ≡ false → desk.new ≡ desk.old }
     ensures answered { WritesTo W.Write
         (HasAnswered (D.clean desk.new) (D.stands desk.old) (D.stands desk.new) exchange.now)
         output.old output.new result }
@@ -176,7 +182,7 @@ fn answer<W: Sink, D: Desk>(
         output.new.writer.now) }
     ensures retries { output.new.retries ≤ output.old.retries }
 {
-    send(deal(alloc, exchange, desk), output, true)
+    send(deal(alloc, exchange, desk), output, exchange.is_ask())
 }
 
 // Writes a reply, if there was memory for it.

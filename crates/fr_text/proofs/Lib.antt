@@ -1,5 +1,6 @@
 mod StreamLemmas
 mod WritingLemmas
+pub mod LineLemmas
 pub mod ClusterFileLemmas
 pub mod WellFormedLaws
 pub mod FieldsLemmas

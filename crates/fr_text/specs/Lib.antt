@@ -1,6 +1,7 @@
 pub mod ClusterFile
 pub mod SupplierTexts
 pub mod Fields
+pub mod Script
 pub mod RequestText
 pub mod ImportText
 pub mod Words

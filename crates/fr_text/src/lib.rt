@@ -7,6 +7,7 @@ mod cluster_file;
 mod fields;
 mod import_text;
 mod laws;
+mod lines;
 mod output;
 mod report;
 mod request_text;
@@ -24,6 +25,7 @@ pub use laws::{
     export_is_read_back, export_is_within_bytes, sent_back_changes_nothing, sent_is_imported,
     written_is_read_back,
 };
+pub use lines::{LINE_BYTES, RequestLines, key_and_text, next_line, split_once, split_script};
 pub use output::{Output, WRITE_RETRIES, WriteFailed};
 pub use report::write_lines;
 pub use request_text::read_command;

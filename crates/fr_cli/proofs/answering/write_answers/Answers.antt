@@ -3,7 +3,7 @@ use Rattle.std.proofs.KnownBytes.{Appends-nil, Appends-trans, Appends-kept}
 use Rattle.fr_base.specs.declared.answer.Answer.TheVariants.{Done}
 use Rattle.fr_cli.specs.Answering.{AnswersEach, AnswersLines, WasWritten}
 use Rattle.fr_cli.specs.Outcomes.{line_of}
-use Rattle.fr_cli.specs.Script.{request_lines}
+use Rattle.fr_text.specs.Script.{request_lines}
 use Rattle.fr_cli.specs.declared.script_fault.ScriptFault.TheVariants.{NoMemory, WriteFailed}
 use Rattle.fr_cli.specs.Outlets.{StopsSo}
 use Rattle.fr_cli.proofs.AnsweringLaws.{cut_here, lines_kept, lines_then, no_lines, one_line}

@@ -2,7 +2,7 @@
 use Rattle.std.proofs.Common.{◌≡◌, ◌++◌, ℕ, List}
 use Rattle.std.specs.Io.KnownBytes.{Appends}
 use Rattle.fr_cli.specs.Answering.{AnswersEach, AnswersLines}
-use Rattle.fr_cli.specs.Script.{request_lines}
+use Rattle.fr_text.specs.Script.{request_lines}
 use Rattle.fr_cli.proofs.answering.write_answers.Given as goal
 
 abbrev pub invariant-loop-line : goal.invariant-loop-line

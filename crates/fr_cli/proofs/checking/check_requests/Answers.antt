@@ -1,5 +1,5 @@
 use Rattle.std.proofs.Common.{◌+◌, ◌<◌, ◌^◌, arith, inl, length, rules, subst, sym}
-use Rattle.fr_cli.specs.Script.{request_lines}
+use Rattle.fr_text.specs.Script.{request_lines}
 use Rattle.fr_cli.proofs.CheckingLaws.{requests-most}
 use Rattle.fr_cli.proofs.checking.check_requests.Goals as goal
 

@@ -1,8 +1,8 @@
 use Rattle.std.proofs.Common.{◌≡◌, ◌+◌, ◌<◌, ◌≤◌, ◌++◌, ◌∷◌, [], ℕ, List, None, Err, length, refl, sym, ap, ◌∙◌, subst, append_assoc, append-nil, arith, rules}
 use Rattle.std.proofs.KnownBytes.{Appends-nil, Appends-trans}
 use Rattle.fr_cli.specs.Answering.{AnswersEach, AnswersLines}
-use Rattle.fr_cli.specs.Incoming.{AreFirstOfAll, AreShort, EndsLines, HasHeard, max_line}
-use Rattle.fr_cli.specs.Script.{HasNo, parts_around, request_lines}
+use Rattle.fr_cli.specs.Incoming.{AreFirstOfAll, AreShort, EndsLines, HasHeard}
+use Rattle.fr_text.specs.Script.{HasNo, max_line, parts_around, request_lines}
 use Rattle.fr_cli.specs.ScriptFault.{script_fault_of}
 use Rattle.fr_cli.specs.declared.script_fault.ScriptFault.TheVariants.{NoMemory}
 use Rattle.fr_cli.proofs.AnsweringLaws.{cut_after, cut_here, no_lines}
@@ -10,7 +10,8 @@ use Rattle.fr_cli.proofs.EndedLines.{requests-append}
 use Rattle.fr_cli.specs.Outlets.{StopsSo}
 use Rattle.fr_cli.proofs.IncomingLaws.{ends-none, ends-then, first_begin, first_then, first_whole, heard_cut, heard_more, long_by, not_long, short-then, unread_stops}
 use Rattle.fr_cli.proofs.VisitLaws.{sink}
-use Rattle.fr_cli.proofs.LineLemmas.{has_no-append, no_feed, request_lines-none, short_ended, split_by, split_clear}
+use Rattle.fr_text.proofs.LineLemmas.{has_no-append, no_feed, request_lines-none, split_by, split_clear}
+use Rattle.fr_cli.proofs.ShortLines.{short_ended}
 use Rattle.fr_cli.proofs.incoming.answer_piece.Goals as goal
 
 pub loop-line-init : goal.loop-line-init

@@ -2,8 +2,8 @@
 use Rattle.std.proofs.Common.{◌≡◌, ◌≤◌, ◌++◌, ℕ, List, length}
 use Rattle.std.specs.Io.KnownBytes.{Appends}
 use Rattle.fr_cli.specs.Answering.{AnswersEach, AnswersLines}
-use Rattle.fr_cli.specs.Incoming.{AreShort, EndsLines, max_line}
-use Rattle.fr_cli.specs.Script.{HasNo, request_lines}
+use Rattle.fr_cli.specs.Incoming.{AreShort, EndsLines}
+use Rattle.fr_text.specs.Script.{HasNo, max_line, request_lines}
 use Rattle.fr_cli.proofs.incoming.answer_piece.Given as goal
 
 abbrev pub invariant-loop-line : goal.invariant-loop-line

@@ -2,14 +2,15 @@ use Rattle.std.proofs.Common.{◌≡◌, ◌⊎◌, ◌++◌, ◌+◌, ◌<◌, 
 use Rattle.std.specs.Io.KnownBytes.{Consumes, IsAtEnd}
 use Rattle.std.proofs.KnownBytes.{Appends-nil, Appends-trans, Consumes-nil, Consumes-trans}
 use Rattle.fr_cli.specs.Answering.{AnswersEach, AnswersLines, account_by}
-use Rattle.fr_cli.specs.Incoming.{AreShort, HasAnswered, WasAsked, HasLongLine, max_line}
-use Rattle.fr_cli.specs.Script.{HasNo, max_script, request_lines}
+use Rattle.fr_cli.specs.Incoming.{AreShort, HasAnswered, WasAsked, HasLongLine}
+use Rattle.fr_text.specs.Script.{HasNo, max_line, max_script, request_lines}
 use Rattle.fr_cli.specs.declared.input.InputFault.TheVariants.{ReadFailed, TooLong, TooManyReads}
 use Rattle.fr_cli.specs.declared.script_fault.ScriptFault.TheVariants as fault
 use Rattle.fr_cli.proofs.AnsweringLaws.{no_lines}
 use Rattle.fr_cli.proofs.IncomingLaws.{at_end, cut_between, cut_within, ends-none, ends-then, heard_more, on_input, short-then, split_then}
 use Rattle.fr_cli.specs.Outlets.{StopsSo}
-use Rattle.fr_cli.proofs.LineLemmas.{request_lines-none, short_open}
+use Rattle.fr_text.proofs.LineLemmas.{request_lines-none}
+use Rattle.fr_cli.proofs.ShortLines.{short_open}
 use Rattle.fr_cli.proofs.VisitLaws.{sink}
 use Rattle.fr_cli.proofs.incoming.answer_pieces.Goals as goal
 use Rattle.fr_cli.proofs.incoming.answer_pieces.Goals.{in-Ok+in_ok-room-in-Ok+in_ok-answer_piece-in-Ok, in-Err+in_ok-try_again-in-Err}

@@ -2,8 +2,8 @@
 use Rattle.std.proofs.Common.{◌≡◌, ◌≤◌, ◌+◌, ◌++◌, ℕ, List, length, vec_len}
 use Rattle.std.specs.Io.KnownBytes.{Appends, Consumes}
 use Rattle.fr_cli.specs.Answering.{AnswersEach, AnswersLines}
-use Rattle.fr_cli.specs.Incoming.{AreShort, EndsLines, max_line}
-use Rattle.fr_cli.specs.Script.{HasNo, max_script, request_lines}
+use Rattle.fr_cli.specs.Incoming.{AreShort, EndsLines}
+use Rattle.fr_text.specs.Script.{HasNo, max_line, max_script, request_lines}
 use Rattle.fr_cli.proofs.incoming.answer_pieces.Given as goal
 
 abbrev pub invariant-loop : goal.invariant-loop

@@ -2,8 +2,8 @@ use Rattle.std.proofs.Common.{◌≡◌, ◌++◌, ◌∙◌, ℕ, List, [], tru
 use Rattle.std.specs.Option.{option_map}
 use Rattle.std.specs.Io.KnownBytes.{Consumes, IsAtEnd}
 use Rattle.std.proofs.KnownBytes.{Consumes-trans}
-use Rattle.fr_cli.specs.Script.{parts_around}
-use Rattle.fr_cli.proofs.LineLemmas.{feed_found}
+use Rattle.fr_text.specs.Script.{parts_around}
+use Rattle.fr_text.proofs.LineLemmas.{feed_found}
 use Rattle.fr_cli.proofs.input.read_line.Goals as goal
 
 pub returns-in-Ok-eq0-clause-line : goal.returns-in-Ok-eq0-clause-line

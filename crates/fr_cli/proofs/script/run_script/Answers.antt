@@ -2,7 +2,7 @@ use Rattle.std.proofs.Common.{rules, ◌≡◌, ◌≤◌, length, Some, Ok}
 use Rattle.fr_base.specs.Cluster.{IsWellFormed}
 use Rattle.fr_text.specs.ClusterFile.{config_of}
 use Rattle.fr_cli.specs.Runs.{IsRunOf}
-use Rattle.fr_cli.specs.Script.{max_script, parts_of, request_lines}
+use Rattle.fr_text.specs.Script.{max_script, parts_of, request_lines}
 use Rattle.fr_cli.proofs.RunLaws.{run_of, written_at}
 use Rattle.fr_cli.proofs.script.run_script.Goals as goal
 

@@ -1,14 +1,16 @@
-use Rattle.std.proofs.Common.{rules, ◌≡◌, Ok, Err, sym, subst}
+use Rattle.std.proofs.Common.{rules, refl, ◌≡◌, Ok, Err, sym, subst}
 use Rattle.fr_http.specs.Connection.{HasDealt, HasDrawn}
 use Rattle.fr_http.specs.Reply.{answer_reply, page_reply}
 use Rattle.fr_base.specs.declared.answer.Answer.TheVariants as answer
 use Rattle.fr_http.specs.declared.asking.Exchange.TheVariants as exchange
 use Rattle.fr_http.specs.declared.method.Method.TheVariants.{Get}
-use Rattle.fr_http.proofs.DealingLaws.{page_dealt, refusal_dealt, request_dealt}
+use Rattle.fr_guide.proofs.AdviceLaws.{some_advice}
+use Rattle.fr_http.specs.Reply.{advice_reply}
+use Rattle.fr_http.proofs.DealingLaws.{advice_dealt, page_dealt, refusal_dealt, request_dealt}
 use Rattle.fr_http.proofs.dealing.deal.Goals as goal
 
-pub returns-in-Request : goal.returns-in-Request
-returns-in-Request g c =
+pub returns-in-Request-clause-given : goal.returns-in-Request-clause-given
+returns-in-Request-clause-given g c =
     let ask = c.in-Request.ask in
     let method = c.in-Request.method in
     let reply = answer_reply method c.ask-answer.result in
@@ -23,8 +25,8 @@ returns-in-Request g c =
       falls = search rules;
     }
 
-pub returns-in-Ok : goal.returns-in-Ok
-returns-in-Ok g c =
+pub returns-in-Ok-clause-given : goal.returns-in-Ok-clause-given
+returns-in-Ok-clause-given g c =
     let reader = c.in-Picture.reader in
     let variant = c.in-Picture.variant in
     let reply = page_reply c.in-Ok.page.items in
@@ -39,8 +41,8 @@ returns-in-Ok g c =
       falls = search rules;
     }
 
-pub returns-in-Err : goal.returns-in-Err
-returns-in-Err g c =
+pub returns-in-Err-clause-given : goal.returns-in-Err-clause-given
+returns-in-Err-clause-given g c =
     let reader = c.in-Picture.reader in
     let variant = c.in-Picture.variant in
     let reply = answer_reply Get (answer.Refused c.in-Err.refusal) in
@@ -51,6 +53,41 @@ returns-in-Err g c =
         subst (λ o. HasDealt (g.D.Desk.clean c.picture.new.desk) (g.D.Desk.stands c.args.desk.now) (g.D.Desk.stands c.picture.new.desk) o reply) (sym is)
             (refusal_dealt _ _ _ reader variant c.in-Err.refusal (subst (λ v. HasDrawn reader v (g.D.Desk.clean c.picture.new.desk) (g.D.Desk.stands c.args.desk.now) (g.D.Desk.stands c.picture.new.desk) (Err c.in-Err.refusal)) c.as_str.ensures c.in-Err.ensures.does)),
         c.answer_reply-in-Err.ensures,
+      );
+      falls = search rules;
+    }
+
+pub returns-in_err-lines-in-Advice-clause-given : goal.returns-in_err-lines-in-Advice-clause-given
+returns-in_err-lines-in-Advice-clause-given g c =
+    let reader = c.in-Advice.reader in
+    let subject = c.in-Advice.subject in
+    let text = c.in-Advice.text in
+    let (lines, advice) = some_advice subject text in
+    let reply = advice_reply lines in
+    let is : c.args.exchange.now ≡ exchange.Advice reader subject text = search rules in
+    record {
+      does = (
+        reply,
+        subst (λ o. HasDealt (g.D.Desk.clean c.args.desk.now) (g.D.Desk.stands c.args.desk.now) (g.D.Desk.stands c.args.desk.now) o reply) (sym is)
+            (advice_dealt _ _ _ reader subject text reply (lines, advice, refl) (λ cl b stood. stood)),
+        search rules,
+      );
+      falls = search rules;
+    }
+
+pub returns-in_ok-lines-in-Advice-clause-given : goal.returns-in_ok-lines-in-Advice-clause-given
+returns-in_ok-lines-in-Advice-clause-given g c =
+    let reader = c.in-Advice.reader in
+    let subject = c.in-Advice.subject in
+    let text = c.in-Advice.text in
+    let reply = advice_reply c.in_ok-lines-in-Advice.lines.items in
+    let is : c.args.exchange.now ≡ exchange.Advice reader subject text = search rules in
+    record {
+      does = (
+        reply,
+        subst (λ o. HasDealt (g.D.Desk.clean c.args.desk.now) (g.D.Desk.stands c.args.desk.now) (g.D.Desk.stands c.args.desk.now) o reply) (sym is)
+            (advice_dealt _ _ _ reader subject text reply (c.in_ok-lines-in-Advice.lines.items, search rules, refl) (λ cl b stood. stood)),
+        c.advice_reply.ensures,
       );
       falls = search rules;
     }

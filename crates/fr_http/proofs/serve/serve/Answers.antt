@@ -1,10 +1,16 @@
-use Rattle.std.proofs.Common.{◌≡◌, Err, refl, ap, ◌∙◌, rules, subst, false}
+use Rattle.std.proofs.Common.{◌≡◌, Err, refl, ap, ◌∙◌, rules, subst, false, List, ℕ}
+use Rattle.std.specs.Prelude.{IfOk}
+use Rattle.std.specs.Borrow.{Bor}
+use Rattle.std.specs.Option.{option_map}
 use Rattle.fr_base.specs.declared.answer.Answer.TheVariants as answer
 use Rattle.fr_http.specs.Connection.{HasTaken}
-use Rattle.fr_http.specs.Reply.{answer_reply, engine_reply, planner_reply}
-use Rattle.fr_http.specs.declared.fault.Unasked.TheVariants.{Engine, Fault, Page, Refused}
+use Rattle.fr_http.specs.Exchanges.{IsExplanation}
+use Rattle.fr_http.specs.Reply.{Reply, answer_reply, engine_reply, planner_reply}
+use Rattle.fr_http.specs.Replying.{IsReply}
+use Rattle.fr_http.specs.declared.reply.ReplyText.{ReplyText}
+use Rattle.fr_http.specs.declared.fault.Unasked.TheVariants.{Engine, Explained, Fault, Page, Refused}
 use Rattle.fr_http.specs.declared.method.Method.TheVariants.{Post}
-use Rattle.fr_http.proofs.ServeLaws.{replied, served_asked, served_fault, served_unasked}
+use Rattle.fr_http.proofs.ServeLaws.{replied, served_asked, served_explained, served_fault, served_unasked}
 use Rattle.fr_http.proofs.serve.serve.Goals as goal
 
 pub returns-in-Ok-clause-served : goal.returns-in-Ok-clause-served
@@ -36,6 +42,20 @@ returns-in-Err-Page-clause-served g c =
     record {
       does = served_unasked _ _ _ _ _ _ _ Page planner_reply c.send-in-Err-Page.result t t.takes.0 t.takes.1 refl
           (replied c.planner_reply.result planner_reply false _ _ c.send-in-Err-Page.result c.planner_reply.ensures c.send-in-Err-Page.ensures.sent.does);
+      same_reader = search rules;
+      same_writer = search rules;
+    }
+
+pub returns-in-Err-Explained-clause-served : goal.returns-in-Err-Explained-clause-served
+returns-in-Err-Explained-clause-served g c =
+    let word = c.in-Err-Explained.word in
+    let named : option_map (λ (w : Bor (List ℕ)). w.now) c.as_ref.result ≡ word = search rules in
+    let is : c.take.result ≡ Err (Explained word) = c.in-Err-Explained.is ∙ ap (λ u. Err u) c.in-Err-Explained.field-0-is in
+    let t : HasTaken (g.D.Desk.stands c.args.desk.now) (g.R.Read.remaining c.args.input.now.reader.now) (g.R.Read.remaining c.take.new.input.reader.now)
+    (g.W.Write.contents c.args.output.now.writer.now) (g.W.Write.contents c.take.new.output.writer.now) (Err (Explained word)) = subst (HasTaken _ _ _ _ _) is c.take.ensures.taken.does in
+    record {
+      does = served_explained _ _ _ _ _ _ _ word c.explained_reply.result c.send-in-Err-Explained.result t
+          (subst (λ w. IfOk c.explained_reply.result (λ (r : ReplyText). (reply : Reply) × IsExplanation w reply × IsReply reply r)) named c.explained_reply.ensures) c.send-in-Err-Explained.ensures.sent.does;
       same_reader = search rules;
       same_writer = search rules;
     }

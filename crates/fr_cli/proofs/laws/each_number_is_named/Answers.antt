@@ -1,5 +1,0 @@
-use Rattle.fr_cli.proofs.NumberedLaws.{numbers}
-use Rattle.fr_cli.proofs.laws.each_number_is_named.Goals as goal
-
-pub returns : goal.returns
-returns c = numbers
