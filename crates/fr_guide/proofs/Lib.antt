@@ -1,7 +1,9 @@
 pub mod EachWord
 pub mod FieldLaws
 pub mod RequestLaws
-pub mod RowLaws
+pub mod FormedRows
+pub mod TakenRows
+pub mod FineFiles
 mod LineLemmas
 mod RowLemmas
 mod TopicLemmas

@@ -1,7 +1,7 @@
 //! Laws of the words that are explained: each refusal's name, and each fault's word of a cluster
-//! file. Laws of requests and rows: a fault is told exactly where the register refuses the text,
-//! whatever it holds.
-ghost use Rattle.fr_guide.specs.Laws.{EachConfigFaultIsExplained, EachRefusalIsExplained, MisformedRequestsAreRefused, MisformedRowsAreRefused};
+//! file. Laws of requests, rows and files: a fault is told exactly where the register refuses the
+//! text, whatever it holds.
+ghost use Rattle.fr_guide.specs.Laws.{EachConfigFaultIsExplained, EachRefusalIsExplained, FineFilesAreTaken, FineRowsAreTaken, MisformedRequestsAreRefused};
 
 /// The name of each refusal is explained, also that of an import's refused row.
 pub fn each_refusal_is_explained()
@@ -19,7 +19,13 @@ pub fn misformed_requests_are_refused()
     ensures { MisformedRequestsAreRefused }
 {}
 
-/// A fault of a record is told exactly where the row is refused for its text or a name.
-pub fn misformed_rows_are_refused()
-    ensures { MisformedRowsAreRefused }
+/// A fault of a record is told exactly where no cluster takes its row.
+pub fn fine_rows_are_taken()
+    ensures { FineRowsAreTaken }
+{}
+
+/// A fault of a file is told exactly where it is longer than an import, has no header or more rows
+/// than an import, or has a row that no cluster takes.
+pub fn fine_files_are_taken()
+    ensures { FineFilesAreTaken }
 {}

@@ -17,8 +17,8 @@ mod topics;
 pub use explain::{alike, explanation, overview};
 pub use finding::{Finding, examine};
 pub use laws::{
-    each_config_fault_is_explained, each_refusal_is_explained, misformed_requests_are_refused,
-    misformed_rows_are_refused,
+    each_config_fault_is_explained, each_refusal_is_explained, fine_files_are_taken,
+    fine_rows_are_taken, misformed_requests_are_refused,
 };
 pub use line_faults::{LineFaults, are_fine, fault_lines, one_fault};
 pub use requests::request_faults;
