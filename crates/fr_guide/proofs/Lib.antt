@@ -7,3 +7,4 @@ pub mod FineFiles
 mod LineLemmas
 mod RowLemmas
 mod TopicLemmas
+mod PathLemmas

@@ -6,3 +6,4 @@ pub mod Faults
 pub mod Requests
 pub mod RequestFields
 pub mod Rows
+pub mod Paths

@@ -1,5 +1,5 @@
-//! What a planner is told of the program's words, and of the faults of a cluster file, a request or
-//! an import's file.
+//! What a planner is told of the program's words, and of the faults of a cluster file, a request, an
+//! import's file or a path.
 #![tactic(auto)]
 
 mod explain;
@@ -7,6 +7,7 @@ mod finding;
 mod form;
 mod laws;
 mod line_faults;
+mod paths;
 mod place;
 mod requests;
 mod rows;
@@ -21,5 +22,6 @@ pub use laws::{
     fine_rows_are_taken, misformed_requests_are_refused,
 };
 pub use line_faults::{LineFaults, are_fine, fault_lines, one_fault};
+pub use paths::path_faults;
 pub use requests::request_faults;
 pub use rows::row_faults;
