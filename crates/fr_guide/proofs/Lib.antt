@@ -1,10 +1,13 @@
 pub mod EachWord
 pub mod FieldLaws
 pub mod RequestLaws
-pub mod RowLaws
+pub mod FormedRows
+pub mod TakenRows
+pub mod FineFiles
 mod LineLemmas
 mod RowLemmas
 mod TopicLemmas
 mod NumberedLaws
 pub mod AdviceLaws
 pub mod RequestFileLaws
+mod PathLemmas

@@ -1,13 +1,18 @@
 -- Laws: each refusal's name is explained, and each fault's word of a cluster file. A fault of a
--- request or of a row is told exactly where the register would refuse it for its text, a name or a
--- key.
-use Rattle.std.specs.Prelude.{◌≡◌, ℕ, Bool, true, false, not, List, codes, Result, Ok, Err}
+-- request is told exactly where the register would refuse it for its text, a name or a key. A fault
+-- of a row is told exactly where no cluster takes it, and one of a file exactly where it is too
+-- long, has no header or too many rows, or has such a row.
+use Rattle.std.specs.Prelude.{◌≡◌, ◌↔◌, ◌≤◌, ℕ, Bool, true, false, not, List, ◌∷◌, length, codes, Some, Result, Ok, Err}
+use Rattle.std.specs.List.{AllByRecursion}
 use Rattle.fr_base.specs.Checks.{check}
-use Rattle.fr_base.specs.ImportRows.{row_of}
+use Rattle.fr_base.specs.ImportRows.{header_of, records_of, row_of}
+use Rattle.fr_base.specs.Parameters.{check_params}
 use Rattle.fr_base.specs.Refusals.{name_of}
 use Rattle.fr_base.specs.declared.actor.Actor.{Actor}
 use Rattle.fr_base.specs.declared.actor.Actor.TheVariants.{Integrator, Supplier}
 use Rattle.fr_base.specs.declared.import.Header.{Header}
+use Rattle.fr_base.specs.declared.import.Row.{Row}
+use Rattle.fr_base.specs.declared.limits.TheConstants.{MAX_IMPORT_BYTES, MAX_ROWS}
 use Rattle.fr_base.specs.declared.name.Name.{Name}
 use Rattle.fr_base.specs.declared.params.Params.{Params}
 use Rattle.fr_base.specs.declared.refusal.Refusal.{Refusal}
@@ -16,9 +21,11 @@ use Rattle.fr_base.specs.declared.request.Request.{Request}
 use Rattle.fr_base.specs.declared.request.Request.TheVariants as request
 use Rattle.fr_text.specs.ClusterFile.{config_fault_word}
 use Rattle.fr_text.specs.declared.cluster_file.ConfigFault.{ConfigFault}
+use Rattle.fr_guide.specs.Faults.{all_fine}
 use Rattle.fr_guide.specs.Requests.{formed_in, have_forms}
-use Rattle.fr_guide.specs.Rows.{is_fine_row}
+use Rattle.fr_guide.specs.Rows.{AreToldOfRows, is_fine_row}
 use Rattle.fr_guide.specs.Topics.{is_explained}
+use Rattle.fr_guide.specs.declared.line_faults.LineFaults.{LineFaults}
 
 -- Each refusal's name is explained, and so is that of an import's refused row.
 abbrev pub EachRefusalIsExplained : Type 0
@@ -56,6 +63,33 @@ asked_by s _ = Supplier s
 abbrev pub MisformedRequestsAreRefused : Type 0
 MisformedRequestsAreRefused = (p : Params) (s : Name) (r : Request) → have_forms (formed_in r) ≡ not (is_misformed (check p (asked_by s r) r))
 
--- A record is fine below a header exactly where the row is not refused for its text or a name, whatever the cluster.
-abbrev pub MisformedRowsAreRefused : Type 0
-MisformedRowsAreRefused = (p : Params) (header : Header) (fields : List (List ℕ)) → is_fine_row header fields ≡ not (is_misformed (row_of p header fields))
+-- Some cluster takes the row that a record is below a header.
+abbrev pub IsTaken : Header → List (List ℕ) → Type 0
+IsTaken header fields = (p : Params) × (check_params p ≡ Ok p) × (row : Row) × (row_of p header fields ≡ Ok row)
+
+-- A record is fine below a header exactly where some cluster takes its row. It is not where one
+-- refuses the row for its text or a name.
+pub record IsFineWhereTaken (header : Header) (fields : List (List ℕ)) : Type 0 where
+  pub taken : is_fine_row header fields ≡ true → IsTaken header fields
+  pub fine : IsTaken header fields → is_fine_row header fields ≡ true
+  pub misformed : (p : Params) → is_misformed (row_of p header fields) ≡ true → is_fine_row header fields ≡ false
+
+-- So is each record.
+abbrev pub FineRowsAreTaken : Type 0
+FineRowsAreTaken = (header : Header) (fields : List (List ℕ)) → IsFineWhereTaken header fields
+
+-- The file is no longer than an import may be, its first record is a header, at most as many rows as
+-- an import may have stand below, and each is one that some cluster takes.
+pub record IsFineFile (bytes : List ℕ) : Type 0 where
+  pub short : length bytes ≤ MAX_IMPORT_BYTES
+  pub first : List (List ℕ)
+  pub rows : List (List (List ℕ))
+  pub records : records_of bytes ≡ first ∷ rows
+  pub header : Header
+  pub known : header_of first ≡ Some header
+  pub few : length rows ≤ MAX_ROWS
+  pub taken : AllByRecursion (IsTaken header) rows
+
+-- What is told of a file has no fault exactly where it is such a file.
+abbrev pub FineFilesAreTaken : Type 0
+FineFilesAreTaken = (bytes : List ℕ) (told : List LineFaults) → AreToldOfRows bytes told → (all_fine told ≡ true) ↔ IsFineFile bytes

@@ -9,3 +9,4 @@ pub mod Rows
 pub mod RequestFile
 pub mod Advice
 pub mod Numbers
+pub mod Paths

@@ -1,11 +1,17 @@
--- Fine row: a record below a header that can be a row, whatever the cluster. It has as many fields
--- as the header, its names are names, its numbers are numbers, and each other field is a text.
--- Which records of a file are fine, of as many as an import takes. Which lines the file has.
-use Rattle.std.specs.Prelude.{ℕ, zero, suc, ◌+◌, ◌≡◌, ◌≤◌, ◌==◌, nat_lt, Bool, true, false, not, ◌&&◌, ◌||◌, if◌then◌else◌, List, [], ◌∷◌, length, map, Option, Some, None, Result}
+-- Fine row: a record below a header that is a row in some cluster. It has as many fields as the
+-- header, its names are names, its numbers are numbers, and each of its values may stand there in
+-- some cluster. Which records of a file are fine, of as many as an import takes. Which lines the
+-- file has.
+use Rattle.std.specs.Prelude.{ℕ, zero, suc, ◌+◌, ◌≡◌, ◌≤◌, ◌==◌, nat_lt, Bool, true, false, not, ◌&&◌, ◌||◌, if◌then◌else◌, List, [], ◌∷◌, length, map, Option, Some, None, is_some, Result, Ok, Err}
+use Rattle.std.specs.List.{list_any, range_with_len}
 use Rattle.std.specs.Result.{is_ok}
+use Rattle.fr_base.specs.Channels.{channels_of_text}
 use Rattle.fr_base.specs.Checks.{name}
+use Rattle.fr_base.specs.Cycles.{is_cycle_count, is_repetition}
 use Rattle.fr_base.specs.ImportRows.{header_of, number_at, records_of, spelled, text_at}
+use Rattle.fr_base.specs.Numbers.{is_slot}
 use Rattle.fr_base.specs.Refusing.{◌>>=◌}
+use Rattle.fr_base.specs.Signals.{is_signal_length, order_of_text}
 use Rattle.fr_base.specs.declared.import.Header.{Header}
 use Rattle.fr_base.specs.declared.import.Header.TheVariants.{Frames, Placements, Signals}
 use Rattle.fr_base.specs.declared.limits.TheConstants.{MAX_IMPORT_BYTES, MAX_ROWS}
@@ -18,19 +24,47 @@ use Rattle.fr_guide.specs.declared.line_faults.LineFaults.{LineFaults}
 unfoldable pub name_at : List (List ℕ) → ℕ → Result Name Refusal
 name_at fields place = text_at fields place >>= name
 
+-- whether what is read passes this test; what is refused does not
+abbrev pub passes : {A : Type 0} → (A → Bool) → Result A Refusal → Bool
+passes test (Ok x) = test x
+passes test (Err refusal) = false
+
+-- whether so many cycles are the count of some cluster, and the number is a repetition of them
+abbrev pub repeats_in : ℕ → ℕ → Bool
+repeats_in repetition count = is_cycle_count count && is_repetition count repetition
+
+-- whether the number is a repetition in some cluster, which has at most 64 cycles
+unfoldable pub is_some_repetition : ℕ → Bool
+is_some_repetition repetition = list_any (repeats_in repetition) (range_with_len 0 65)
+
+-- whether what stands in a base's place is a number, and below the repetition, where that is a number
+abbrev pub is_base_below : Result ℕ Refusal → Result ℕ Refusal → Bool
+is_base_below (Err refusal) _ = false
+is_base_below (Ok base) (Err refusal) = true
+is_base_below (Ok base) (Ok repetition) = nat_lt base repetition
+
+-- whether the text writes channels
+abbrev pub writes_channels : List ℕ → Bool
+writes_channels text = is_some (channels_of_text text)
+
+-- whether the text writes an order of bits
+abbrev pub writes_order : List ℕ → Bool
+writes_order text = is_some (order_of_text text)
+
 -- whether the fields are those of a row of frames
 unfoldable pub is_fine_frame : List (List ℕ) → Bool
 is_fine_frame fields = is_ok (name_at fields 0) && is_ok (name_at fields 1)
 
--- whether the fields are those of a row of placements
+-- whether the fields are those of a row of placements in some cluster
 unfoldable pub is_fine_placement : List (List ℕ) → Bool
-is_fine_placement fields = is_ok (name_at fields 0) && is_ok (name_at fields 1) && is_ok (number_at fields 2) && is_ok (text_at fields 3)
-    && is_ok (number_at fields 4) && is_ok (number_at fields 5)
+is_fine_placement fields = is_ok (name_at fields 0) && is_ok (name_at fields 1) && passes is_slot (number_at fields 2)
+    && passes writes_channels (text_at fields 3) && is_base_below (number_at fields 4) (number_at fields 5)
+    && passes is_some_repetition (number_at fields 5)
 
 -- whether the fields are those of a row of signals
 unfoldable pub is_fine_signal : List (List ℕ) → Bool
-is_fine_signal fields = is_ok (name_at fields 0) && is_ok (name_at fields 1) && is_ok (number_at fields 2) && is_ok (number_at fields 3)
-    && is_ok (text_at fields 4)
+is_fine_signal fields = is_ok (name_at fields 0) && is_ok (name_at fields 1) && is_ok (number_at fields 2)
+    && passes is_signal_length (number_at fields 3) && passes writes_order (text_at fields 4)
 
 -- whether the fields are those of a row below this header
 abbrev pub has_fine_fields : Header → List (List ℕ) → Bool

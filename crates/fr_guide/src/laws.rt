@@ -1,9 +1,10 @@
 //! Laws of the words that are explained: each refusal's name, and each fault's word of a cluster
-//! file; each refusal's number means its name. Laws of requests and rows: a fault is told exactly where the register refuses the text,
-//! whatever it holds. Advice tells nothing exactly where a text has no fault.
+//! file; each refusal's number means its name. Laws of requests, rows and files: a fault is told
+//! exactly where the register refuses the text, whatever it holds. Advice tells nothing exactly where
+//! a text has no fault.
 ghost use Rattle.fr_guide.specs.Advice.{AdviceIsExact};
 ghost use Rattle.fr_guide.specs.Numbers.{EachNumberIsNamed};
-ghost use Rattle.fr_guide.specs.Laws.{EachConfigFaultIsExplained, EachRefusalIsExplained, MisformedRequestsAreRefused, MisformedRowsAreRefused};
+ghost use Rattle.fr_guide.specs.Laws.{EachConfigFaultIsExplained, EachRefusalIsExplained, FineFilesAreTaken, FineRowsAreTaken, MisformedRequestsAreRefused};
 
 /// The name of each refusal is explained, also that of an import's refused row.
 pub fn each_refusal_is_explained()
@@ -26,9 +27,15 @@ pub fn misformed_requests_are_refused()
     ensures { MisformedRequestsAreRefused }
 {}
 
-/// A fault of a record is told exactly where the row is refused for its text or a name.
-pub fn misformed_rows_are_refused()
-    ensures { MisformedRowsAreRefused }
+/// A fault of a record is told exactly where no cluster takes its row.
+pub fn fine_rows_are_taken()
+    ensures { FineRowsAreTaken }
+{}
+
+/// A fault of a file is told exactly where it is longer than an import, has no header or more rows
+/// than an import, or has a row that no cluster takes.
+pub fn fine_files_are_taken()
+    ensures { FineFilesAreTaken }
 {}
 
 /// Advice on a text tells nothing exactly where each record of it is fine, or each of its lines.

@@ -1,5 +1,5 @@
-//! What a planner is told of the program's words, and of the faults of a cluster file, a request or
-//! an import's file.
+//! What a planner is told of the program's words, and of the faults of a cluster file, a request, an
+//! import's file or a path.
 #![tactic(auto)]
 
 mod advice;
@@ -9,6 +9,7 @@ mod form;
 mod laws;
 mod line_faults;
 mod numbers;
+mod paths;
 mod place;
 mod request_file;
 mod requests;
@@ -22,10 +23,12 @@ pub use explain::{alike, explains, explanation, overview};
 pub use finding::{Finding, examine};
 pub use laws::{
     advice_is_exact, each_config_fault_is_explained, each_number_is_named,
-    each_refusal_is_explained, misformed_requests_are_refused, misformed_rows_are_refused,
+    each_refusal_is_explained, fine_files_are_taken, fine_rows_are_taken,
+    misformed_requests_are_refused,
 };
 pub use line_faults::{LineFaults, are_fine, fault_lines, one_fault};
 pub use numbers::meant_word;
+pub use paths::path_faults;
 pub use request_file::request_file_faults;
 pub use requests::request_faults;
 pub use rows::row_faults;

@@ -9,6 +9,7 @@ ghost use Rattle.fr_guide.specs.Rows.{AreInOrder, AreToldOfRows, fine_records, f
 mod fields;
 mod header;
 mod place;
+mod wanted;
 
 use crate::line_faults::{LineFaults, one_fault};
 use crate::rows::fields::field_faults;
@@ -19,9 +20,10 @@ use fr_base::{Header, MAX_IMPORT_BYTES, MAX_ROWS, NoMemory};
 use fr_text::{Records, header_of};
 use std::alloc::{AllocError, Global};
 
-/// What is wrong with each record of an import's file, the header first: why it is no row, whatever the cluster. A file that
-/// is too long is not read, nor is what stands below what is no header, or behind one row too many. Whether something is told
-/// of a record is said by clauses; in which words, and of which of the file's lines, is not, but that the lines are in order.
+/// What is wrong with each record of an import's file, the header first: why it is a row of no cluster. A file that is too
+/// long is not read, nor is what stands below what is no header, or behind one row too many. Whether something is told of a
+/// record is said by clauses; in which words, and of which of the file's lines, is not, but that the lines are in order. The
+/// cluster is not known, nor what the register holds: a slot may be above the cluster's, or not be granted.
 #[tactic(auto, unfolding(crate::specs::Rows::fine_file))]
 pub fn row_faults(alloc: Global, body: &[u8]) -> Result<Vec<LineFaults>, NoMemory>
     ensures { IfOk result (λ told. AreToldOfRows body.now told.items) }

@@ -1,16 +1,15 @@
 //! The faults of the fields of a row.
-ghost use Rattle.std.specs.Prelude.{◌≡◌, ◌&&◌, IfOk, OnOk, false};
-ghost use Rattle.std.specs.Result.{is_ok};
+ghost use Rattle.std.specs.Prelude.{◌≡◌, ◌&&◌, [], IfOk, OnOk, false, is_none};
 ghost use Rattle.csv.specs.Records.{fields_of};
-ghost use Rattle.fr_base.specs.ImportRows.{number_at, text_at};
 ghost use Rattle.fr_guide.specs.Faults.{are_none};
-ghost use Rattle.fr_guide.specs.Rows.{is_fine_frame, is_fine_placement, is_fine_row, is_fine_signal, name_at};
+ghost use Rattle.fr_guide.specs.Rows.{is_fine_frame, is_fine_placement, is_fine_row, is_fine_signal};
 
 use crate::line_faults::one_fault;
+use crate::rows::wanted;
 use crate::shown::shown_bytes;
 use csv::ByteRecord;
-use fr_base::{Header, Name, NoMemory};
-use fr_text::{names, number_at, text_at};
+use fr_base::{Header, NoMemory};
+use fr_text::names;
 use std::alloc::Global;
 
 /// The faults of a record below this header.
@@ -42,10 +41,10 @@ pub fn field_faults(
 fn frame_faults(alloc: Global, fields: &ByteRecord) -> Result<Vec<String>, NoMemory>
     ensures { IfOk result (λ faults. are_none faults.items ≡ is_fine_frame (fields_of fields.now)) }
 {
-    let mut faults = Vec::new(alloc);
-    add_name(alloc, &mut faults, fields, 0, "frame")?;
-    add_name(alloc, &mut faults, fields, 1, "node")?;
-    Ok(faults)
+    let mut faults = RowFaults::new(alloc, fields);
+    faults.add(0, "frame", wanted::name(fields, 0))?;
+    faults.add(1, "node", wanted::name(fields, 1))?;
+    Ok(faults.told)
 }
 
 // The faults of the fields of a row of placements.
@@ -54,14 +53,14 @@ fn placement_faults(alloc: Global, fields: &ByteRecord) -> Result<Vec<String>, N
     ensures { IfOk result (λ faults.
         are_none faults.items ≡ is_fine_placement (fields_of fields.now)) }
 {
-    let mut faults = Vec::new(alloc);
-    add_name(alloc, &mut faults, fields, 0, "frame")?;
-    add_name(alloc, &mut faults, fields, 1, "node")?;
-    add_number(alloc, &mut faults, fields, 2, "slot")?;
-    add_text(alloc, &mut faults, fields, 3, "channels")?;
-    add_number(alloc, &mut faults, fields, 4, "base")?;
-    add_number(alloc, &mut faults, fields, 5, "repetition")?;
-    Ok(faults)
+    let mut faults = RowFaults::new(alloc, fields);
+    faults.add(0, "frame", wanted::name(fields, 0))?;
+    faults.add(1, "node", wanted::name(fields, 1))?;
+    faults.add(2, "slot", wanted::slot(fields, 2))?;
+    faults.add(3, "channels", wanted::channels(fields, 3))?;
+    faults.add(4, "base", wanted::base(fields, 4, 5))?;
+    faults.add(5, "repetition", wanted::repetition(fields, 5))?;
+    Ok(faults.told)
 }
 
 // The faults of the fields of a row of signals.
@@ -70,80 +69,47 @@ fn signal_faults(alloc: Global, fields: &ByteRecord) -> Result<Vec<String>, NoMe
     ensures { IfOk result (λ faults.
         are_none faults.items ≡ is_fine_signal (fields_of fields.now)) }
 {
-    let mut faults = Vec::new(alloc);
-    add_name(alloc, &mut faults, fields, 0, "frame")?;
-    add_name(alloc, &mut faults, fields, 1, "signal")?;
-    add_number(alloc, &mut faults, fields, 2, "start")?;
-    add_number(alloc, &mut faults, fields, 3, "length")?;
-    add_text(alloc, &mut faults, fields, 4, "order")?;
-    Ok(faults)
+    let mut faults = RowFaults::new(alloc, fields);
+    faults.add(0, "frame", wanted::name(fields, 0))?;
+    faults.add(1, "signal", wanted::name(fields, 1))?;
+    faults.add(2, "start", wanted::number(fields, 2))?;
+    faults.add(3, "length", wanted::length(fields, 3))?;
+    faults.add(4, "order", wanted::order(fields, 4))?;
+    Ok(faults.told)
 }
 
-// Adds a fault where the field at a place is not a name.
-fn add_name(
+// The faults of a record's fields.
+#[derive(Drop)]
+struct RowFaults<'f> {
     alloc: Global,
-    faults: &mut Vec<String>,
-    fields: &ByteRecord,
-    place: usize,
-    name: &str,
-) -> Result<(), NoMemory>
-    ensures { OnOk result (are_none faults.new.items ≡ are_none faults.old.items
-        && is_ok (name_at (fields_of fields.now) place)) }
-{
-    if !is_name(fields, place) {
-        faults.push(fault(alloc, fields, place, name, NAME)?)?;
-    }
-    Ok(())
+    fields: &'f ByteRecord,
+    told: Vec<String>,
 }
 
-// Adds a fault where the field at a place is not a number.
-fn add_number(
-    alloc: Global,
-    faults: &mut Vec<String>,
-    fields: &ByteRecord,
-    place: usize,
-    name: &str,
-) -> Result<(), NoMemory>
-    ensures { OnOk result (are_none faults.new.items ≡ are_none faults.old.items
-        && is_ok (number_at (fields_of fields.now) place)) }
-{
-    if number_at(fields, place).is_err() {
-        faults.push(fault(alloc, fields, place, name, NUMBER)?)?;
+impl<'f> RowFaults<'f> {
+    // No fault.
+    fn new(alloc: Global, fields: &'f ByteRecord) -> RowFaults<'f>
+        ensures { result.told.items ≡ [] }
+    {
+        RowFaults {
+            alloc,
+            fields,
+            told: Vec::new(alloc),
+        }
     }
-    Ok(())
-}
 
-// Adds a fault where the field at a place is not a text.
-fn add_text(
-    alloc: Global,
-    faults: &mut Vec<String>,
-    fields: &ByteRecord,
-    place: usize,
-    name: &str,
-) -> Result<(), NoMemory>
-    ensures { OnOk result (are_none faults.new.items ≡ are_none faults.old.items
-        && is_ok (text_at (fields_of fields.now) place)) }
-{
-    if text_at(fields, place).is_err() {
-        faults.push(fault(alloc, fields, place, name, "UTF-8")?)?;
-    }
-    Ok(())
-}
-
-// Whether the field at a place is a name.
-#[tactic(auto, unfolding(crate::specs::Rows::name_at))]
-fn is_name(fields: &ByteRecord, place: usize) -> bool
-    ensures { result ≡ is_ok (name_at (fields_of fields.now) place) }
-{
-    match text_at(fields, place) {
-        Ok(text) => Name::read(text).is_some(),
-        Err(_) => false,
+    // Adds a fault where something else is wanted in the field at a place.
+    fn add(&mut self, place: usize, name: &str, wanted: Option<&str>) -> Result<(), NoMemory>
+        ensures { OnOk result (are_none self.new.told.items ≡ are_none self.old.told.items
+            && is_none wanted.entry) }
+    {
+        if let Some(range) = wanted {
+            let fault = fault(self.alloc, self.fields, place, name, range)?;
+            self.told.push(fault)?;
+        }
+        Ok(())
     }
 }
-
-const NAME: &str = "1 to 32 ASCII letters, digits and underscores, a letter first";
-
-const NUMBER: &str = "1 to 10 digits, at most 4294967295";
 
 // The fault of the field at a place, with what may stand there.
 fn fault(

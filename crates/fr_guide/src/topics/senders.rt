@@ -50,8 +50,9 @@ const BAD_NAME: Topic = Topic {
     about: "refusal 4, and a fault of a cluster file. A name does not have the form of a name.",
     help: "\
 A name is 1 to 32 ASCII letters, digits and underscores, and begins with a letter.
-That holds for variants, suppliers, nodes, frames, signals and the labels of imports.
-`slotplan check` shows which one: of a cluster file, where it is a supplier's, of requests, or of rows.
+That holds for variants, suppliers, nodes, frames and signals, and for the label of an import: `week-48` is none.
+Names stand in the fields `variant`, `from`, `supplier`, `node`, `frame`, `signal` and `label`, in a file's rows,
+and over HTTP in the path. `slotplan check` says which it is: CONFIG, `--requests FILE`, `--rows FILE`, `--path PATH`.
 Choose another name. Hyphens, spaces and letters with accents are not allowed. Case matters.
 ",
 };

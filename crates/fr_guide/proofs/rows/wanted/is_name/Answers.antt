@@ -1,7 +1,7 @@
 use Rattle.std.proofs.Common.{◌∙◌, ap}
 use Rattle.std.specs.Prelude.{is_some}
-use Rattle.fr_guide.proofs.RowLaws.{name_found, no_name_in}
-use Rattle.fr_guide.proofs.rows.fields.is_name.Goals as goal
+use Rattle.fr_guide.proofs.FormedRows.{name_found, no_name_in}
+use Rattle.fr_guide.proofs.rows.wanted.is_name.Goals as goal
 
 pub returns-in-Ok : goal.returns-in-Ok
 returns-in-Ok c = c.is_some.ensures ∙ ap is_some c.read.ensures ∙ name_found _ _ _ c.in-Ok.ensures

@@ -1,4 +1,4 @@
--- A row is refused for its text or a name exactly where its record is not fine.
+-- A row is refused for its text or a name exactly where its record is not formed, in any cluster.
 use Rattle.std.proofs.Common.{◌≡◌, ◌∙◌, ◌^◌, ap, refl, sym, ℕ, Bool, true, false, cond, List, length, Option, Some, None, Result, Ok, Err, arith}
 use Rattle.std.specs.Prelude.{not, ◌&&◌, ◌==◌, if◌then◌else◌, is_some, nat_le, nat_lt, ⊤}
 use Rattle.std.specs.List.{list_all}
@@ -15,13 +15,34 @@ use Rattle.fr_base.specs.declared.params.Params.{Params}
 use Rattle.fr_base.specs.declared.refusal.Refusal.{Refusal}
 use Rattle.fr_base.specs.declared.refusal.Refusal.TheVariants.{BadText, BadName}
 use Rattle.fr_guide.proofs.RequestLaws.{formed_behind, is_formed, named, placement-formed, signal-formed}
-use Rattle.fr_guide.specs.Laws.{MisformedRowsAreRefused, is_of_form}
-use Rattle.fr_guide.specs.Rows.{is_fine_frame, is_fine_placement, is_fine_row, is_fine_signal, name_at}
+use Rattle.fr_base.specs.declared.import.Header.{Header}
+use Rattle.fr_guide.specs.Laws.{is_misformed, is_of_form}
+use Rattle.fr_guide.specs.Rows.{name_at}
 
 -- What is refused is refused for its form.
 OnlyForm : {A : Type 0} → Result A Refusal → Type 0
 OnlyForm (Ok x) = ⊤
 OnlyForm (Err refusal) = is_of_form refusal ≡ true
+
+-- whether the fields of a row have their form: each name, number and text is one
+is_formed_frame : List (List ℕ) → Bool
+is_formed_frame fields = is_ok (name_at fields 0) && is_ok (name_at fields 1)
+
+is_formed_placement : List (List ℕ) → Bool
+is_formed_placement fields = is_ok (name_at fields 0) && is_ok (name_at fields 1) && is_ok (number_at fields 2) && is_ok (text_at fields 3)
+    && is_ok (number_at fields 4) && is_ok (number_at fields 5)
+
+is_formed_signal : List (List ℕ) → Bool
+is_formed_signal fields = is_ok (name_at fields 0) && is_ok (name_at fields 1) && is_ok (number_at fields 2) && is_ok (number_at fields 3)
+    && is_ok (text_at fields 4)
+
+has_formed_fields : Header → List (List ℕ) → Bool
+has_formed_fields Frames fields = is_formed_frame fields
+has_formed_fields Placements fields = is_formed_placement fields
+has_formed_fields Signals fields = is_formed_signal fields
+
+pub is_formed_row : Header → List (List ℕ) → Bool
+is_formed_row header fields = (length fields == length (spelled header)) && has_formed_fields header fields
 
 -- ---- a line of a row: a field that has its form, and what stands behind it
 
@@ -62,7 +83,7 @@ unfolding number_at
 number_at-only fields place = behind-only (text_at fields place) number (text_at-only fields place) number-only
 
 -- whether the field at a place is a name, where it is this text
-name_of : (fields : List (List ℕ)) (place : ℕ) (text : List ℕ) → text_at fields place ≡ Ok text → is_ok (name_at fields place) ≡ is_name text
+pub name_of : (fields : List (List ℕ)) (place : ℕ) (text : List ℕ) → text_at fields place ≡ Ok text → is_ok (name_at fields place) ≡ is_name text
 unfolding name_at name ◌>>=◌
 name_of fields place text is = rw is (elim (is_name text) as (λ b. is_ok (cond b (Ok text) (Err BadName)) ≡ b) [ true ↦ refl | false ↦ refl ])
 
@@ -107,8 +128,8 @@ names_are : (fields : List (List ℕ)) (one other : List ℕ) → text_at fields
     → (is_name one && (is_name other && true)) ≡ (is_ok (name_at fields 0) && (is_ok (name_at fields 1) && true))
 names_are fields one other is0 is1 = rw (name_of fields 0 one is0) (rw (name_of fields 1 other is1) refl)
 
-frames : (fields : List (List ℕ)) → is_formed (frame_in fields) ≡ is_fine_frame fields
-unfolding frame_in frame_row is_fine_frame
+frames : (fields : List (List ℕ)) → is_formed (frame_in fields) ≡ is_formed_frame fields
+unfolding frame_in frame_row is_formed_frame
 frames fields =
     asked (text_at fields 0) _ _ (text_at-only fields 0) (λ frame is0.
     asked (text_at fields 1) _ (is_ok (name_at fields 0) && (is_ok (name_at fields 1) && true)) (text_at-only fields 1) (λ node is1.
@@ -116,8 +137,8 @@ frames fields =
     ∙ names_are fields frame node is0 is1))
     ∙ two (is_ok (text_at fields 0)) (is_ok (text_at fields 1)) (is_ok (name_at fields 0)) (is_ok (name_at fields 1)) (is_text fields 0) (is_text fields 1)
 
-placements : (p : Params) (fields : List (List ℕ)) → is_formed (placement_in p fields) ≡ is_fine_placement fields
-unfolding placement_in placement_row is_fine_placement
+placements : (p : Params) (fields : List (List ℕ)) → is_formed (placement_in p fields) ≡ is_formed_placement fields
+unfolding placement_in placement_row is_formed_placement
 placements p fields =
     asked (text_at fields 0) _ _ (text_at-only fields 0) (λ frame is0.
     asked (text_at fields 1) _ _ (text_at-only fields 1) (λ node is1.
@@ -130,8 +151,8 @@ placements p fields =
     ∙ six (is_ok (text_at fields 0)) (is_ok (text_at fields 1)) (is_ok (number_at fields 2)) (is_ok (text_at fields 3)) (is_ok (number_at fields 4))
     (is_ok (number_at fields 5)) (is_ok (name_at fields 0)) (is_ok (name_at fields 1)) (is_text fields 0) (is_text fields 1)
 
-signals : (fields : List (List ℕ)) → is_formed (signal_in fields) ≡ is_fine_signal fields
-unfolding signal_in signal_row is_fine_signal
+signals : (fields : List (List ℕ)) → is_formed (signal_in fields) ≡ is_formed_signal fields
+unfolding signal_in signal_row is_formed_signal
 signals fields =
     asked (text_at fields 0) _ _ (text_at-only fields 0) (λ frame is0.
     asked (text_at fields 1) _ _ (text_at-only fields 1) (λ x is1.
@@ -143,20 +164,20 @@ signals fields =
     ∙ five (is_ok (text_at fields 0)) (is_ok (text_at fields 1)) (is_ok (number_at fields 2)) (is_ok (number_at fields 3)) (is_ok (text_at fields 4))
     (is_ok (name_at fields 0)) (is_ok (name_at fields 1)) (is_text fields 0) (is_text fields 1)
 
-pub misformed_rows : MisformedRowsAreRefused
-unfolding is_fine_row row_of ◌>>◌ refuse◌when◌
+pub misformed_rows : (p : Params) (header : Header) (fields : List (List ℕ)) → is_formed_row header fields ≡ not (is_misformed (row_of p header fields))
+unfolding is_formed_row has_formed_fields row_of ◌>>◌ refuse◌when◌
 misformed_rows p Frames fields = by (length fields == length (spelled Frames))
   where
-    by : (fits : Bool) → (fits && is_fine_frame fields) ≡ is_formed ((refuse BadText when not fits) >> frame_in fields)
+    by : (fits : Bool) → (fits && is_formed_frame fields) ≡ is_formed ((refuse BadText when not fits) >> frame_in fields)
     by true = sym (frames fields)
     by false = refl
 misformed_rows p Placements fields = by (length fields == length (spelled Placements))
   where
-    by : (fits : Bool) → (fits && is_fine_placement fields) ≡ is_formed ((refuse BadText when not fits) >> placement_in p fields)
+    by : (fits : Bool) → (fits && is_formed_placement fields) ≡ is_formed ((refuse BadText when not fits) >> placement_in p fields)
     by true = sym (placements p fields)
     by false = refl
 misformed_rows p Signals fields = by (length fields == length (spelled Signals))
   where
-    by : (fits : Bool) → (fits && is_fine_signal fields) ≡ is_formed ((refuse BadText when not fits) >> signal_in fields)
+    by : (fits : Bool) → (fits && is_formed_signal fields) ≡ is_formed ((refuse BadText when not fits) >> signal_in fields)
     by true = sym (signals fields)
     by false = refl
