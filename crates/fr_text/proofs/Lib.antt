@@ -3,6 +3,7 @@ mod WritingLemmas
 pub mod ClusterFileLemmas
 pub mod WellFormedLaws
 pub mod FieldsLemmas
+pub mod PickLemmas
 pub mod ImportTextLemmas
 pub mod WordsLemmas
 pub mod ReportLemmas

@@ -2,6 +2,7 @@ pub mod ClusterFile
 pub mod SupplierTexts
 pub mod Fields
 pub mod RequestText
+pub mod Faults
 pub mod ImportText
 pub mod Words
 pub mod RoomLines
