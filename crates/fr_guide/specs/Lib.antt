@@ -4,5 +4,4 @@ pub mod Examining
 pub mod Laws
 pub mod Faults
 pub mod Requests
-pub mod RequestFields
 pub mod Rows

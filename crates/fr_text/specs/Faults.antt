@@ -2,7 +2,6 @@
 use Rattle.std.specs.Prelude.{◌≡◌, ℕ, Bool, true, false, List, [], ◌∷◌, Some, None, Result, Ok, Err}
 use Rattle.serde_json.specs.Data.{Data}
 use Rattle.serde_json.specs.View.{view}
-use Rattle.serde_json.specs.Find.{as_object}
 use Rattle.serde_json.specs.declared.value.Value.{Value}
 use Rattle.fr_base.specs.declared.request.Request.{Request}
 use Rattle.fr_text.specs.Fields.{value_of}
