@@ -10,7 +10,7 @@ use serde_json::Value;
 use std::alloc::Global;
 
 /// The fault of a field `do` that names no request, or is not there.
-pub fn no_request(alloc: Global, found: Option<&Value>) -> Result<String, NoMemory> {
+pub(super) fn no_request(alloc: Global, found: Option<&Value>) -> Result<String, NoMemory> {
     let words = words(alloc)?;
     match found {
         Some(Value::String(name)) => {
@@ -26,7 +26,7 @@ pub fn no_request(alloc: Global, found: Option<&Value>) -> Result<String, NoMemo
 }
 
 /// The faults of the fields of a request of this form, in words.
-pub fn field_faults(
+pub(super) fn field_faults(
     alloc: Global,
     form: &Form,
     faults: &[FieldFault<'_>],

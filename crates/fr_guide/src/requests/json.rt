@@ -4,7 +4,7 @@ use serde_json::{Error, Value};
 use std::alloc::Global;
 
 /// The fault of JSON that is not an object.
-pub fn no_object(alloc: Global, value: &Value) -> Result<String, NoMemory> {
+pub(super) fn no_object(alloc: Global, value: &Value) -> Result<String, NoMemory> {
     let kind = kind_name(value);
     format!(in alloc; "the text is {kind}, a request is an object, in braces")
 }
@@ -22,7 +22,7 @@ pub fn kind_name(value: &Value) -> &'static str {
 }
 
 /// Where a text, which begins behind so many bytes of its line, stops being JSON.
-pub fn no_json(
+pub(super) fn no_json(
     alloc: Global,
     text: &[u8],
     before: usize,
