@@ -17,6 +17,7 @@ pub mod Signals
 pub mod Bits
 pub mod Layouts
 pub mod Changes
+pub mod Forms
 pub mod Checks
 pub mod ImportRows
 pub mod Cells

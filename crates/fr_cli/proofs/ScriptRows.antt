@@ -12,6 +12,7 @@ use Rattle.serde_json.specs.Read.{number_of}
 use Rattle.fr_base.specs.Actors.{actor_of}
 use Rattle.fr_base.specs.Alone.{alone}
 use Rattle.fr_base.specs.Book.{opening}
+use Rattle.fr_base.specs.Forms.{form_of, forms}
 use Rattle.fr_base.specs.declared.answer.Answer.{Answer}
 use Rattle.fr_base.specs.declared.answer.Answer.TheVariants.{Done, Refused, Report as Told}
 use Rattle.fr_base.specs.declared.answer.ReportRows.TheVariants as rows_of
@@ -20,14 +21,14 @@ use Rattle.fr_base.specs.declared.name.Name.{Name}
 use Rattle.fr_base.specs.declared.refusal.Refusal.TheVariants.{BadText, UnknownKey, NoVariant, Taken, Unavailable}
 use Rattle.fr_base.proofs.WorkedRows.{a_small_register, file}
 use Rattle.fr_cli.specs.Asked.{ask_in}
-use Rattle.fr_text.specs.Fields.{value_of, is_among, only, text, text_or_null, whole}
+use Rattle.fr_text.specs.Fields.{value_of, is_among, only, as_whole, has_just, word_of, text, text_or_null, number}
 use Rattle.fr_text.specs.RequestText as request
 use Rattle.fr_text.specs.Script.{key_and_text, request_lines}
 use Rattle.fr_cli.specs.ScriptRun.{answers_of, answers_to, lines_of}
 
 -- what the rows below unfold
 unfoldable pub a_script : ⊤
-unfolding a_small_register actor_of key_and_text request_lines ask_in encode_utf8 scan_numeral chars is_utf8 value lex punctuate content after_number word number_of value_of is_among only text text_or_null whole request.open_variant request.release request.add_supplier request.add_node request.grant request.revoke request.add_frame request.drop_frame request.placing request.add_signal request.drop_signal request.import request.inventory request.report request.layout request.readers request.request_in request.request_of
+unfolding a_small_register actor_of key_and_text request_lines ask_in encode_utf8 scan_numeral chars is_utf8 value lex punctuate content after_number word number_of value_of is_among only as_whole has_just word_of text text_or_null number form_of forms request.integrators request.of_frames request.of_files request.queries request.request_in request.request_from request.request_of
 a_script = tt
 
 -- a line: a key, a space, and a request

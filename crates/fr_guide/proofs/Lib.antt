@@ -1,5 +1,4 @@
 pub mod EachWord
-pub mod FieldLaws
 pub mod RequestLaws
 pub mod FormedRows
 pub mod TakenRows

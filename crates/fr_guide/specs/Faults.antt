@@ -1,13 +1,9 @@
 -- Told line: each fault of a line is printed on a line of its own, behind the line's number. A line
 -- without faults is not printed.
-use Rattle.std.specs.Prelude.{ℕ, Bool, true, false, List, [], ◌∷◌, ◌++◌, codes, decimal, string_bytes}
+use Rattle.std.specs.Prelude.{ℕ, Bool, List, ◌++◌, codes, decimal, string_bytes}
 use Rattle.std.specs.List.{flat_map, list_all}
+pub use Rattle.fr_text.specs.Faults.{are_none}
 use Rattle.fr_guide.specs.declared.line_faults.LineFaults.{LineFaults}
-
--- whether the list is empty
-abbrev pub are_none : {A : Type 0} → List A → Bool
-are_none [] = true
-are_none (_ ∷ _) = false
 
 -- whether a line has no fault
 abbrev pub is_fine : LineFaults → Bool

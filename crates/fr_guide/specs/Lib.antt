@@ -4,7 +4,6 @@ pub mod Examining
 pub mod Laws
 pub mod Faults
 pub mod Requests
-pub mod RequestFields
 pub mod Rows
 pub mod RequestFile
 pub mod Advice

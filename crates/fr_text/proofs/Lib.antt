@@ -4,6 +4,7 @@ pub mod LineLemmas
 pub mod ClusterFileLemmas
 pub mod WellFormedLaws
 pub mod FieldsLemmas
+pub mod PickLemmas
 pub mod ImportTextLemmas
 pub mod WordsLemmas
 pub mod ReportLemmas

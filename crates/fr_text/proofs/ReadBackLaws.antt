@@ -8,8 +8,9 @@ use Rattle.fr_base.specs.declared.query.Inventory.TheVariants.{Cluster, Variants
 use Rattle.fr_base.specs.declared.query.Query.TheVariants.{Register as OfRegister, Variant as OfVariant, Difference as OfTwo}
 use Rattle.fr_base.specs.declared.report.Report.TheVariants.{Grants, Frames, Schedule, Gaps, Layout, Load, Room, Export}
 use Rattle.fr_base.specs.declared.import.Header.TheVariants as header
-use Rattle.fr_text.specs.Fields.{value_of, text, text_or_null, flag, whole, only, is_among}
-use Rattle.fr_text.specs.RequestText.{open_variant, release, add_supplier, set_key, add_node, grant, revoke, add_frame, drop_frame, placing, add_signal, drop_signal, import, trial, replace, inventory, report, layout, room, export, difference, readers, request_in, request_of}
+use Rattle.fr_base.specs.Forms.{form_of, forms}
+use Rattle.fr_text.specs.Fields.{value_of, word_of, text, text_or_null, flag, number, as_whole, has_just, only, is_among}
+use Rattle.fr_text.specs.RequestText.{integrators, of_frames, of_files, queries, request_in, request_from, request_of}
 use Rattle.fr_text.specs.Laws.{fields_of, numbers_of, WrittenIsReadBack}
 
 -- what two tests say that both pass
@@ -19,7 +20,7 @@ both false y h = cc
 
 -- the fields of a request are read as it
 pub fields_read : (r : Request) → IsTrue (list_all (λ n. nat_lt n (2 ^ 32)) (numbers_of r)) → request_in (fields_of r) ≡ Some r
-unfolding request_in readers open_variant release add_supplier set_key add_node grant revoke add_frame drop_frame placing add_signal drop_signal import trial replace inventory report layout room export difference fields_of text text_or_null flag whole only is_among
+unfolding request_in form_of forms integrators of_frames of_files queries fields_of word_of text text_or_null flag number as_whole has_just only is_among
 fields_read (OpenVariant v None) fit = refl
 fields_read (OpenVariant v (Some parent)) fit = refl
 fields_read (Release v) fit = refl
@@ -61,5 +62,5 @@ fields_read (Query (OfVariant v (Export header.Signals k))) fit = rw (both (nat_
 fields_read (Query (OfTwo v from)) fit = refl
 
 pub written_is_read_back : WrittenIsReadBack
-unfolding request_of value_of
+unfolding request_of request_from value_of
 written_is_read_back bytes request utf8 says fit = rw (utf8, says) (fields_read request fit)

@@ -1,6 +1,6 @@
--- Fields: a field of a JSON object is a text, a text that may be null or absent, a flag that may be absent, or a whole
--- number; and no other field is there.
-use Rattle.std.specs.Prelude.{◌≡◌, ◌⊎◌, ℕ, ◌^◌, Bool, false, List, [], ◌∷◌, nat_lt, if◌then◌else◌, Option, Some, None, is_some, ⊤, Result, Ok, Err, String}
+-- Fields: whether the fields of a JSON object are just those of a form, each of its kind; and the
+-- value of each.
+use Rattle.std.specs.Prelude.{ℕ, ◌^◌, Bool, true, false, List, [], ◌∷◌, ◌&&◌, ◌||◌, codes, map, nat_lt, if◌then◌else◌, Option, Some, None, is_some, option_and_then, unwrap_or, ⊤, String}
 use Rattle.std.specs.BTreeMap.{BTreeMap}
 use Rattle.std.specs.Global.{Global}
 use Rattle.std.specs.List.{list_all, list_any}
@@ -10,8 +10,9 @@ use Rattle.serde_json.specs.Find.{get_member, as_null, as_bool, as_str, as_numbe
 use Rattle.serde_json.specs.Read.{read}
 use Rattle.serde_json.specs.View.{members_view}
 use Rattle.serde_json.specs.declared.value.Value.{Value}
-use Rattle.fr_base.specs.declared.refusal.Refusal.{Refusal}
-use Rattle.fr_base.specs.declared.refusal.Refusal.TheVariants.{BadText, Unavailable}
+use Rattle.fr_base.specs.Forms.{FieldData}
+use Rattle.fr_base.specs.declared.forms.Kind.{Kind}
+use Rattle.fr_base.specs.declared.forms.Kind.TheVariants as kind
 
 -- The lines of a `do` are asked in order. Where one has no answer, the whole has none.
 infixl 10 ◌>>=◌
@@ -34,6 +35,12 @@ value_of bytes = do
   provided (is_utf8 bytes)
   read bytes
 
+-- the fields that a map of JSON values holds
+abbrev pub fields_in : BTreeMap (String Global) Value → Members
+fields_in fields = members_view fields.entries
+
+-- ---- which fields are there
+
 -- the names of the fields
 abbrev pub names_of : Members → List (List ℕ)
 names_of no_members = []
@@ -47,43 +54,59 @@ is_among names name = list_any (λ other. bytes_eq other name) names
 unfoldable pub only : List (List ℕ) → Members → Bool
 only names fields = list_all (is_among names) (names_of fields)
 
--- the text of the field of this name
-unfoldable pub text : List ℕ → Members → Option (List ℕ)
-text name fields = do
-  value ← get_member name fields
-  as_str value
-
--- the text of the field of this name; no text where the field is absent or null
-unfoldable pub text_or_null : List ℕ → Members → Option (Option (List ℕ))
-text_or_null name fields = text_in (get_member name fields)
-  where
-    text_in : Option Data → Option (Option (List ℕ))
-    text_in None = Some None
-    text_in (Some value) = if is_some (as_null value) then Some None else (as_str value >>= λ there. Some (Some there))
-
--- whether the field of this name is true; it may be absent, and is false then
-unfoldable pub flag : List ℕ → Members → Option Bool
-flag name fields = flag_in (get_member name fields)
-  where
-    flag_in : Option Data → Option Bool
-    flag_in None = Some false
-    flag_in (Some value) = as_bool value
-
--- the whole number of the field of this name, from 0 to 4,294,967,295
-unfoldable pub whole : List ℕ → Members → Option ℕ
-whole name fields = do
-  value ← get_member name fields
+-- the whole number that a value is, if it is one from 0 to 4,294,967,295
+unfoldable pub as_whole : Data → Option ℕ
+as_whole value = do
   spelled ← as_number value
   n ← as_u64 spelled
   provided (nat_lt n (2 ^ 32))
   Some n
 
--- the fields that a map of JSON values holds
-abbrev pub fields_in : BTreeMap (String Global) Value → Members
-fields_in fields = members_view fields.entries
+-- whether a value is of this kind
+abbrev pub is_of_kind : Kind → Data → Bool
+is_of_kind kind.Text value = is_some (as_str value)
+is_of_kind kind.TextOrNull value = is_some (as_null value) || is_some (as_str value)
+is_of_kind kind.Flag value = is_some (as_bool value)
+is_of_kind kind.Number value = is_some (as_whole value)
 
--- What was read, seen by view, is what the fields have. A refusal comes for want of memory, or
--- where the fields have nothing there.
-abbrev pub Reads : {A B : Type 0} → (A → B) → Option B → Result A Refusal → Type 0
-Reads view there (Ok x) = there ≡ Some (view x)
-Reads view there (Err refusal) = (refusal ≡ Unavailable) ⊎ ((refusal ≡ BadText) × (there ≡ None))
+-- whether the value, or its absence, is allowed for a field of this kind
+abbrev pub has_kind : Kind → Option Data → Bool
+has_kind kind.Text None = false
+has_kind kind.TextOrNull None = true
+has_kind kind.Flag None = true
+has_kind kind.Number None = false
+has_kind k (Some value) = is_of_kind k value
+
+-- whether the field is there as its kind has it
+abbrev pub has_field : Members → FieldData → Bool
+has_field fields field = has_kind field.1 (get_member field.0 fields)
+
+-- the names of a form's fields, and `do`
+abbrev pub names_in : List FieldData → List (List ℕ)
+names_in form = codes "do" ∷ map (λ field. field.0) form
+
+-- whether the fields are just those of the form and `do`, each of its kind
+unfoldable pub has_just : List FieldData → Members → Bool
+has_just form fields = only (names_in form) fields && list_all (has_field fields) form
+
+-- ---- the value of each
+
+-- the word of a request
+unfoldable pub word_of : Members → Option (List ℕ)
+word_of fields = option_and_then as_str (get_member (codes "do") fields)
+
+-- the text of the field of this name
+unfoldable pub text : Members → List ℕ → List ℕ
+text fields name = unwrap_or (option_and_then as_str (get_member name fields)) []
+
+-- the text of the field of this name; none where it is absent or null
+unfoldable pub text_or_null : Members → List ℕ → Option (List ℕ)
+text_or_null fields name = option_and_then as_str (get_member name fields)
+
+-- whether the field of this name is there and true
+unfoldable pub flag : Members → List ℕ → Bool
+flag fields name = unwrap_or (option_and_then as_bool (get_member name fields)) false
+
+-- the number of the field of this name
+unfoldable pub number : Members → List ℕ → ℕ
+number fields name = unwrap_or (option_and_then as_whole (get_member name fields)) 0

@@ -4,6 +4,7 @@
 
 mod answer_text;
 mod cluster_file;
+mod field_faults;
 mod fields;
 mod import_text;
 mod laws;
@@ -18,6 +19,8 @@ mod words;
 
 pub use answer_text::write_answer;
 pub use cluster_file::{ConfigFault, file_keys, is_file_key, read_config};
+pub use field_faults::FieldFault;
+pub use fields::{JsonFault, read_json};
 pub use import_text::{
     Records, header_of, names, number_at, read_import, read_number, read_rows, text_at,
 };
@@ -28,6 +31,6 @@ pub use laws::{
 pub use lines::{LINE_BYTES, RequestLines, key_and_text, next_line, split_once, split_script};
 pub use output::{Output, WRITE_RETRIES, WriteFailed};
 pub use report::write_lines;
-pub use request_text::read_command;
+pub use request_text::{RequestFault, read_command, read_request};
 pub use retry::try_again;
 pub use sink::Sink;

@@ -1,15 +1,34 @@
-//! Reads a request from the bytes of its line: one JSON object, whose field `do` names the request.
-ghost use Rattle.std.specs.Prelude.{◌≡◌, ◌⊎◌, Some, None, MatchResult};
-ghost use Rattle.fr_text.specs.Fields.{fields_in, Reads};
-ghost use Rattle.fr_text.specs.RequestText.{request_of, request_in};
+//! Reads a request from the bytes of its line: one JSON object, whose field `do` has the word of a
+//! form, and whose other fields are just those of the form.
+ghost use Rattle.std.specs.Prelude.{◌≡◌, ◌⊎◌, ◌++◌, Some, None, IfOk, MatchResult};
+ghost use Rattle.serde_json.specs.View.{view};
+ghost use Rattle.fr_text.specs.Fields.{fields_in};
+ghost use Rattle.fr_text.specs.Faults.{ReadsRequest};
+ghost use Rattle.fr_text.specs.RequestText.{integrators, of_files, of_frames, picked, queries, request_of};
 
+mod files;
+mod frames;
 mod integrator;
 mod queries;
-mod supplier;
 
-use crate::fields::{Fields, read_json, text_in};
-use fr_base::{Header, Inventory, Refusal, Report, Request};
-use std::alloc::Global;
+use crate::field_faults::{FieldFault, field_faults};
+use crate::fields::{Fields, JsonFault, field, read_json, word_in};
+use fr_base::{Form, NoMemory, Refusal, Request, form_of};
+use serde_json::Value;
+use std::alloc::{AllocError, Global};
+
+/// Why a value is no request.
+#[derive(Drop)]
+pub enum RequestFault<'v> {
+    /// Memory was wanting.
+    NoMemory,
+    /// The value is not an object.
+    NoObject,
+    /// The field `do`, if it is there, names no request.
+    NoRequest(Option<&'v Value>),
+    /// The fields are not just those of the form.
+    OfFields(&'static Form, Vec<FieldFault<'v>>),
+}
 
 /// Reads a request. Bytes that are no request are `BadText`; want of memory is `Unavailable`.
 #[tactic(auto, unfolding(crate::specs::RequestText::request_of))]
@@ -18,47 +37,58 @@ pub fn read_command(alloc: Global, bytes: &[u8]) -> Result<Request, Refusal>
         (λ refusal. (refusal ≡ Refusal.Unavailable)
         ⊎ ((refusal ≡ Refusal.BadText) × (request_of bytes.now ≡ None))) }
 {
-    let value = read_json(alloc, bytes)?;
-    let fields = value.as_object().ok_or(Refusal::BadText)?;
-    request_in(alloc, fields)
+    let value = match read_json(alloc, bytes) {
+        Ok(value) => value,
+        Err(JsonFault::NoMemory) => return Err(Refusal::Unavailable),
+        Err(_) => return Err(Refusal::BadText),
+    };
+    match read_request(alloc, &value) {
+        Ok(request) => Ok(request),
+        Err(RequestFault::NoMemory) => Err(Refusal::Unavailable),
+        Err(_) => Err(Refusal::BadText),
+    }
 }
 
-// The request that the fields are.
-#[tactic(auto, unfolding(crate::specs::RequestText::request_in, crate::specs::RequestText::readers))]
-fn request_in(alloc: Global, fields: &Fields) -> Result<Request, Refusal>
-    ensures { Reads (λ request. request) (request_in (fields_in fields.now)) result }
+/// Reads a request from a value, or says why it is none.
+#[tactic(auto, unfolding(crate::specs::RequestText::request_from, crate::specs::RequestText::request_in))]
+pub fn read_request<'v>(alloc: Global, value: &'v Value) -> Result<Request, RequestFault<'v>>
+    ensures { ReadsRequest (view value.now) result }
 {
-    match text_in(fields, "do")? {
-        "open_variant" => integrator::open_variant(alloc, fields),
-        "release" => integrator::release(alloc, fields),
-        "add_supplier" => integrator::add_supplier(alloc, fields),
-        "set_key" => integrator::set_key(alloc, fields),
-        "add_node" => integrator::add_node(alloc, fields),
-        "grant" => integrator::grant(alloc, fields),
-        "revoke" => integrator::revoke(alloc, fields),
-        "add_frame" => supplier::add_frame(alloc, fields),
-        "drop_frame" => supplier::drop_frame(alloc, fields),
-        "place" => supplier::placing(alloc, fields, false),
-        "unplace" => supplier::placing(alloc, fields, true),
-        "add_signal" => supplier::add_signal(alloc, fields),
-        "drop_signal" => supplier::drop_signal(alloc, fields),
-        "import" => supplier::import(alloc, fields),
-        "replace" => supplier::replace(alloc, fields),
-        "try" => supplier::trial(alloc, fields),
-        "cluster" => queries::inventory(fields, Inventory::Cluster),
-        "variants" => queries::inventory(fields, Inventory::Variants),
-        "nodes" => queries::inventory(fields, Inventory::Nodes),
-        "diff" => queries::difference(alloc, fields),
-        "grants" => queries::report(alloc, fields, Report::Grants),
-        "frames" => queries::report(alloc, fields, Report::Frames),
-        "schedule" => queries::report(alloc, fields, Report::Schedule),
-        "gaps" => queries::report(alloc, fields, Report::Gaps),
-        "layout" => queries::layout(alloc, fields),
-        "load" => queries::report(alloc, fields, Report::Load),
-        "room" => queries::room(alloc, fields),
-        "export_frames" => queries::export(alloc, fields, Header::Frames),
-        "export_placements" => queries::export(alloc, fields, Header::Placements),
-        "export_signals" => queries::export(alloc, fields, Header::Signals),
-        _ => Err(Refusal::BadText),
+    let Some(fields) = value.as_object() else {
+        return Err(RequestFault::NoObject);
+    };
+    let Some(word) = word_in(fields) else {
+        return Err(RequestFault::NoRequest(field(fields, "do")));
+    };
+    let Some(form) = form_of(word) else {
+        return Err(RequestFault::NoRequest(field(fields, "do")));
+    };
+    let Ok(faults) = field_faults(alloc, form, fields) else {
+        return Err(RequestFault::NoMemory);
+    };
+    if !faults.is_empty() {
+        return Err(RequestFault::OfFields(form, faults));
     }
+    match pick(alloc, word, fields) {
+        Ok(Some(request)) => Ok(request),
+        Ok(None) => Err(RequestFault::NoRequest(field(fields, "do"))),
+        Err(AllocError) => Err(RequestFault::NoMemory),
+    }
+}
+
+// The request of this word, made of the fields' values.
+fn pick(alloc: Global, word: &str, fields: &Fields) -> Result<Option<Request>, NoMemory>
+    ensures { IfOk result (λ request. request
+        ≡ picked (integrators ++ of_frames ++ of_files ++ queries) word.now (fields_in fields.now)) }
+{
+    if let Some(request) = integrator::pick(alloc, word, fields)? {
+        return Ok(Some(request));
+    }
+    if let Some(request) = frames::pick(alloc, word, fields)? {
+        return Ok(Some(request));
+    }
+    if let Some(request) = files::pick(alloc, word, fields)? {
+        return Ok(Some(request));
+    }
+    queries::pick(alloc, word, fields)
 }

@@ -1,79 +1,68 @@
-//! Reads the requests that change nothing.
-ghost use Rattle.fr_text.specs.Fields.{fields_in, Reads};
-ghost use Rattle.fr_text.specs.RequestText.{difference, export, inventory, layout, report, room};
+//! The requests that change nothing, made of the values of their fields.
+ghost use Rattle.std.specs.Prelude.{◌≡◌, IfOk, codes};
+ghost use Rattle.fr_base.specs.declared.query.Query.TheVariants as query;
+ghost use Rattle.fr_base.specs.declared.report.Report.TheVariants as report;
+ghost use Rattle.fr_base.specs.declared.request.Request.TheVariants as request;
+ghost use Rattle.fr_text.specs.Fields.{fields_in, number, text};
+ghost use Rattle.fr_text.specs.RequestText.{picked, queries};
 
-use crate::fields::{Fields, allow_only, copy_text, number_in};
-use fr_base::{Header, Inventory, Query, Refusal, Report, Request, Text};
+use crate::fields::{Fields, copy_text, number_in};
+use fr_base::{Header, Inventory, NoMemory, Query, Report, Request, Text};
 use std::alloc::Global;
 
-/// The request for what the register holds.
-#[tactic(auto, unfolding(crate::specs::RequestText::inventory))]
-pub(super) fn inventory(fields: &Fields, asked: Inventory) -> Result<Request, Refusal>
-    ensures { Reads (λ request. request) (inventory asked (fields_in fields.now)) result }
+/// The request of this word, if it is one of these.
+#[tactic(auto, unfolding(crate::specs::RequestText::queries))]
+pub(super) fn pick(alloc: Global, word: &str, fields: &Fields) -> Result<Option<Request>, NoMemory>
+    ensures { IfOk result (λ request. request ≡ picked queries word.now (fields_in fields.now)) }
 {
-    allow_only(fields, &["do"])?;
-    Ok(Request::Query(Query::Register(asked)))
+    match word {
+        "cluster" => Ok(Some(Request::Query(Query::Register(Inventory::Cluster)))),
+        "variants" => Ok(Some(Request::Query(Query::Register(Inventory::Variants)))),
+        "nodes" => Ok(Some(Request::Query(Query::Register(Inventory::Nodes)))),
+        "diff" => Ok(Some(Request::Query(Query::Difference {
+            variant: copy_text(alloc, fields, "variant")?,
+            from: copy_text(alloc, fields, "from")?,
+        }))),
+        "grants" => of_variant(alloc, fields, Report::Grants),
+        "frames" => of_variant(alloc, fields, Report::Frames),
+        "schedule" => of_variant(alloc, fields, Report::Schedule),
+        "gaps" => of_variant(alloc, fields, Report::Gaps),
+        "load" => of_variant(alloc, fields, Report::Load),
+        "layout" => {
+            let frame = copy_text(alloc, fields, "frame")?;
+            of_variant(alloc, fields, Report::Layout { frame })
+        }
+        "room" => {
+            let frame = copy_text(alloc, fields, "frame")?;
+            let repetition = number_in(fields, "repetition");
+            of_variant(alloc, fields, Report::Room { frame, repetition })
+        }
+        "export_frames" => export(alloc, fields, Header::Frames),
+        "export_placements" => export(alloc, fields, Header::Placements),
+        "export_signals" => export(alloc, fields, Header::Signals),
+        _ => Ok(None),
+    }
 }
 
-/// The request for this report of a variant. It has no fields of its own.
-#[tactic(auto, unfolding(crate::specs::RequestText::report))]
-pub(super) fn report(
+// The request for this report of the variant.
+fn of_variant(
     alloc: Global,
     fields: &Fields,
-    asked: Report<Text>,
-) -> Result<Request, Refusal>
-    ensures { Reads (λ request. request) (report asked (fields_in fields.now)) result }
+    report: Report<Text>,
+) -> Result<Option<Request>, NoMemory>
+    ensures { IfOk result (λ made. made ≡ Some (request.Query
+        (query.Variant (text (fields_in fields.now) (codes "variant")) report))) }
 {
-    allow_only(fields, &["do", "variant"])?;
     let variant = copy_text(alloc, fields, "variant")?;
-    let report = asked;
-    Ok(Request::Query(Query::Variant { variant, report }))
+    Ok(Some(Request::Query(Query::Variant { variant, report })))
 }
 
-/// The request for what differs between two variants.
-#[tactic(auto, unfolding(crate::specs::RequestText::difference))]
-pub(super) fn difference(alloc: Global, fields: &Fields) -> Result<Request, Refusal>
-    ensures { Reads (λ request. request) (difference (fields_in fields.now)) result }
+// The request for a part of the variant's records below this header.
+fn export(alloc: Global, fields: &Fields, header: Header) -> Result<Option<Request>, NoMemory>
+    ensures { let fields = fields_in fields.now in
+        IfOk result (λ made. made ≡ Some (request.Query (query.Variant (text fields (codes "variant"))
+        (report.Export header (number fields (codes "part")))))) }
 {
-    allow_only(fields, &["do", "variant", "from"])?;
-    let variant = copy_text(alloc, fields, "variant")?;
-    let from = copy_text(alloc, fields, "from")?;
-    Ok(Request::Query(Query::Difference { variant, from }))
-}
-
-/// The request for the layout of a frame.
-#[tactic(auto, unfolding(crate::specs::RequestText::layout))]
-pub(super) fn layout(alloc: Global, fields: &Fields) -> Result<Request, Refusal>
-    ensures { Reads (λ request. request) (layout (fields_in fields.now)) result }
-{
-    allow_only(fields, &["do", "variant", "frame"])?;
-    let variant = copy_text(alloc, fields, "variant")?;
-    let frame = copy_text(alloc, fields, "frame")?;
-    let report = Report::Layout { frame };
-    Ok(Request::Query(Query::Variant { variant, report }))
-}
-
-/// The request for the room for a frame.
-#[tactic(auto, unfolding(crate::specs::RequestText::room))]
-pub(super) fn room(alloc: Global, fields: &Fields) -> Result<Request, Refusal>
-    ensures { Reads (λ request. request) (room (fields_in fields.now)) result }
-{
-    allow_only(fields, &["do", "variant", "frame", "repetition"])?;
-    let variant = copy_text(alloc, fields, "variant")?;
-    let frame = copy_text(alloc, fields, "frame")?;
-    let repetition = number_in(fields, "repetition")?;
-    let report = Report::Room { frame, repetition };
-    Ok(Request::Query(Query::Variant { variant, report }))
-}
-
-/// The request for a part of the records below this header.
-#[tactic(auto, unfolding(crate::specs::RequestText::export))]
-pub(super) fn export(alloc: Global, fields: &Fields, header: Header) -> Result<Request, Refusal>
-    ensures { Reads (λ request. request) (export header (fields_in fields.now)) result }
-{
-    allow_only(fields, &["do", "variant", "part"])?;
-    let variant = copy_text(alloc, fields, "variant")?;
-    let part = number_in(fields, "part")?;
-    let report = Report::Export { header, part };
-    Ok(Request::Query(Query::Variant { variant, report }))
+    let part = number_in(fields, "part");
+    of_variant(alloc, fields, Report::Export { header, part })
 }

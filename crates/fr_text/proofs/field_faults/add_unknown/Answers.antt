@@ -1,16 +1,17 @@
-use Rattle.std.proofs.Common.{◌∙◌, ◌∷◌, ◌&&◌, ap, sym, codes, map, string_bytes}
+use Rattle.std.proofs.Common.{◌∙◌, ◌&&◌, ap, sym, string_bytes}
 use Rattle.std.proofs.lemmas.Map.Iter.{iter_end}
 use Rattle.std.specs.List.{list_all}
 use Rattle.std.specs.Map.Iter.{deref}
+use Rattle.fr_base.specs.Forms.{fields_of}
 use Rattle.fr_text.proofs.FieldsLemmas.{list_all-names_of}
-use Rattle.fr_text.specs.Fields.{is_among, only}
-use Rattle.fr_guide.specs.Faults.{are_none}
-use Rattle.fr_guide.proofs.requests.fields.add_unknown.Goals as goal
+use Rattle.fr_text.specs.Faults.{are_none}
+use Rattle.fr_text.specs.Fields.{is_among, names_in, only}
+use Rattle.fr_text.proofs.field_faults.add_unknown.Goals as goal
 
 pub returns : goal.returns
 unfolding only
 returns c =
-    let known = codes "do" ∷ map (λ name. name.now) c.args.names.now in
+    let known = names_in (fields_of c.args.form.now) in
     let start = c.into_iter-name-iterator.ensures.into_iter_gives ∙ c.keys-name-items.ensures.rest in
     let whole = (iter_end deref _ c.loop-name.yielded _ c.loop-name.name-iterator c.next.new.self c.next.result start c.loop-name.yielded_by c.in-None.is c.next.ensures.steps).0 in
     c.loop-name.invariant ∙ ap (λ keys. are_none c.args.faults.now.items && list_all (λ key. is_among known (string_bytes key)) keys) whole

@@ -1,6 +1,0 @@
-use Rattle.fr_text.specs.RequestText.{add_signal}
-use Rattle.fr_text.proofs.request_text.supplier.add_signal.Goals as goal
-
-pub returns : goal.returns
-unfolding add_signal
-returns c = rw (c.in_ok-allow_only.ensures.there, c.in_ok-copy_text.ensures, c.in_ok-copy_text-2.ensures, c.in_ok-copy_text-3.ensures, c.in_ok-number_in.ensures.there, c.in_ok-number_in-2.ensures.there, c.in_ok-copy_text-4.ensures)
