@@ -28,7 +28,7 @@ use Rattle.fr_picture.specs.Texts.{together, fixed_text}
 
 unfoldable pub head_text : Name → List ℕ
 head_text variant =
-    together (codes "<!DOCTYPE html>\n<html lang=en>\n<meta charset=utf-8>\n<title>Plan of " ∷ variant ∷ codes "</title>\n<style>@page{@bottom-left{content:\"Variant "
+    together (codes "<!DOCTYPE html>\n<html lang=en>\n<meta charset=utf-8>\n<meta name=viewport content=\"width=device-width,initial-scale=1\">\n<title>Plan of " ∷ variant ∷ codes "</title>\n<style>@page{@bottom-left{content:\"Variant "
     ∷ variant ∷ codes "\"}}" ∷ [])
 
 unfoldable pub heading_text : Name → List ℕ

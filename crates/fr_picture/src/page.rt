@@ -83,7 +83,7 @@ fn push_head(variant: Name, out: &mut String) -> Result<(), NoMemory>
 {
     write!(
         out,
-        "<!DOCTYPE html>\n<html lang=en>\n<meta charset=utf-8>\n<title>Plan of {variant}</title>\n<style>@page{{@bottom-left{{content:\"Variant {variant}\"}}}}"
+        "<!DOCTYPE html>\n<html lang=en>\n<meta charset=utf-8>\n<meta name=viewport content=\"width=device-width,initial-scale=1\">\n<title>Plan of {variant}</title>\n<style>@page{{@bottom-left{{content:\"Variant {variant}\"}}}}"
     )
 }
 
