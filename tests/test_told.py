@@ -230,6 +230,33 @@ class Pictures(RegisterCase):
             self.see(f"{word} stands there", True, word in texts.lower())
 
 
+# Where a frame's rectangles lead, its title's names, slot and channel, and its numbers; a row, its number and names, and where its placements lead.
+DRAWN = re.compile(r"<a[^>]* id=(\w+) href=#(r\d+)><title>(\w+)\n(\w+) of (\w+)\n(\d+) ([AB]) [^<]*</title><(?:use|path)[^>]*/>.*?<text[^>]*>(\d+)[ <]")
+ROW = re.compile(r"<tr id=(r\d+)><td>(\d+)<td>(\w+)<td>(\w+)<td>(\w+)<td>((?:<a.*</a>\n)*)")
+BACK = re.compile(r"<a href=#(\w+)>(\d+) ([AB]+) \d+/\d+</a>\n")
+
+
+class Ways(RegisterCase):
+    """From a frame in the drawing one comes to its row, and from a placement there to the frame in that slot. Nothing hides these ways from a screen
+    reader or a keyboard, and a narrow screen is told that the page is as wide as it is."""
+
+    def test_ways(self):
+        page = drawn(self.folder)
+        frames = {id: (row, (frame, node, supplier), slot, channel, number) for id, row, frame, node, supplier, slot, channel, number in DRAWN.findall(page)}
+        rows = {row: (number, names, BACK.findall(placed)) for row, number, *names, placed in ROW.findall(page)}
+        self.see("what is drawn, and the rows", (True, True), (len(frames) == page.count("<a id=") + page.count("<a class=o id=") > 20, len(rows) > 10))
+        for id, (row, names, slot, channel, number) in frames.items():
+            self.see(f"where {id} leads, and its number", (list(names), number), (rows[row][1], rows[row][0]))
+        for row, (_, names, placed) in rows.items():
+            for id, slot, channels in placed:
+                self.see(f"where a placement of {row} leads", (row, tuple(names), slot, channels[0]), frames[id][:4])
+
+    def test_reach(self):
+        page = drawn(self.folder)
+        self.see("what hides links", [], re.findall(r"role=(?:img|presentation)|aria-hidden=true><a|tabindex=-", page))
+        self.see("the width", 1, page.count('<meta name=viewport content="width=device-width,initial-scale=1">'))
+
+
 class SeenInABrowser(RegisterCase):
     """Each of a picture's texts can be seen where there is chromium, on a screen and on a narrow one."""
 

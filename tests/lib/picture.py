@@ -39,16 +39,18 @@ class Part:
 
 
 class Page(HTMLParser):
-    """The parts of a page, its legend, index and tables, and where its links lead. Each shape of a lane has its attributes, title and text."""
+    """The parts of a page, its legend, index and tables, and where its links lead. Each shape of a lane, and of a link in it, has its attributes and text."""
 
     def __init__(self, text):
         super().__init__()
         self.shapes = {}  # by their names, as lists of rectangles
         self.parts, self.small, self.keys, self.index, self.tables, self.text = [], [], [], [], [], ""
         self.ids, self.links, self.headings = [], [], {}
+        self.metas, self.backs = {}, {}  # what the page says of itself; by its row, where each placement of a frame leads
         self.open = []
         self.hatched = []  # the cycles, each by one more, that have a line across in a granted lane
-        self.lane = self.shape = self.heading = self.titled = None
+        self.lane = self.link = self.shape = self.heading = self.titled = None
+        self.boxed = False
         self.feed(text)
         self.close()
 
@@ -70,8 +72,11 @@ class Page(HTMLParser):
             self.headings |= {self.titled: ""} if self.titled else {}
         elif tag == "div" and given.get("class") == "plan":
             assert "tabindex" in given and given["aria-labelledby"] == self.heading, given
-        elif tag == "svg" and given.get("role") == "img":
-            assert given["aria-labelledby"] == self.heading, given
+            self.boxed = True
+        elif tag == "svg" and self.boxed:
+            # What it has can be focused, so it is no image.
+            assert given["role"] == "none", given
+            self.boxed = False
             self.parts.append(Part(self.heading, given))
         elif tag == "g" and self.parts and not self.tables:
             self.parts[-1].group = given["id"]
@@ -84,11 +89,18 @@ class Page(HTMLParser):
         elif tag == "path" and "g" in self.open and not self.parts and "id" not in given:
             self.hatched += [int(y) for y in re.findall(r"M0 (\d+)l\d+-1", given["d"])]
         elif self.parts and tag == "svg" and not self.tables:
-            self.lane = {"tag": tag, **given, "title": "", "shapes": []}
+            self.lane = {"tag": tag, **given, "title": "", "shapes": [], "links": []}
             self.parts[-1].lanes.append(self.lane)
+        elif self.lane is not None and tag == "a":
+            self.link = {**given, "title": "", "shapes": []}
+            self.lane["links"].append(self.link)
         elif self.lane is not None and tag in ("use", "path", "text"):
-            self.shape = {"tag": tag, **given, "title": "", "text": ""}
-            self.lane["shapes"].append(self.shape)
+            self.shape = {"tag": tag, **given, "text": ""}
+            (self.link or self.lane)["shapes"].append(self.shape)
+        elif tag == "meta":
+            self.metas |= {given["name"]: given["content"]} if "name" in given else {}
+        elif tag == "a" and "td" in self.open:
+            self.backs.setdefault(self.tables[-1][-1][0], []).append(given["href"])
         elif tag == "ul":
             self.list = self.index if given.get("class") == "index" else self.keys
         elif tag == "li":
@@ -113,6 +125,8 @@ class Page(HTMLParser):
             pass
         if tag in ("use", "path", "text"):
             self.shape = None
+        elif tag == "a":
+            self.link = None
         elif tag == "svg":
             self.lane = None
 
@@ -127,10 +141,10 @@ class Page(HTMLParser):
         elif "h2" in inside and self.titled:
             self.headings[self.titled] += data
         elif self.shape is not None:
-            self.shape["title" if "title" in inside else "text"] += data
+            self.shape["text"] += data
         elif self.lane is not None:
             assert "title" in inside, data
-            self.lane["title"] += data
+            (self.link or self.lane)["title"] += data
         elif "style" not in inside:
             self.text += data
 
@@ -177,7 +191,7 @@ def read(text, channels, count):
                     said, first, last = GAP.fullmatch(shape["text"]).groups()
                     gaps.add((int(first), int(last or first), said))
                     shown.add(int(first))
-                elif shape["tag"] == "text" and shape["y"] in ("-1", str(count)) and not shape["title"] and here in lanes and len(lanes[here].marks) < 2:
+                elif shape["tag"] == "text" and shape["y"] in ("-1", str(count)) and here in lanes and len(lanes[here].marks) < 2:
                     lanes[here].marks.append((shape["y"], shape["text"]))
                 elif shape.get("href") == "#free":
                     free.add(here)
@@ -185,23 +199,36 @@ def read(text, channels, count):
                     node, supplier, slot, channel = HELD.fullmatch(drawn["title"]).groups()
                     assert (int(slot), channel) == here, drawn
                     lanes.setdefault(here, Lane()).holders.append((node, supplier))
-                elif shape["title"]:
-                    frame, node, supplier, slot, channel, repeated, single = TITLE.fullmatch(shape["title"]).groups()
-                    if shape["tag"] == "use":
-                        rectangles = [(bx, int(shape.get("y", 0)) + by, bw, bh) for bx, by, bw, bh in page.shapes[shape["href"][1:]]]
-                    else:
-                        rectangles = boxes(shape["d"])
-                    assert (int(slot), channel) == here, shape
-                    assert all(bx == 0 and not [at for at in places if x < at < x + bw] for bx, _, bw, _ in rectangles), shape
-                    told = sorted(cycles_of(repeated or single, count))
-                    assert told == sorted(c for _, y, _, high in rectangles for c in range(y, y + high)), shape
-                    lanes.setdefault(here, Lane()).kinds.append((frame, node, supplier, drawn["class"], [(y, high) for _, y, _, high in rectangles]))
+            for link in drawn["links"]:
+                frame, node, supplier, slot, channel, repeated, single = TITLE.fullmatch(link["title"]).groups()
+                shape, *labels = link["shapes"]
+                if shape["tag"] == "use":
+                    rectangles = [(bx, int(shape.get("y", 0)) + by, bw, bh) for bx, by, bw, bh in page.shapes[shape["href"][1:]]]
+                else:
+                    rectangles = boxes(shape["d"])
+                assert (int(slot), channel) == here, link
+                assert all(bx == 0 and not [at for at in places if x < at < x + bw] for bx, _, bw, _ in rectangles), link
+                told = sorted(cycles_of(repeated or single, count))
+                assert told == sorted(c for _, y, _, high in rectangles for c in range(y, y + high)), link
+                number = number_of(link, here, labels, min(rectangles, key=lambda box: box[1]), frame)
+                lanes.setdefault(here, Lane()).kinds.append((frame, node, supplier, drawn["class"], [(y, high) for _, y, _, high in rectangles], number))
         firsts.append(min(shown | set(columns.values())))
     # Each part has its heading; where there are more, the overview shows each and leads to it.
     assert [page.headings[part.heading].split(": ")[1] for part in page.parts] == [f"slots from {first} on" for first in firsts], page.headings
     small = [(f"#{part.heading}", f"#{part.group}", f"from {first}") for part, first in zip(page.parts, firsts)]
     assert [(to, what, said.strip()) for to, what, said in page.small] == (small if len(small) > 1 else []), page.small
     return page, lanes, gaps, free
+
+
+def number_of(link, here, labels, first, frame):
+    """The number of the row to which a frame's rectangles lead. It stands in the first of them, and the frame's name beside it, or down below it."""
+    number = link["href"].removeprefix("#r")
+    assert link["id"] == f"{here[0]}{here[1]}{number}", link
+    (said, at), *more = [(label["text"].split(" "), int(label["y"])) for label in labels]
+    _, top, _, high = first
+    assert at == top and said in ([number], [number, frame]), link
+    assert not more or more == [([frame], top + 1)] and said == [number] and high > 1, link
+    return int(number)
 
 
 def bits_of(start, length, order):
@@ -243,18 +270,20 @@ def compare(text, plan):
     compare_suppliers(found.same, page, lanes, marks, plan)
     compare_slots(found.same, page, marks, plan)
     compare_frames(found.same, page, marks, plan)
+    compare_ways(found.same, page, lanes)
+    found.same("what a narrow screen is told", "width=device-width,initial-scale=1", page.metas.get("viewport"))
     return found.lines
 
 
 def compare_drawing(same, page, lanes, gaps, free, plan):
     """The drawing has the plan's cells and grants, and the rest of the slots as gaps and crossed lanes."""
     same("the cycles in which a granted lane is hatched", list(range(1, plan["cycles"] + 1)), page.hatched)
-    drawn = [(c, slot, channel, frame, node, supplier) for (slot, channel), lane in lanes.items() for frame, node, supplier, _, runs in lane.kinds for y, high in runs for c in range(y, y + high)]
+    drawn = [(c, slot, channel, frame, node, supplier) for (slot, channel), lane in lanes.items() for frame, node, supplier, _, runs, _ in lane.kinds for y, high in runs for c in range(y, y + high)]
     same("the cells", sorted(plan["cells"]), sorted(drawn))
     held = [(slot, channel, node, supplier) for (slot, channel), lane in lanes.items() for node, supplier in lane.holders]
     same("the grants", sorted(plan["grants"]), sorted(held))
     for (slot, channel), lane in lanes.items():
-        for frame, _, supplier, _, runs in lane.kinds:
+        for frame, _, supplier, _, runs, _ in lane.kinds:
             ends = {y + high for y, high in runs}
             same(f"rectangles of {frame} in slot {slot} on {channel} that could be one", [], [y for y, _ in runs if y in ends])
         names = [kind[0::2][:2] for kind in lane.kinds]
@@ -353,3 +382,13 @@ def compare_frames(same, page, marks, plan):
     same("the frames' numbers", [(f"r{number}", str(number)) for number in range(1, len(got) + 1)], numbers)
     entries = sorted(((name, number, supplier) for number, (name, _, supplier, _, _) in enumerate(got, 1)), key=lambda entry: entry[:2])
     same("the index", [(f"{name} {marks[supplier]} {number}", f"#r{number}") for name, number, supplier in entries], [(text.strip(), to) for text, to in page.index])
+
+
+def compare_ways(same, page, lanes):
+    """Each frame's rectangles in a lane lead to its row, and say that row's number; from there each placement leads to them."""
+    rows = {(name, node, supplier): (int(number), placed) for _, number, name, node, supplier, placed, *_ in page.tables[1][2:]}
+    drawn = [(frame, node, supplier, number) for lane in lanes.values() for frame, node, supplier, _, _, number in lane.kinds]
+    same("numbers that are not those of the frame's row", [], [it for it in drawn if it[3] != rows[it[:3]][0]])
+    for number, placed in rows.values():
+        ways = [f"#{slot}{channels[0]}{number}" for slot, channels, _ in (line.split() for line in placed.split("\n") if line)]
+        same(f"where the placements of row {number} lead", ways, page.backs.get(f"r{number}", []))

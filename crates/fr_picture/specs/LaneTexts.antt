@@ -10,6 +10,7 @@ use Rattle.fr_picture.specs.declared.drawing.lane.Lane.{Lane}
 use Rattle.fr_picture.specs.declared.drawing.marks.Shows.{Shows}
 use Rattle.fr_picture.specs.declared.drawing.marks.Shows.TheVariants.{Nothing, Slot, Gap}
 use Rattle.fr_picture.specs.declared.drawing.rectangle.Rectangle.{Rectangle}
+use Rattle.fr_picture.specs.declared.frame_index.Entry.{Entry}
 use Rattle.fr_picture.specs.declared.plan.Plan.{Plan}
 use Rattle.fr_picture.specs.declared.texts.Fixed.TheVariants.{Free, GapOfNobody, GapOfOthers, LaneEnd, TextEnd}
 use Rattle.fr_picture.specs.Kinds.{rectangles_text}
@@ -21,10 +22,10 @@ unfoldable pub heading_text : Name → ℕ → List ℕ
 heading_text variant first =
     together (codes "</g></svg></div>\n<h2 id=p" ∷ decimal first ∷ codes ">Variant " ∷ variant ∷ codes ": slots from " ∷ decimal first ∷ codes " on</h2>\n" ∷ [])
 
--- a box that scrolls, and the drawing in it, both named by the heading
+-- a box that scrolls, named by the heading, and the drawing in it. What it has can be focused, so it is no image.
 unfoldable pub box_start : ℕ → List ℕ
 box_start first =
-    together (codes "<div class=plan role=group aria-labelledby=p" ∷ decimal first ∷ codes " tabindex=0><svg role=img aria-labelledby=p" ∷ decimal first ∷ [])
+    together (codes "<div class=plan role=group aria-labelledby=p" ∷ decimal first ∷ codes " tabindex=0><svg role=none" ∷ [])
 
 unfoldable pub view_text : ℕ → ℕ → List ℕ
 view_text height first = together (codes " viewBox=\"0 -4 138 " ∷ decimal height ∷ codes "\"><use href=#cycles /><g id=g" ∷ decimal first ∷ codes ">\n" ∷ [])
@@ -97,17 +98,17 @@ unfoldable pub start_text : ℕ → ℕ → List ℕ
 start_text colour x = together (codes "<svg class=c" ∷ decimal colour ∷ codes " x=" ∷ decimal x ∷ codes ">" ∷ [])
 
 -- what is drawn of a lane, in its colour: its grant, and over it its rectangles
-unfoldable pub drawn_text : Plan → Scale → Lane → List ℕ
-drawn_text plan scale l =
+unfoldable pub drawn_text : Plan → Scale → List Entry → Lane → List ℕ
+drawn_text plan scale index l =
     start_text (colour_of plan.suppliers.items l.grants.items) l.place.x ++ grants_text plan.suppliers.items scale.cycles l.grants.items
-    ++ shows_text plan.supplier l.place.shows ++ ungranted_text l.place.shows l.grants.items ++ rectangles_text scale l.rectangles.items
+    ++ shows_text plan.supplier l.place.shows ++ ungranted_text l.place.shows l.grants.items ++ rectangles_text scale index l.rectangles.items
     ++ fixed_text LaneEnd
 
 -- a lane, where there is something to draw
-unfoldable pub lane_text : Plan → Scale → Lane → List ℕ
-lane_text plan scale l =
+unfoldable pub lane_text : Plan → Scale → List Entry → Lane → List ℕ
+lane_text plan scale index l =
     opens_text plan.variant scale.height l.place.opens ++ (if is_bare l.place.shows l.grants.items l.rectangles.items then []
-    else drawn_text plan scale l)
+    else drawn_text plan scale index l)
 
-unfoldable pub lanes_text : Plan → Scale → List Lane → List ℕ
-lanes_text plan scale lanes = flat_map (lane_text plan scale) lanes
+unfoldable pub lanes_text : Plan → Scale → List Entry → List Lane → List ℕ
+lanes_text plan scale index lanes = flat_map (lane_text plan scale index) lanes

@@ -98,10 +98,10 @@ legend_end (Some supplier) = fixed_text fixed.LegendEndOfOne
 unfoldable pub suppliers_text : Plan → List Share → List ℕ
 suppliers_text plan shares = fixed_text fixed.LegendStart ++ legend_text shares ++ legend_end plan.supplier
 
-unfoldable pub drawing_text : Plan → Scale → List Lane → List ℕ
-drawing_text plan scale lanes =
+unfoldable pub drawing_text : Plan → Scale → List Entry → List Lane → List ℕ
+drawing_text plan scale index lanes =
     fixed_text fixed.ShapesStart ++ shapes_text scale ++ fixed_text fixed.NumbersStart ++ cycles_text scale.cycles ++ bands_text plan.params.channels
-    ++ lanes_text plan scale lanes
+    ++ lanes_text plan scale index lanes
 
 -- the end of the index, and the head of the table of frames, which each printed page repeats
 unfoldable pub frames_head : Name → List ℕ
@@ -115,7 +115,7 @@ frame_parts plan index =
 
 unfoldable pub page_text : Plan → Drawing → List Entry → List Share → List ℕ
 page_text plan d index shares =
-    top_text plan ++ suppliers_text plan shares ++ overview_text d.scale.cycles (starts_of d.lanes.items) ++ drawing_text plan d.scale d.lanes.items
+    top_text plan ++ suppliers_text plan shares ++ overview_text d.scale.cycles (starts_of d.lanes.items) ++ drawing_text plan d.scale index d.lanes.items
     ++ slot_table_text plan d.scale.cycles d.lanes.items ++ frame_parts plan index
 
 -- how full the grants of the plan's suppliers are

@@ -1,6 +1,7 @@
 //! The page of a variant.
 ghost use Rattle.std.specs.Prelude.{◌≡◌, OnOk, IfOk};
 ghost use Rattle.std.specs.String.{string_bytes};
+ghost use Rattle.fr_picture.specs.FrameIndexes.{AreByName};
 ghost use Rattle.fr_picture.specs.Pages.{IsPage, bands_text, cluster_text, cycle_figures, cycle_text, cycles_text, drawing_text, figures_text, frame_parts, frames_head, head_text, heading_text, legend_end, opened_text, page_text, parent_text, segment_figures, state_text, strips_text, suppliers_text, top_text, viewer_text};
 ghost use Rattle.fr_picture.specs.Texts.{Appends};
 
@@ -42,6 +43,7 @@ fn write_parts(
     index: &[Entry],
     shares: &[Share],
 ) -> Result<String, NoMemory>
+    requires by_name { AreByName index.now }
     ensures { IfOk result (λ text.
         string_bytes text ≡ page_text plan.now drawing.now index.now shares.now) }
 {
@@ -52,7 +54,7 @@ fn write_parts(
     push_top(plan, &mut out)?;
     push_suppliers(plan, shares, &mut out)?;
     push_overview(cycles, starts.as_slice(), &mut out)?;
-    push_drawing(alloc, plan, drawing.scale, lanes, &mut out)?;
+    push_drawing(alloc, plan, drawing.scale, index, lanes, &mut out)?;
     push_slot_table(alloc, plan, cycles, lanes, &mut out)?;
     push_frame_parts(plan, index, &mut out)?;
     Ok(out)
@@ -214,17 +216,20 @@ fn push_drawing(
     alloc: Global,
     plan: &Plan,
     scale: Scale,
+    index: &[Entry],
     lanes: &[Lane],
     out: &mut String,
 ) -> Result<(), NoMemory>
-    ensures { OnOk result (Appends out.old out.new (drawing_text plan.now scale lanes.now)) }
+    requires by_name { AreByName index.now }
+    ensures { OnOk result (Appends out.old out.new
+        (drawing_text plan.now scale index.now lanes.now)) }
 {
     push_fixed(Fixed::ShapesStart, out)?;
     push_shapes(scale, out)?;
     push_fixed(Fixed::NumbersStart, out)?;
     push_cycles(scale.cycles, out)?;
     push_bands(plan.params.channels(), out)?;
-    push_lanes(alloc, plan, scale, lanes, out)
+    push_lanes(alloc, plan, scale, index, lanes, out)
 }
 
 // Appends the numbers of the cycles.

@@ -24,13 +24,15 @@ a{color:inherit}
 svg[x]{overflow:visible}
 nav{display:flex;flex-wrap:wrap;gap:8px;--text:none;--line:0}
 nav a{text-decoration:none;border:1px solid #777;padding:2px 2px 0}
-nav svg{display:block;width:138px}
+nav svg{display:block;width:138px;pointer-events:none}
 text{font-size:.85px;dominant-baseline:hanging;fill:#111;stroke:none;transform:translate(.15px,.1px);display:var(--text,inline)}
+.s{font-size:.65px}
 .v,.n{writing-mode:vertical-rl;transform:translate(.5px,.3px);dominant-baseline:middle}
 .names{text-anchor:end}
 .band{font-size:1.2px;font-weight:bold}
-path{stroke:#222;stroke-width:var(--line,.08px)}
-use+text,path+text{paint-order:stroke;stroke:#fff;stroke-width:.2px}
+path{stroke:var(--edge,#222);stroke-width:var(--line,.08px)}
+a text{paint-order:stroke;stroke:#fff;stroke-width:.2px}
+svg a:target,svg a:focus{--edge:#d00;--line:.3px}
 .n{stroke:none}
 #gap{fill:#ccc;stroke:none}
 #free{fill:none;stroke:#bbb;stroke-width:var(--line,.06px)}

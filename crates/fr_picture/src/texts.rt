@@ -26,14 +26,16 @@ pub(crate) enum Fixed {
     NoStrip,
     /// The beginning of a path's description.
     PathStart,
-    /// The end of a path's description.
-    QuoteEnd,
     /// The beginning of cycles that no repetition has.
     CyclesStart,
-    /// The end of a path with a title.
+    /// The end of a title.
+    TitleEnd,
+    /// The end of a path.
     PathEnd,
-    /// The end of a shape that is drawn again.
-    UseEnd,
+    /// The beginning of a frame that no row has.
+    NoLink,
+    /// The end of what leads to a frame's row.
+    LinkEnd,
     /// The end of a text.
     TextEnd,
     /// The end of a shape without a title.
@@ -97,10 +99,11 @@ impl Fixed {
             Fixed::StripEnd => STRIP_END,
             Fixed::NoStrip => NO_STRIP,
             Fixed::PathStart => PATH_START,
-            Fixed::QuoteEnd => QUOTE_END,
             Fixed::CyclesStart => CYCLES_START,
+            Fixed::TitleEnd => TITLE_END,
             Fixed::PathEnd => PATH_END,
-            Fixed::UseEnd => USE_END,
+            Fixed::NoLink => NO_LINK,
+            Fixed::LinkEnd => LINK_END,
             Fixed::TextEnd => TEXT_END,
             Fixed::ShapeEnd => SHAPE_END,
             Fixed::FreeStart => FREE_START,
@@ -140,13 +143,15 @@ const NO_STRIP: &str = "<td>";
 
 const PATH_START: &str = "<path d=\"";
 
-const QUOTE_END: &str = "\">";
-
 const CYCLES_START: &str = " cycles";
 
-const PATH_END: &str = "</title></path>";
+const TITLE_END: &str = "</title>";
 
-const USE_END: &str = "</title></use>";
+const PATH_END: &str = "\"/>";
+
+const NO_LINK: &str = "<a>";
+
+const LINK_END: &str = "</a>";
 
 const TEXT_END: &str = "</text>";
 
@@ -167,10 +172,10 @@ const HELD_END: &str = "\"/></g>\n";
 const LEGEND_START: &str = "<h2>Suppliers</h2>\n<ul>\n";
 
 const LEGEND_END: &str =
-    "</ul>\n<p>Cycles go down, slots go across. A lane is a slot on a channel. Above and below it stands the letter of the supplier that holds it. Nobody holds a crossed lane, nor the slots of a grey strip. A hatched cell is granted, and nothing is sent in it. Hover over a rectangle to see its frame, its node and supplier, its slot and channel, and its cycles; 1/4 is base 1 and repetition 4. The tables below say the same.</p>\n";
+    "</ul>\n<p>Cycles go down, slots go across. A lane is a slot on a channel. Above and below it stands the letter of the supplier that holds it. Nobody holds a crossed lane, nor the slots of a grey strip. A hatched cell is granted, and nothing is sent in it. A rectangle leads to its frame's row in the table below, whose number stands in the first of a lane, and a placement there leads back. Hover over a rectangle to see its frame, its node and supplier, its slot and channel, and its cycles; 1/4 is base 1 and repetition 4. The tables below say the same.</p>\n";
 
 const LEGEND_END_OF_ONE: &str =
-    "</ul>\n<p>Cycles go down, slots go across. A lane is a slot on a channel. Above and below it stands the letter of the supplier that holds it. A crossed lane and the slots of a grey strip are another supplier's or nobody's. A hatched cell is granted, and nothing is sent in it. Hover over a rectangle to see its frame, its node and supplier, its slot and channel, and its cycles; 1/4 is base 1 and repetition 4. The tables below say the same.</p>\n";
+    "</ul>\n<p>Cycles go down, slots go across. A lane is a slot on a channel. Above and below it stands the letter of the supplier that holds it. A crossed lane and the slots of a grey strip are another supplier's or nobody's. A hatched cell is granted, and nothing is sent in it. A rectangle leads to its frame's row in the table below, whose number stands in the first of a lane, and a placement there leads back. Hover over a rectangle to see its frame, its node and supplier, its slot and channel, and its cycles; 1/4 is base 1 and repetition 4. The tables below say the same.</p>\n";
 
 const OVERVIEW_START: &str =
     "<h2>Overview</h2>\n<p>Each part leads to its drawing. Below it stands the first of its slots.</p>\n<nav>\n";
