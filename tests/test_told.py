@@ -251,6 +251,12 @@ class Ways(RegisterCase):
             for id, slot, channels in placed:
                 self.see(f"where a placement of {row} leads", (row, tuple(names), slot, channels[0]), frames[id][:4])
 
+    def test_shades(self):
+        """Neighbours in a lane have two shades: where the one begins in an even cycle, and the other in an odd one."""
+        drawn_at = re.findall(r"<a( class=o)? id=\d+[AB]\d+ href=#r\d+><title>\w+\n\w+ of \w+\n\d+ [AB] (?:cycles )?(\d+)", drawn(self.folder))
+        self.see("frames of each shade", (True, True), (any(odd for odd, _ in drawn_at), not all(odd for odd, _ in drawn_at)))
+        self.see("frames of the wrong shade", [], [it for it in drawn_at if bool(it[0]) != int(it[1]) % 2])
+
     def test_reach(self):
         page = drawn(self.folder)
         self.see("what hides links", [], re.findall(r"role=(?:img|presentation)|aria-hidden=true><a|tabindex=-", page))

@@ -14,6 +14,8 @@ KEY = re.compile(r"([a-h]\d?) (\w+): lanes (\d+), cells (\d+), sent in (\d+) of 
 SENT = re.compile(r"(?:(\d+/\d+)|cycles((?: [\d-]+)+)) (\w+)")
 # A colour of the page's style: of lanes, and of the legend.
 COLOUR = re.compile(r"\.c(\d)\{fill:#(\w{6});background:#(\w{6});")
+# The other shade of a colour, of frames that begin in an odd cycle.
+SHADE = re.compile(r"\.c(\d) \.o\{fill:#(\w{6})\}")
 # Where the lanes of a part begin; where channel B stands further right, where the cluster has both; and how narrow and how wide a lane may be.
 START, SHIFT, NARROW, WIDE = 4, 68, 2, 12
 
@@ -211,6 +213,7 @@ def read(text, channels, count):
                 told = sorted(cycles_of(repeated or single, count))
                 assert told == sorted(c for _, y, _, high in rectangles for c in range(y, y + high)), link
                 number = number_of(link, here, labels, min(rectangles, key=lambda box: box[1]), frame)
+                assert link.get("class") == (None, "o")[told[0] % 2], link
                 lanes.setdefault(here, Lane()).kinds.append((frame, node, supplier, drawn["class"], [(y, high) for _, y, _, high in rectangles], number))
         firsts.append(min(shown | set(columns.values())))
     # Each part has its heading; where there are more, the overview shows each and leads to it.
@@ -323,12 +326,18 @@ def compare_columns(same, page, plan):
 
 
 def compare_colours(same, text):
-    """Each letter has a colour of its own, the same in the drawing and in the legend. Two differ in red, green or blue by a fifth of what they may."""
+    """Each letter has a colour of its own, the same in the drawing and in the legend. Two differ in red, green or blue by a fifth of what they may. Each
+    has another shade, which differs from it as much, and from all else by an eighth."""
     colours = COLOUR.findall(text)
     same("the colours of the legend", [(place, fill) for place, fill, _ in colours], [(place, ground) for place, _, ground in colours])
     same("whose colours they are", [str(place) for place in range(8)], [place for place, _, _ in colours])
     parts = [bytes.fromhex(fill) for _, fill, _ in colours]
-    same("colours that are alike", [], [pair for pair in combinations(parts, 2) if max(abs(a - b) for a, b in zip(*pair)) < 50])
+    shades = [bytes.fromhex(fill) for _, fill in SHADE.findall(text)]
+    apart = lambda one, other: max(abs(a - b) for a, b in zip(one, other))
+    same("colours that are alike", [], [pair for pair in combinations(parts, 2) if apart(*pair) < 50])
+    same("whose shades they are", [str(place) for place in range(8)], [place for place, _ in SHADE.findall(text)])
+    same("shades that are like their colour", [], [pair for pair in zip(parts, shades) if apart(*pair) < 50])
+    same("shades that are alike, or like a colour", [], [pair for pair in combinations(parts + shades, 2) if apart(*pair) < 32])
 
 
 def compare_suppliers(same, page, lanes, marks, plan):

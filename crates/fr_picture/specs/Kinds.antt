@@ -1,7 +1,7 @@
 -- Kind: the rectangles of one frame in a lane. Whether they are exactly the cells of a base and a
 -- repetition. Their text: one shape, with frame, node, supplier, slot, channel and cycles as its title, which leads to
--- the frame's row, and in the first rectangle the frame's number there.
-use Rattle.std.specs.Prelude.{ℕ, ◌+◌, ◌-◌, ◌*◌, ◌/◌, ◌==◌, ◌&&◌, nat_lt, max, length, Bool, true, List, [], ◌∷◌, ◌++◌, filter, codes, decimal, Option, Some, None, if◌then◌else◌}
+-- the frame's row, and in the first rectangle the frame's number there. Neighbours have two shades of one colour.
+use Rattle.std.specs.Prelude.{ℕ, ◌+◌, ◌-◌, ◌*◌, ◌/◌, ◌%◌, ◌==◌, ◌&&◌, nat_lt, max, length, Bool, true, List, [], ◌∷◌, ◌++◌, filter, codes, decimal, Option, Some, None, if◌then◌else◌}
 use Rattle.std.specs.List.{flat_map, list_any}
 use Rattle.fr_base.specs.Channels.{text_of_channel}
 use Rattle.fr_base.specs.Names.{same_text}
@@ -10,7 +10,7 @@ use Rattle.fr_base.specs.declared.name.Name.{Name}
 use Rattle.fr_picture.specs.declared.drawing.columns.Scale.{Scale}
 use Rattle.fr_picture.specs.declared.drawing.rectangle.Rectangle.{Rectangle}
 use Rattle.fr_picture.specs.declared.frame_index.Entry.{Entry}
-use Rattle.fr_picture.specs.declared.texts.Fixed.TheVariants.{CyclesStart, LinkEnd, NoLink, PathEnd, PathStart, TextEnd, TitleEnd}
+use Rattle.fr_picture.specs.declared.texts.Fixed.TheVariants.{CyclesStart, LinkEnd, LinkStart, NoWay, OddShade, PathEnd, PathStart, TextEnd, TitleEnd}
 use Rattle.fr_picture.specs.FrameIndexes.{number_in}
 use Rattle.fr_picture.specs.Texts.{together, fixed_text}
 
@@ -100,14 +100,22 @@ unfoldable pub tag_of : Option ℕ → List ℕ
 tag_of None = []
 tag_of (Some number) = decimal number
 
--- the beginning of what leads to the row of this number, and to which the row leads back
+-- the shade of a frame that begins in this cycle: two neighbours that are each sent in even repetitions begin in an even and in an odd one
+unfoldable pub shade_text : ℕ → List ℕ
+shade_text cycle = if cycle % 2 == 0 then [] else fixed_text OddShade
+
+-- what leads to the row of this number, and to which the row leads back
 unfoldable pub link_text : ℕ → List ℕ → ℕ → List ℕ
 link_text slot channel number =
-    together (codes "<a id=" ∷ decimal slot ∷ channel ∷ decimal number ∷ codes " href=#r" ∷ decimal number ∷ codes ">" ∷ [])
+    together (codes " id=" ∷ decimal slot ∷ channel ∷ decimal number ∷ codes " href=#r" ∷ decimal number ∷ codes ">" ∷ [])
 
+unfoldable pub way_text : Sending → Option ℕ → List ℕ
+way_text s None = fixed_text NoWay
+way_text s (Some number) = link_text s.slot (text_of_channel s.channel) number
+
+-- the beginning of a frame's rectangles, of which the first begins in this cell
 unfoldable pub link_start : Sending → Option ℕ → List ℕ
-link_start s None = fixed_text NoLink
-link_start s (Some number) = link_text s.slot (text_of_channel s.channel) number
+link_start s number = fixed_text LinkStart ++ shade_text s.cycle ++ way_text s number
 
 -- the beginning of a number in a lane of this width: smaller, where it has more digits than a lane has room for
 unfoldable pub tag_start : ℕ → ℕ → ℕ → List ℕ

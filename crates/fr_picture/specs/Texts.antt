@@ -6,7 +6,7 @@ use Rattle.std.specs.Prelude.{◌≡◌, ◌++◌, ℕ, List, String, codes}
 use Rattle.std.specs.List.{flat_map}
 use Rattle.std.specs.String.{string_bytes}
 use Rattle.fr_picture.specs.declared.texts.Fixed.{Fixed}
-use Rattle.fr_picture.specs.declared.texts.Fixed.TheVariants.{OpenedEmpty, Never, StripStart, StripEnd, NoStrip, PathStart, CyclesStart, TitleEnd, PathEnd, NoLink, LinkEnd, TextEnd, ShapeEnd, FreeStart, Free, GapOfNobody, GapOfOthers, LaneEnd, HeldEnd, LegendStart, LegendEnd, LegendEndOfOne, OverviewStart, OverviewEnd, ShapesStart, NumbersStart, BandA, BandB, BandsAB, SlotRow, Comma, SlotTableEnd, IndexStart, PageEnd}
+use Rattle.fr_picture.specs.declared.texts.Fixed.TheVariants.{OpenedEmpty, Never, StripStart, StripEnd, NoStrip, PathStart, CyclesStart, TitleEnd, PathEnd, LinkStart, OddShade, NoWay, LinkEnd, TextEnd, ShapeEnd, FreeStart, Free, GapOfNobody, GapOfOthers, LaneEnd, HeldEnd, LegendStart, LegendEnd, LegendEndOfOne, OverviewStart, OverviewEnd, ShapesStart, NumbersStart, BandA, BandB, BandsAB, SlotRow, Comma, SlotTableEnd, IndexStart, PageEnd}
 
 -- the text was appended to what stood there
 abbrev pub Appends : {Z : Type 0} → String Z → String Z → List ℕ → Type 0
@@ -27,7 +27,9 @@ fixed_text PathStart = codes "<path d=\""
 fixed_text CyclesStart = codes " cycles"
 fixed_text TitleEnd = codes "</title>"
 fixed_text PathEnd = codes "\"/>"
-fixed_text NoLink = codes "<a>"
+fixed_text LinkStart = codes "<a"
+fixed_text OddShade = codes " class=o"
+fixed_text NoWay = codes ">"
 fixed_text LinkEnd = codes "</a>"
 fixed_text TextEnd = codes "</text>"
 fixed_text ShapeEnd = codes "\"/>\n"
@@ -38,8 +40,8 @@ fixed_text GapOfOthers = codes "<use href=#gap /><text class=n y=0>not yours "
 fixed_text LaneEnd = codes "</svg>\n"
 fixed_text HeldEnd = codes "\"/></g>\n"
 fixed_text LegendStart = codes "<h2>Suppliers</h2>\n<ul>\n"
-fixed_text LegendEnd = codes "</ul>\n<p>Cycles go down, slots go across. A lane is a slot on a channel. Above and below it stands the letter of the supplier that holds it. Nobody holds a crossed lane, nor the slots of a grey strip. A hatched cell is granted, and nothing is sent in it. A rectangle leads to its frame's row in the table below, whose number stands in the first of a lane, and a placement there leads back. Hover over a rectangle to see its frame, its node and supplier, its slot and channel, and its cycles; 1/4 is base 1 and repetition 4. The tables below say the same.</p>\n"
-fixed_text LegendEndOfOne = codes "</ul>\n<p>Cycles go down, slots go across. A lane is a slot on a channel. Above and below it stands the letter of the supplier that holds it. A crossed lane and the slots of a grey strip are another supplier's or nobody's. A hatched cell is granted, and nothing is sent in it. A rectangle leads to its frame's row in the table below, whose number stands in the first of a lane, and a placement there leads back. Hover over a rectangle to see its frame, its node and supplier, its slot and channel, and its cycles; 1/4 is base 1 and repetition 4. The tables below say the same.</p>\n"
+fixed_text LegendEnd = codes "</ul>\n<p>Cycles go down, slots go across. A lane is a slot on a channel. Above and below it stands the letter of the supplier that holds it. Nobody holds a crossed lane, nor the slots of a grey strip. A frame that begins in an odd cycle has the other shade of its supplier's colour. A hatched cell is granted, and nothing is sent in it. A rectangle leads to its frame's row in the table below, whose number stands in the first of a lane, and a placement there leads back. Hover over a rectangle to see its frame, its node and supplier, its slot and channel, and its cycles; 1/4 is base 1 and repetition 4. The tables below say the same.</p>\n"
+fixed_text LegendEndOfOne = codes "</ul>\n<p>Cycles go down, slots go across. A lane is a slot on a channel. Above and below it stands the letter of the supplier that holds it. A crossed lane and the slots of a grey strip are another supplier's or nobody's. A frame that begins in an odd cycle has the other shade of its supplier's colour. A hatched cell is granted, and nothing is sent in it. A rectangle leads to its frame's row in the table below, whose number stands in the first of a lane, and a placement there leads back. Hover over a rectangle to see its frame, its node and supplier, its slot and channel, and its cycles; 1/4 is base 1 and repetition 4. The tables below say the same.</p>\n"
 fixed_text OverviewStart = codes "<h2>Overview</h2>\n<p>Each part leads to its drawing. Below it stands the first of its slots.</p>\n<nav>\n"
 fixed_text OverviewEnd = codes "</nav>\n"
 fixed_text ShapesStart = codes "<div class=defs><svg aria-hidden=true><g><defs>\n"

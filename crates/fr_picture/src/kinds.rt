@@ -2,7 +2,7 @@
 ghost use Rattle.std.specs.Prelude.{◌≡◌, ◌+◌, ◌*◌, ◌/◌, ◌<◌, ◌^◌, ◌&&◌, filter, max, length, OnOk, IfOk};
 ghost use Rattle.std.specs.String.{string_bytes};
 ghost use Rattle.fr_picture.specs.FrameIndexes.{AreByName};
-ghost use Rattle.fr_picture.specs.Kinds.{box_text, boxes_text, down_text, follows, was_drawn, is_of_same_frame, is_set, is_whole, shape_text, same_frame_text, label_text, link_start, link_text, names_text, path_text, rectangle_text, rectangles_text, set_of, set_text, span_text, spans_text, tag_of, tag_start, title_text, when_text, within_text};
+ghost use Rattle.fr_picture.specs.Kinds.{box_text, boxes_text, down_text, follows, was_drawn, is_of_same_frame, is_set, is_whole, shape_text, same_frame_text, label_text, link_start, link_text, names_text, path_text, rectangle_text, rectangles_text, set_of, set_text, shade_text, span_text, spans_text, tag_of, tag_start, title_text, way_text, when_text, within_text};
 ghost use Rattle.fr_picture.specs.Texts.{Appends};
 
 use crate::drawing::{Rectangle, Scale};
@@ -151,14 +151,36 @@ fn push_same_frame(
     push_fixed(Fixed::LinkEnd, out)
 }
 
-// Appends the beginning of what leads to the row of this number.
+// Appends the beginning of a frame's rectangles: their shade, and where they lead.
 #[tactic(auto, unfolding(crate::specs::Kinds::link_start))]
 fn push_link_start(cell: &Sending, number: Option<u64>, out: &mut String) -> Result<(), NoMemory>
     ensures { OnOk result (Appends out.old out.new (link_start cell.now number)) }
 {
+    push_fixed(Fixed::LinkStart, out)?;
+    push_shade(cell.cycle, out)?;
+    push_way(cell, number, out)
+}
+
+// Appends the shade of a frame that begins in this cycle.
+#[tactic(auto, unfolding(crate::specs::Kinds::shade_text))]
+fn push_shade(cycle: u8, out: &mut String) -> Result<(), NoMemory>
+    ensures { OnOk result (Appends out.old out.new (shade_text cycle)) }
+{
+    if cycle % 2 == 0 {
+        Ok(())
+    } else {
+        push_fixed(Fixed::OddShade, out)
+    }
+}
+
+// Appends what leads to the row of this number.
+#[tactic(auto, unfolding(crate::specs::Kinds::way_text))]
+fn push_way(cell: &Sending, number: Option<u64>, out: &mut String) -> Result<(), NoMemory>
+    ensures { OnOk result (Appends out.old out.new (way_text cell.now number)) }
+{
     match number {
         Some(number) => push_link(cell.slot.get(), cell.channel.as_str(), number, out),
-        None => push_fixed(Fixed::NoLink, out),
+        None => push_fixed(Fixed::NoWay, out),
     }
 }
 
@@ -166,7 +188,7 @@ fn push_link_start(cell: &Sending, number: Option<u64>, out: &mut String) -> Res
 fn push_link(slot: u32, channel: &str, number: u64, out: &mut String) -> Result<(), NoMemory>
     ensures { OnOk result (Appends out.old out.new (link_text slot channel.now number)) }
 {
-    write!(out, "<a id={slot}{channel}{number} href=#r{number}>")
+    write!(out, " id={slot}{channel}{number} href=#r{number}>")
 }
 
 // Appends a title: frame, node, supplier, slot, channel and cycles.

@@ -18,6 +18,14 @@ a{color:inherit}
 .c5{fill:#D55E00;background:#D55E00;stroke:#D55E00}
 .c6{fill:#0072B2;background:#0072B2;stroke:#0072B2}
 .c7{fill:#882255;background:#882255;stroke:#882255}
+.c0 .o{fill:#B3DDF5}
+.c1 .o{fill:#F1CA73}
+.c2 .o{fill:#A6DDCE}
+.c3 .o{fill:#F7F097}
+.c4 .o{fill:#7A4964}
+.c5 .o{fill:#E8A673}
+.c6 .o{fill:#004A74}
+.c7 .o{fill:#C99CB2}
 .defs svg{width:0;height:0;position:absolute}
 .plan{overflow-x:auto}
 .plan>svg{display:block;width:100%;min-width:1240px}

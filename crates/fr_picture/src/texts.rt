@@ -32,8 +32,12 @@ pub(crate) enum Fixed {
     TitleEnd,
     /// The end of a path.
     PathEnd,
-    /// The beginning of a frame that no row has.
-    NoLink,
+    /// The beginning of what leads to a frame's row.
+    LinkStart,
+    /// The shade of frames that begin in an odd cycle.
+    OddShade,
+    /// The rest of the beginning, of a frame that no row has.
+    NoWay,
     /// The end of what leads to a frame's row.
     LinkEnd,
     /// The end of a text.
@@ -102,7 +106,9 @@ impl Fixed {
             Fixed::CyclesStart => CYCLES_START,
             Fixed::TitleEnd => TITLE_END,
             Fixed::PathEnd => PATH_END,
-            Fixed::NoLink => NO_LINK,
+            Fixed::LinkStart => LINK_START,
+            Fixed::OddShade => ODD_SHADE,
+            Fixed::NoWay => NO_WAY,
             Fixed::LinkEnd => LINK_END,
             Fixed::TextEnd => TEXT_END,
             Fixed::ShapeEnd => SHAPE_END,
@@ -149,7 +155,11 @@ const TITLE_END: &str = "</title>";
 
 const PATH_END: &str = "\"/>";
 
-const NO_LINK: &str = "<a>";
+const LINK_START: &str = "<a";
+
+const ODD_SHADE: &str = " class=o";
+
+const NO_WAY: &str = ">";
 
 const LINK_END: &str = "</a>";
 
@@ -172,10 +182,10 @@ const HELD_END: &str = "\"/></g>\n";
 const LEGEND_START: &str = "<h2>Suppliers</h2>\n<ul>\n";
 
 const LEGEND_END: &str =
-    "</ul>\n<p>Cycles go down, slots go across. A lane is a slot on a channel. Above and below it stands the letter of the supplier that holds it. Nobody holds a crossed lane, nor the slots of a grey strip. A hatched cell is granted, and nothing is sent in it. A rectangle leads to its frame's row in the table below, whose number stands in the first of a lane, and a placement there leads back. Hover over a rectangle to see its frame, its node and supplier, its slot and channel, and its cycles; 1/4 is base 1 and repetition 4. The tables below say the same.</p>\n";
+    "</ul>\n<p>Cycles go down, slots go across. A lane is a slot on a channel. Above and below it stands the letter of the supplier that holds it. Nobody holds a crossed lane, nor the slots of a grey strip. A frame that begins in an odd cycle has the other shade of its supplier's colour. A hatched cell is granted, and nothing is sent in it. A rectangle leads to its frame's row in the table below, whose number stands in the first of a lane, and a placement there leads back. Hover over a rectangle to see its frame, its node and supplier, its slot and channel, and its cycles; 1/4 is base 1 and repetition 4. The tables below say the same.</p>\n";
 
 const LEGEND_END_OF_ONE: &str =
-    "</ul>\n<p>Cycles go down, slots go across. A lane is a slot on a channel. Above and below it stands the letter of the supplier that holds it. A crossed lane and the slots of a grey strip are another supplier's or nobody's. A hatched cell is granted, and nothing is sent in it. A rectangle leads to its frame's row in the table below, whose number stands in the first of a lane, and a placement there leads back. Hover over a rectangle to see its frame, its node and supplier, its slot and channel, and its cycles; 1/4 is base 1 and repetition 4. The tables below say the same.</p>\n";
+    "</ul>\n<p>Cycles go down, slots go across. A lane is a slot on a channel. Above and below it stands the letter of the supplier that holds it. A crossed lane and the slots of a grey strip are another supplier's or nobody's. A frame that begins in an odd cycle has the other shade of its supplier's colour. A hatched cell is granted, and nothing is sent in it. A rectangle leads to its frame's row in the table below, whose number stands in the first of a lane, and a placement there leads back. Hover over a rectangle to see its frame, its node and supplier, its slot and channel, and its cycles; 1/4 is base 1 and repetition 4. The tables below say the same.</p>\n";
 
 const OVERVIEW_START: &str =
     "<h2>Overview</h2>\n<p>Each part leads to its drawing. Below it stands the first of its slots.</p>\n<nav>\n";
