@@ -257,6 +257,20 @@ class Ways(RegisterCase):
         self.see("frames of each shade", (True, True), (any(odd for odd, _ in drawn_at), not all(odd for odd, _ in drawn_at)))
         self.see("frames of the wrong shade", [], [it for it in drawn_at if bool(it[0]) != int(it[1]) % 2])
 
+    def test_looks(self):
+        """Of twenty suppliers with a lane each no two look alike, in the drawing and in the legend; each looks the same in both."""
+        names = [f"maker{number:02}" for number in range(20)]
+        head = CLUSTER.decode().split("[suppliers]")[0].replace("static_slots = 4", "static_slots = 20").replace("macroticks_per_cycle = 100", "macroticks_per_cycle = 260")
+        ask = ['integrator1 {"do":"open_variant","variant":"v1"}']
+        for slot, name in enumerate(names, 1):
+            ask.append('integrator1 {"do":"add_node","supplier":"%s","node":"n1"}' % name)
+            ask.append('integrator1 {"do":"grant","variant":"v1","slot":%d,"channel":"A","supplier":"%s","node":"n1"}' % (slot, name))
+        register = Register(self.folder, head + "[suppliers]\n" + "".join(f'{name} = "key{name}"\n' for name in names), "\n".join(ask))
+        page = register.tell("picture", "car.db", "v1")
+        lanes = re.findall(r'<svg class=("[^"]+"|\w+) x=\d+><title>n1 of (\w+)\n', page)
+        keys = re.findall(r'<li><i class=("[^"]+"|\w+)>\w+</i> (\w+):', page)
+        self.see("the looks", (20, sorted(lanes)), (len({look for look, _ in keys}), sorted(keys)))
+
     def test_reach(self):
         page = drawn(self.folder)
         self.see("what hides links", [], re.findall(r"role=(?:img|presentation)|aria-hidden=true><a|tabindex=-", page))

@@ -16,6 +16,10 @@ SENT = re.compile(r"(?:(\d+/\d+)|cycles((?: [\d-]+)+)) (\w+)")
 COLOUR = re.compile(r"\.c(\d)\{fill:#(\w{6});background:#(\w{6});")
 # The other shade of a colour, of frames that begin in an odd cycle.
 SHADE = re.compile(r"\.c(\d) \.o\{fill:#(\w{6})\}")
+# The patterns over the colours of suppliers behind the first eight: in the drawing, where they are used there, and in the legend.
+PATTERN = re.compile(r"<pattern id=t(\d)( .*?)</pattern>")
+OVER = re.compile(r"^\.t(\d)\{--p:url\(#t(\d)\)\}$", re.M)
+KEYED = re.compile(r"^i\.t(\d)\{(background-image:.*)\}$", re.M)
 # Where the lanes of a part begin; where channel B stands further right, where the cluster has both; and how narrow and how wide a lane may be.
 START, SHIFT, NARROW, WIDE = 4, 68, 2, 12
 
@@ -31,6 +35,11 @@ def boxes(path):
 def mark_of(place):
     """The mark of the supplier at this place: a letter, and behind the first eight a number."""
     return "abcdefgh"[place % 8] + (str(place // 8) if place > 7 else "")
+
+
+def look_of(place):
+    """The classes of the supplier at this place: its colour, and behind the first eight a pattern."""
+    return f"c{place % 8}" + (f" t{place // 8}" if place > 7 else "")
 
 
 class Part:
@@ -52,7 +61,7 @@ class Page(HTMLParser):
         self.open = []
         self.hatched = []  # the cycles, each by one more, that have a line across in a granted lane
         self.lane = self.link = self.shape = self.heading = self.titled = None
-        self.boxed = False
+        self.boxed, self.named = False, None
         self.feed(text)
         self.close()
 
@@ -86,9 +95,13 @@ class Page(HTMLParser):
             self.small.append([given["href"], None, ""])
         elif tag == "use" and "nav" in self.open:
             self.small[-1][1] = given["href"]
-        elif tag == "path" and given.get("id", "").isdigit():
-            self.shapes[given["id"]] = boxes(given["d"])
-        elif tag == "path" and "g" in self.open and not self.parts and "id" not in given:
+        elif tag == "g" and given.get("id", "").isdigit():
+            self.named = given["id"]
+        elif tag == "path" and self.named:
+            # Over each shape stands that of a pattern, the same.
+            assert given.get("class") == (None, "h")[self.named in self.shapes], given
+            assert self.shapes.setdefault(self.named, boxes(given["d"])) == boxes(given["d"]), given
+        elif tag == "path" and "g" in self.open and "pattern" not in self.open and not self.parts and "id" not in given:
             self.hatched += [int(y) for y in re.findall(r"M0 (\d+)l\d+-1", given["d"])]
         elif self.parts and tag == "svg" and not self.tables:
             self.lane = {"tag": tag, **given, "title": "", "shapes": [], "links": []}
@@ -107,8 +120,8 @@ class Page(HTMLParser):
             self.list = self.index if given.get("class") == "index" else self.keys
         elif tag == "li":
             self.list.append(["", ""])
-        elif tag == "a":
-            self.list[-1][1] = given["href"]
+        elif tag in ("a", "i"):
+            self.list[-1][1] = given["href" if tag == "a" else "class"]
         elif tag == "table":
             self.tables.append([])
         elif tag == "tr":
@@ -127,6 +140,8 @@ class Page(HTMLParser):
             pass
         if tag in ("use", "path", "text"):
             self.shape = None
+        elif tag == "g":
+            self.named = None
         elif tag == "a":
             self.link = None
         elif tag == "svg":
@@ -203,7 +218,9 @@ def read(text, channels, count):
                     lanes.setdefault(here, Lane()).holders.append((node, supplier))
             for link in drawn["links"]:
                 frame, node, supplier, slot, channel, repeated, single = TITLE.fullmatch(link["title"]).groups()
-                shape, *labels = link["shapes"]
+                labels = [it for it in link["shapes"] if it["tag"] == "text"]
+                shape, *over = (it for it in link["shapes"] if it["tag"] != "text")
+                assert over == ([] if shape["tag"] == "use" else [{**shape, "class": "h"}]), link
                 if shape["tag"] == "use":
                     rectangles = [(bx, int(shape.get("y", 0)) + by, bw, bh) for bx, by, bw, bh in page.shapes[shape["href"][1:]]]
                 else:
@@ -269,6 +286,7 @@ def compare(text, plan):
     compare_drawing(found.same, page, lanes, gaps, free, plan)
     compare_columns(found.same, page, plan)
     compare_colours(found.same, text)
+    compare_patterns(found.same, text)
     marks = {supplier: mark_of(place) for place, supplier in enumerate(plan["suppliers"])}
     compare_suppliers(found.same, page, lanes, marks, plan)
     compare_slots(found.same, page, marks, plan)
@@ -340,6 +358,14 @@ def compare_colours(same, text):
     same("shades that are alike, or like a colour", [], [pair for pair in combinations(parts + shades, 2) if apart(*pair) < 32])
 
 
+def compare_patterns(same, text):
+    """There are seven patterns, so that each of 64 suppliers has its own look, and each is one of the drawing and one of the legend, unlike the others."""
+    drawn, used, keyed = PATTERN.findall(text), OVER.findall(text), KEYED.findall(text)
+    numbers = list("1234567")
+    same("the patterns", [numbers, [(n, n) for n in numbers], numbers], [[n for n, _ in drawn], used, [n for n, _ in keyed]])
+    same("patterns that are alike", (7, 7), (len({look for _, look in drawn}), len({look for _, look in keyed})))
+
+
 def compare_suppliers(same, page, lanes, marks, plan):
     """Each supplier has its mark and its colour by its place among all, in the legend and above and below its lanes."""
     keys = [KEY.fullmatch(text.strip()) for text, _ in page.keys]
@@ -349,9 +375,11 @@ def compare_suppliers(same, page, lanes, marks, plan):
         sent = sum(cell[5] == key[2] for cell in plan["cells"])
         room = lanes_held * plan["cycles"]
         same(f"how full the grants of {key[2]} are", (lanes_held, room, sent, sent * 100 // room if room else 0), tuple(map(int, key.groups()[2:])))
+    looks = {supplier: look_of(place) for place, supplier in enumerate(plan["suppliers"])}
+    same("the looks of the legend", list(looks.values()), [look for _, look in page.keys])
     both = lambda mark: [("-1", mark), (str(plan["cycles"]), mark)]
     same("marks above and below lanes", [], [at for at, lane in lanes.items() for _, supplier in lane.holders if lane.marks != both(marks.get(supplier))])
-    same("colours", [], [kind for lane in lanes.values() for kind in lane.kinds if kind[3] != "c%d" % "abcdefgh".index(marks[kind[2]][0])])
+    same("looks", [], [kind for lane in lanes.values() for kind in lane.kinds if kind[3] != looks[kind[2]]])
 
 
 def compare_slots(same, page, marks, plan):

@@ -10,7 +10,7 @@ use Rattle.fr_base.specs.declared.name.Name.{Name}
 use Rattle.fr_picture.specs.declared.drawing.columns.Scale.{Scale}
 use Rattle.fr_picture.specs.declared.drawing.rectangle.Rectangle.{Rectangle}
 use Rattle.fr_picture.specs.declared.frame_index.Entry.{Entry}
-use Rattle.fr_picture.specs.declared.texts.Fixed.TheVariants.{CyclesStart, LinkEnd, LinkStart, NoWay, OddShade, PathEnd, PathStart, TextEnd, TitleEnd}
+use Rattle.fr_picture.specs.declared.texts.Fixed.TheVariants.{CyclesStart, LinkEnd, LinkStart, OddShade, OverStart, PathEnd, PathStart, TagEnd, TextEnd, TitleEnd}
 use Rattle.fr_picture.specs.FrameIndexes.{number_in}
 use Rattle.fr_picture.specs.Texts.{together, fixed_text}
 
@@ -88,8 +88,10 @@ set_text repetition base =
     if base == 0 then together (codes "<use href=#" ∷ decimal repetition ∷ codes " />" ∷ [])
     else together (codes "<use href=#" ∷ decimal repetition ∷ codes " y=" ∷ decimal base ∷ codes " />" ∷ [])
 
+-- the rectangles, and over them those of the supplier's pattern
 unfoldable pub path_text : ℕ → List Rectangle → List ℕ
-path_text width same = fixed_text PathStart ++ boxes_text width same ++ fixed_text PathEnd
+path_text width same =
+    fixed_text PathStart ++ boxes_text width same ++ fixed_text OverStart ++ boxes_text width same ++ fixed_text PathEnd
 
 unfoldable pub shape_text : ℕ → List Rectangle → Rectangle → Option ℕ → List ℕ
 shape_text width same r (Some repetition) = set_text repetition r.first.cycle
@@ -110,7 +112,7 @@ link_text slot channel number =
     together (codes " id=" ∷ decimal slot ∷ channel ∷ decimal number ∷ codes " href=#r" ∷ decimal number ∷ codes ">" ∷ [])
 
 unfoldable pub way_text : Sending → Option ℕ → List ℕ
-way_text s None = fixed_text NoWay
+way_text s None = fixed_text TagEnd
 way_text s (Some number) = link_text s.slot (text_of_channel s.channel) number
 
 -- the beginning of a frame's rectangles, of which the first begins in this cell

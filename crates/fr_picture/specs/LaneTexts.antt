@@ -1,6 +1,6 @@
 -- Text of a lane: the slot's number, a gap, the holder's mark above and below the lane, and its rectangles. A part of
 -- the drawing has its heading.
-use Rattle.std.specs.Prelude.{ℕ, ◌%◌, ◌==◌, ◌&&◌, Bool, false, length, List, [], ◌∷◌, ◌++◌, codes, decimal, Option, Some, None, if◌then◌else◌}
+use Rattle.std.specs.Prelude.{ℕ, ◌==◌, ◌&&◌, Bool, false, length, List, [], ◌∷◌, ◌++◌, codes, decimal, Option, Some, None, if◌then◌else◌}
 use Rattle.std.specs.List.{flat_map}
 use Rattle.fr_base.specs.Channels.{text_of_channel}
 use Rattle.fr_base.specs.declared.answer.GrantRow.{GrantRow}
@@ -12,9 +12,9 @@ use Rattle.fr_picture.specs.declared.drawing.marks.Shows.TheVariants.{Nothing, S
 use Rattle.fr_picture.specs.declared.drawing.rectangle.Rectangle.{Rectangle}
 use Rattle.fr_picture.specs.declared.frame_index.Entry.{Entry}
 use Rattle.fr_picture.specs.declared.plan.Plan.{Plan}
-use Rattle.fr_picture.specs.declared.texts.Fixed.TheVariants.{Free, GapOfNobody, GapOfOthers, LaneEnd, TextEnd}
+use Rattle.fr_picture.specs.declared.texts.Fixed.TheVariants.{Free, GapOfNobody, GapOfOthers, LaneEnd, LaneStart, TextEnd}
 use Rattle.fr_picture.specs.Kinds.{rectangles_text}
-use Rattle.fr_picture.specs.Shares.{mark_text, number_of}
+use Rattle.fr_picture.specs.Shares.{look_text, mark_text, number_of}
 use Rattle.fr_picture.specs.Texts.{together, fixed_text}
 
 -- the heading of a part of the drawing
@@ -89,18 +89,22 @@ is_bare Nothing grants rectangles = (length grants == 0) && (length rectangles =
 is_bare (Slot n) grants rectangles = false
 is_bare (Gap first last) grants rectangles = false
 
--- the colour of the lane's holder
-unfoldable pub colour_of : List Name → List GrantRow → ℕ
-colour_of names [] = 0
-colour_of names (g ∷ grants) = number_of names g.supplier % 8
+-- the number of the lane's holder
+unfoldable pub holder_of : List Name → List GrantRow → ℕ
+holder_of names [] = 0
+holder_of names (g ∷ grants) = number_of names g.supplier
 
+unfoldable pub edge_text : ℕ → List ℕ
+edge_text x = together (codes " x=" ∷ decimal x ∷ codes ">" ∷ [])
+
+-- the beginning of a lane: the look of its holder, and its left edge
 unfoldable pub start_text : ℕ → ℕ → List ℕ
-start_text colour x = together (codes "<svg class=c" ∷ decimal colour ∷ codes " x=" ∷ decimal x ∷ codes ">" ∷ [])
+start_text number x = fixed_text LaneStart ++ look_text number ++ edge_text x
 
--- what is drawn of a lane, in its colour: its grant, and over it its rectangles
+-- what is drawn of a lane, in its holder's look: its grant, and over it its rectangles
 unfoldable pub drawn_text : Plan → Scale → List Entry → Lane → List ℕ
 drawn_text plan scale index l =
-    start_text (colour_of plan.suppliers.items l.grants.items) l.place.x ++ grants_text plan.suppliers.items scale.cycles l.grants.items
+    start_text (holder_of plan.suppliers.items l.grants.items) l.place.x ++ grants_text plan.suppliers.items scale.cycles l.grants.items
     ++ shows_text plan.supplier l.place.shows ++ ungranted_text l.place.shows l.grants.items ++ rectangles_text scale index l.rectangles.items
     ++ fixed_text LaneEnd
 

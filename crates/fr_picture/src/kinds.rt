@@ -180,7 +180,7 @@ fn push_way(cell: &Sending, number: Option<u64>, out: &mut String) -> Result<(),
 {
     match number {
         Some(number) => push_link(cell.slot.get(), cell.channel.as_str(), number, out),
-        None => push_fixed(Fixed::NoWay, out),
+        None => push_fixed(Fixed::TagEnd, out),
     }
 }
 
@@ -274,12 +274,14 @@ fn push_names(cell: &Sending, out: &mut String) -> Result<(), NoMemory>
     )
 }
 
-// Appends rectangles of one frame as one path.
+// Appends rectangles of one frame as one path, and over it that of the supplier's pattern.
 #[tactic(auto, unfolding(crate::specs::Kinds::path_text))]
 fn push_path(width: u32, same: &[Rectangle], out: &mut String) -> Result<(), NoMemory>
     ensures { OnOk result (Appends out.old out.new (path_text width same.now)) }
 {
     push_fixed(Fixed::PathStart, out)?;
+    push_boxes(width, same, out)?;
+    push_fixed(Fixed::OverStart, out)?;
     push_boxes(width, same, out)?;
     push_fixed(Fixed::PathEnd, out)
 }

@@ -1,14 +1,14 @@
 //! The text of lanes, and of the parts of the drawing in which they stand.
 ghost use Rattle.std.specs.Prelude.{◌≡◌, OnOk};
 ghost use Rattle.fr_picture.specs.FrameIndexes.{AreByName};
-ghost use Rattle.fr_picture.specs.LaneTexts.{box_start, colour_of, drawn_text, foot_text, free_text, gap_text, grant_text, grants_text, heading_text, holder_text, is_bare, lane_text, lanes_text, opens_text, part_text, shows_text, slots_text, start_text, ungranted_text, view_text};
+ghost use Rattle.fr_picture.specs.LaneTexts.{box_start, drawn_text, edge_text, foot_text, free_text, gap_text, grant_text, grants_text, heading_text, holder_of, holder_text, is_bare, lane_text, lanes_text, opens_text, part_text, shows_text, slots_text, start_text, ungranted_text, view_text};
 ghost use Rattle.fr_picture.specs.Texts.{Appends};
 
 use crate::drawing::{Lane, Rectangle, Scale, Shows};
 use crate::frame_index::Entry;
 use crate::kinds::push_rectangles;
 use crate::plan::Plan;
-use crate::shares::{number_of, push_mark};
+use crate::shares::{number_of, push_look, push_mark};
 use crate::texts::{Fixed, push_fixed};
 use fr_base::{GrantRow, Name, NoMemory};
 use std::alloc::Global;
@@ -67,7 +67,7 @@ fn is_bare(shows: Shows, grants: &[GrantRow], rectangles: &[Rectangle]) -> bool
     }
 }
 
-// Appends what is drawn at a place, in the colour of the lane's holder.
+// Appends what is drawn at a place, in the look of the lane's holder.
 #[tactic(auto, unfolding(crate::specs::LaneTexts::drawn_text))]
 fn push_drawn(
     alloc: Global,
@@ -83,7 +83,7 @@ fn push_drawn(
 {
     let names = plan.suppliers.as_slice();
     let grants = lane.grants.as_slice();
-    push_start(colour_of(names, grants), lane.place.x, out)?;
+    push_start(holder_of(names, grants), lane.place.x, out)?;
     push_grants(names, scale.cycles, grants, out)?;
     push_shows(plan.supplier, lane.place.shows, out)?;
     push_ungranted(lane.place.shows, grants, out)?;
@@ -91,23 +91,32 @@ fn push_drawn(
     push_fixed(Fixed::LaneEnd, out)
 }
 
-// The colour of the first supplier that holds a lane. Nobody else sends there.
-#[tactic(auto, unfolding(crate::specs::LaneTexts::colour_of))]
-fn colour_of(names: &[Name], grants: &[GrantRow]) -> usize
-    ensures { result ≡ colour_of names.now grants.now }
+// The number of the first supplier that holds a lane. Nobody else sends there.
+#[tactic(auto, unfolding(crate::specs::LaneTexts::holder_of))]
+fn holder_of(names: &[Name], grants: &[GrantRow]) -> usize
+    ensures { result ≡ holder_of names.now grants.now }
 {
     match grants.first() {
-        Some(grant) => number_of(names, grant.supplier) % 8,
+        Some(grant) => number_of(names, grant.supplier),
         None => 0,
     }
 }
 
-// Appends the beginning of a lane: its colour, and its left edge.
+// Appends the beginning of a lane: the look of the supplier of this number, and its left edge.
 #[tactic(auto, unfolding(crate::specs::LaneTexts::start_text))]
-fn push_start(colour: usize, x: u32, out: &mut String) -> Result<(), NoMemory>
-    ensures { OnOk result (Appends out.old out.new (start_text colour x)) }
+fn push_start(number: usize, x: u32, out: &mut String) -> Result<(), NoMemory>
+    ensures { OnOk result (Appends out.old out.new (start_text number x)) }
 {
-    write!(out, "<svg class=c{colour} x={x}>")
+    push_fixed(Fixed::LaneStart, out)?;
+    push_look(number, out)?;
+    push_edge(x, out)
+}
+
+#[tactic(auto, unfolding(crate::specs::LaneTexts::edge_text))]
+fn push_edge(x: u32, out: &mut String) -> Result<(), NoMemory>
+    ensures { OnOk result (Appends out.old out.new (edge_text x)) }
+{
+    write!(out, " x={x}>")
 }
 
 // Appends the end of a part and the beginning of the next, where a part begins.

@@ -49,6 +49,24 @@ svg a:target,svg a:focus{--edge:#d00;--line:.3px}
 ul{list-style:none;padding:0;columns:28em;margin:.5em 0}
 li{break-inside:avoid}
 i{display:inline-block;width:2.4em;border:1px solid #222;text-align:center;font-style:normal;paint-order:stroke;-webkit-text-stroke:3px #fff}
+.h{fill:var(--p,none);stroke:none;pointer-events:none}
+.t1{--p:url(#t1)}
+.t2{--p:url(#t2)}
+.t3{--p:url(#t3)}
+.t4{--p:url(#t4)}
+.t5{--p:url(#t5)}
+.t6{--p:url(#t6)}
+.t7{--p:url(#t7)}
+i.t1{background-image:repeating-linear-gradient(45deg,#fff0 0 3px,#fff 3px 5px,#111 5px 6px)}
+i.t2{background-image:radial-gradient(#fff 1.5px,#111 1.5px 2px,#fff0 2.2px);background-size:5px 5px}
+i.t3{background-image:repeating-linear-gradient(0deg,#fff0 0 3px,#fff 3px 5px,#111 5px 6px)}
+i.t4{background-image:repeating-linear-gradient(90deg,#fff0 0 3px,#fff 3px 5px,#111 5px 6px)}
+i.t5{background-image:repeating-linear-gradient(45deg,#fff0 0 3px,#fff 3px 5px,#111 5px 6px),repeating-linear-gradient(-45deg,#fff0 0 3px,#fff 3px 5px,#111 5px 6px)}
+i.t6{background-image:repeating-linear-gradient(-45deg,#fff0 0 3px,#fff 3px 5px,#111 5px 6px)}
+i.t7{background-image:repeating-linear-gradient(0deg,#fff0 0 3px,#fff 3px 5px,#111 5px 6px),repeating-linear-gradient(90deg,#fff0 0 3px,#fff 3px 5px,#111 5px 6px)}
+pattern path{stroke:#fff;stroke-width:.2px}
+pattern .k{stroke:#111;stroke-width:.07px}
+circle{fill:#fff;stroke:#111;stroke-width:.05px}
 table{border-collapse:collapse;width:100%;font-size:.85em}
 th,td{text-align:left;vertical-align:top;padding:.2em .5em;border-bottom:1px solid #ccc}
 tr{break-inside:avoid}

@@ -36,14 +36,20 @@ pub(crate) enum Fixed {
     LinkStart,
     /// The shade of frames that begin in an odd cycle.
     OddShade,
-    /// The rest of the beginning, of a frame that no row has.
-    NoWay,
+    /// The end of a tag.
+    TagEnd,
     /// The end of what leads to a frame's row.
     LinkEnd,
     /// The end of a text.
     TextEnd,
-    /// The end of a shape without a title.
-    ShapeEnd,
+    /// The patterns that are drawn over colours.
+    Patterns,
+    /// The end of a shape, and the beginning of the shape of a pattern over it.
+    OverStart,
+    /// The beginning of a lane.
+    LaneStart,
+    /// The beginning of a supplier in the legend.
+    KeyStart,
     /// The beginning of the shape of a lane that nobody is granted.
     FreeStart,
     /// A lane that nobody is granted.
@@ -54,8 +60,8 @@ pub(crate) enum Fixed {
     GapOfOthers,
     /// The end of a lane.
     LaneEnd,
-    /// The end of a granted lane's shape.
-    HeldEnd,
+    /// The end of a path and of its group.
+    GroupEnd,
     /// The beginning of the legend.
     LegendStart,
     /// The end of the legend, with what the drawing's marks mean.
@@ -108,16 +114,19 @@ impl Fixed {
             Fixed::PathEnd => PATH_END,
             Fixed::LinkStart => LINK_START,
             Fixed::OddShade => ODD_SHADE,
-            Fixed::NoWay => NO_WAY,
+            Fixed::TagEnd => TAG_END,
             Fixed::LinkEnd => LINK_END,
             Fixed::TextEnd => TEXT_END,
-            Fixed::ShapeEnd => SHAPE_END,
+            Fixed::Patterns => PATTERNS,
+            Fixed::OverStart => OVER_START,
+            Fixed::LaneStart => LANE_START,
+            Fixed::KeyStart => KEY_START,
             Fixed::FreeStart => FREE_START,
             Fixed::Free => FREE,
             Fixed::GapOfNobody => GAP_OF_NOBODY,
             Fixed::GapOfOthers => GAP_OF_OTHERS,
             Fixed::LaneEnd => LANE_END,
-            Fixed::HeldEnd => HELD_END,
+            Fixed::GroupEnd => GROUP_END,
             Fixed::LegendStart => LEGEND_START,
             Fixed::LegendEnd => LEGEND_END,
             Fixed::LegendEndOfOne => LEGEND_END_OF_ONE,
@@ -159,13 +168,20 @@ const LINK_START: &str = "<a";
 
 const ODD_SHADE: &str = " class=o";
 
-const NO_WAY: &str = ">";
+const TAG_END: &str = ">";
 
 const LINK_END: &str = "</a>";
 
 const TEXT_END: &str = "</text>";
 
-const SHAPE_END: &str = "\"/>\n";
+const PATTERNS: &str =
+    "<pattern id=t1 width=.7 height=.7 patternUnits=userSpaceOnUse patternTransform=rotate(45)><path d=\"M.2 0v1\"/><path class=k d=\"M.35 0v1\"/></pattern>\n<pattern id=t2 width=.5 height=.5 patternUnits=userSpaceOnUse><circle cx=.25 cy=.25 r=.13 /></pattern>\n<pattern id=t3 width=.5 height=.5 patternUnits=userSpaceOnUse><path d=\"M0 .2h1\"/><path class=k d=\"M0 .35h1\"/></pattern>\n<pattern id=t4 width=.5 height=.5 patternUnits=userSpaceOnUse><path d=\"M.2 0v1\"/><path class=k d=\"M.35 0v1\"/></pattern>\n<pattern id=t5 width=.9 height=.9 patternUnits=userSpaceOnUse patternTransform=rotate(45)><path d=\"M.2 0v1M0 .2h1\"/><path class=k d=\"M.35 0v1M0 .35h1\"/></pattern>\n<pattern id=t6 width=.7 height=.7 patternUnits=userSpaceOnUse patternTransform=rotate(-45)><path d=\"M.2 0v1\"/><path class=k d=\"M.35 0v1\"/></pattern>\n<pattern id=t7 width=1 height=.5 patternUnits=userSpaceOnUse><path d=\"M.2 0v1M0 .2h1\"/><path class=k d=\"M.35 0v1M0 .35h1\"/></pattern>\n";
+
+const OVER_START: &str = "\"/><path class=h d=\"";
+
+const LANE_START: &str = "<svg class=";
+
+const KEY_START: &str = "<li><i class=";
 
 const FREE_START: &str = "<path id=free d=\"";
 
@@ -177,7 +193,7 @@ const GAP_OF_OTHERS: &str = "<use href=#gap /><text class=n y=0>not yours ";
 
 const LANE_END: &str = "</svg>\n";
 
-const HELD_END: &str = "\"/></g>\n";
+const GROUP_END: &str = "\"/></g>\n";
 
 const LEGEND_START: &str = "<h2>Suppliers</h2>\n<ul>\n";
 
