@@ -20,6 +20,9 @@ SHADE = re.compile(r"\.c(\d) \.o\{fill:#(\w{6})\}")
 PATTERN = re.compile(r"<pattern id=t(\d)( .*?)</pattern>")
 OVER = re.compile(r"^\.t(\d)\{--p:url\(#t(\d)\)\}$", re.M)
 KEYED = re.compile(r"^i\.t(\d)\{(background-image:.*)\}$", re.M)
+# How high a part is on paper, in millimetres: so much for each unit of its height. A sheet of A4 that lies on its side has 186 between its margins, of
+# which a heading takes 13. A part is as wide as the sheet, 277, and so 138 units are.
+PAPER, LEFT = re.compile(r"^@media print\{\.plan>svg\{height:calc\((\d+)\*2\.5mm\)\}\}$", re.M), 186 - 13
 # Where the lanes of a part begin; where channel B stands further right, where the cluster has both; and how narrow and how wide a lane may be.
 START, SHIFT, NARROW, WIDE = 4, 68, 2, 12
 
@@ -292,6 +295,7 @@ def compare(text, plan):
     compare_slots(found.same, page, marks, plan)
     compare_frames(found.same, page, marks, plan)
     compare_ways(found.same, page, lanes)
+    compare_sheets(found.same, page, text, plan)
     found.same("what a narrow screen is told", "width=device-width,initial-scale=1", page.metas.get("viewport"))
     return found.lines
 
@@ -429,3 +433,12 @@ def compare_ways(same, page, lanes):
     for number, placed in rows.values():
         ways = [f"#{slot}{channels[0]}{number}" for slot, channels, _ in (line.split() for line in placed.split("\n") if line)]
         same(f"where the placements of row {number} lead", ways, page.backs.get(f"r{number}", []))
+
+
+def compare_sheets(same, page, text, plan):
+    """On paper each part is as high as the sheet has room for where there are 64 cycles, and its figures are stretched by no more than a quarter."""
+    high = plan["cycles"] + 5
+    same("how high a part is on paper", [str(high)], PAPER.findall(text))
+    same("whether it fits", True, high * 2.5 <= LEFT and 1 < 2.5 / (277 / 138) < 1.25)
+    drawn = (f"0 -4 138 {high}", "none")
+    same("parts that are not stretched", [], [part.given for part in page.parts if (part.given["viewbox"], part.given.get("preserveaspectratio")) != drawn])

@@ -28,7 +28,7 @@ box_start first =
     together (codes "<div class=plan role=group aria-labelledby=p" ∷ decimal first ∷ codes " tabindex=0><svg role=none" ∷ [])
 
 unfoldable pub view_text : ℕ → ℕ → List ℕ
-view_text height first = together (codes " viewBox=\"0 -4 138 " ∷ decimal height ∷ codes "\"><use href=#cycles /><g id=g" ∷ decimal first ∷ codes ">\n" ∷ [])
+view_text height first = together (codes " viewBox=\"0 -4 138 " ∷ decimal height ∷ codes "\" preserveAspectRatio=none><use href=#cycles /><g id=g" ∷ decimal first ∷ codes ">\n" ∷ [])
 
 -- the beginning of a part of the drawing, and the end of the part before
 unfoldable pub part_text : Name → ℕ → ℕ → List ℕ

@@ -1,6 +1,6 @@
 -- Page: the text is that of the variant and the cluster's figures, the legend, an overview, a drawing of exactly its grants
 -- and cells, the table of slots, and the index and the table of frames.
-use Rattle.std.specs.Prelude.{◌≡◌, ℕ, ◌*◌, Bool, List, [], ◌∷◌, ◌++◌, map, codes, decimal, Option, Some, None, if◌then◌else◌}
+use Rattle.std.specs.Prelude.{◌≡◌, ℕ, ◌+◌, ◌*◌, Bool, List, [], ◌∷◌, ◌++◌, map, codes, decimal, Option, Some, None, if◌then◌else◌}
 use Rattle.std.specs.List.{flat_map, range_with_len}
 use Rattle.fr_base.specs.Channels.{text_of_channels}
 use Rattle.fr_base.specs.declared.channel.Channels.{Channels}
@@ -73,8 +73,12 @@ figures_text plan =
 unfoldable pub strips_text : ℕ → List ℕ
 strips_text bits = together (codes "td path{transform:scale(calc(400/" ∷ decimal bits ∷ codes "),1)}\n" ∷ [])
 
+-- how high a part of the drawing is on paper, where it has this height: with 64 cycles it fills a sheet of A4 that lies on its side
+unfoldable pub sheet_text : ℕ → List ℕ
+sheet_text height = together (codes "@media print{.plan>svg{height:calc(" ∷ decimal height ∷ codes "*2.5mm)}}\n" ∷ [])
+
 unfoldable pub top_text : Plan → List ℕ
-top_text plan = head_text plan.variant ++ style_text ++ strips_text (16 * plan.params.payload_words) ++ figures_text plan
+top_text plan = head_text plan.variant ++ style_text ++ strips_text (16 * plan.params.payload_words) ++ sheet_text (plan.params.cycles + 5) ++ figures_text plan
 
 unfoldable pub cycle_text : ℕ → List ℕ
 cycle_text n = together (codes "<text class=names x=3.6 y=" ∷ decimal n ∷ codes ">" ∷ decimal n ∷ codes "</text>" ∷ [])

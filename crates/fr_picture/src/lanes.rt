@@ -171,7 +171,7 @@ fn push_view(height: u32, first: u32, out: &mut String) -> Result<(), NoMemory>
 {
     write!(
         out,
-        " viewBox=\"0 -4 138 {height}\"><use href=#cycles /><g id=g{first}>\n"
+        " viewBox=\"0 -4 138 {height}\" preserveAspectRatio=none><use href=#cycles /><g id=g{first}>\n"
     )
 }
 

@@ -2,7 +2,7 @@
 ghost use Rattle.std.specs.Prelude.{◌≡◌, OnOk, IfOk};
 ghost use Rattle.std.specs.String.{string_bytes};
 ghost use Rattle.fr_picture.specs.FrameIndexes.{AreByName};
-ghost use Rattle.fr_picture.specs.Pages.{IsPage, bands_text, cluster_text, cycle_figures, cycle_text, cycles_text, drawing_text, figures_text, frame_parts, frames_head, head_text, heading_text, legend_end, opened_text, page_text, parent_text, segment_figures, state_text, strips_text, suppliers_text, top_text, viewer_text};
+ghost use Rattle.fr_picture.specs.Pages.{IsPage, bands_text, cluster_text, cycle_figures, cycle_text, cycles_text, drawing_text, figures_text, frame_parts, frames_head, head_text, heading_text, legend_end, opened_text, page_text, parent_text, segment_figures, sheet_text, state_text, strips_text, suppliers_text, top_text, viewer_text};
 ghost use Rattle.fr_picture.specs.Texts.{Appends};
 
 use crate::drawing::{Drawing, Lane, Scale, draw};
@@ -68,6 +68,7 @@ fn push_top(plan: &Plan, out: &mut String) -> Result<(), NoMemory>
     push_head(plan.variant, out)?;
     push(style(), out)?;
     push_strips(16 * plan.params.payload_words(), out)?;
+    push_sheet(plan.params.cycles() + 5, out)?;
     push_figures(plan, out)
 }
 
@@ -77,6 +78,17 @@ fn push_strips(bits: u32, out: &mut String) -> Result<(), NoMemory>
     ensures { OnOk result (Appends out.old out.new (strips_text bits)) }
 {
     write!(out, "td path{{transform:scale(calc(400/{bits}),1)}}\n")
+}
+
+// Appends how high a part of the drawing is on paper, where it has this height.
+#[tactic(auto, unfolding(crate::specs::Pages::sheet_text))]
+fn push_sheet(height: u32, out: &mut String) -> Result<(), NoMemory>
+    ensures { OnOk result (Appends out.old out.new (sheet_text height)) }
+{
+    write!(
+        out,
+        "@media print{{.plan>svg{{height:calc({height}*2.5mm)}}}}\n"
+    )
 }
 
 #[tactic(auto, unfolding(crate::specs::Pages::head_text))]
