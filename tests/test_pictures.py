@@ -6,10 +6,11 @@ from tests.lib.picture import Page, compare
 from tests.lib.plans import Register, examples, limits
 
 # How many bytes a page may have at the limits, by itself and for each supplier, lane, placement, frame and signal, as FORMATS says.
-PAGE, SUPPLIER, LANE, PLACEMENT, FRAME, SIGNAL = 25_000, 100, 220, 150, 170, 35
+PAGE, SUPPLIER, LANE, PLACEMENT, FRAME, SIGNAL = 25_000, 110, 220, 235, 170, 35
 
 # The suppliers' colours: eight that readers who are colour-blind can tell apart.
 COLOURS = {"#56B4E9", "#E69F00", "#009E73", "#F0E442", "#CC79A7", "#D55E00", "#0072B2", "#882255"}
+SHADE = re.compile(r"^\.c(\d) \.o\{fill:(#\w{6})\}$", re.M)
 COLOUR = re.compile(r"^\.c(\d)\{fill:(#\w{6});background:(#\w{6});stroke:(#\w{6})\}$", re.M)
 
 
@@ -65,6 +66,7 @@ class ColoursOfSuppliers(PictureCase):
         given = COLOUR.findall(text)
         self.see("the colours' numbers", list("01234567"), [number for number, *_ in given])
         self.see("the colours", sorted(COLOURS), sorted(lane for _, lane, _, _ in given))
+        self.see("the other shades' numbers", list("01234567"), [number for number, _ in SHADE.findall(text)])
         self.see("a colour that differs in the legend or in a hatched cell", [], [colour for colour in given if len(set(colour[1:])) > 1])
 
 

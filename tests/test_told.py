@@ -230,6 +230,53 @@ class Pictures(RegisterCase):
             self.see(f"{word} stands there", True, word in texts.lower())
 
 
+# Where a frame's rectangles lead, its title's names, slot and channel, and its numbers; a row, its number and names, and where its placements lead.
+DRAWN = re.compile(r"<a[^>]* id=(\w+) href=#(r\d+)><title>(\w+)\n(\w+) of (\w+)\n(\d+) ([AB]) [^<]*</title><(?:use|path)[^>]*/>.*?<text[^>]*>(\d+)[ <]")
+ROW = re.compile(r"<tr id=(r\d+)><td>(\d+)<td>(\w+)<td>(\w+)<td>(\w+)<td>((?:<a.*</a>\n)*)")
+BACK = re.compile(r"<a href=#(\w+)>(\d+) ([AB]+) \d+/\d+</a>\n")
+
+
+class Ways(RegisterCase):
+    """From a frame in the drawing one comes to its row, and from a placement there to the frame in that slot. Nothing hides these ways from a screen
+    reader or a keyboard, and a narrow screen is told that the page is as wide as it is."""
+
+    def test_ways(self):
+        page = drawn(self.folder)
+        frames = {id: (row, (frame, node, supplier), slot, channel, number) for id, row, frame, node, supplier, slot, channel, number in DRAWN.findall(page)}
+        rows = {row: (number, names, BACK.findall(placed)) for row, number, *names, placed in ROW.findall(page)}
+        self.see("what is drawn, and the rows", (True, True), (len(frames) == page.count("<a id=") + page.count("<a class=o id=") > 20, len(rows) > 10))
+        for id, (row, names, slot, channel, number) in frames.items():
+            self.see(f"where {id} leads, and its number", (list(names), number), (rows[row][1], rows[row][0]))
+        for row, (_, names, placed) in rows.items():
+            for id, slot, channels in placed:
+                self.see(f"where a placement of {row} leads", (row, tuple(names), slot, channels[0]), frames[id][:4])
+
+    def test_shades(self):
+        """Neighbours in a lane have two shades: where the one begins in an even cycle, and the other in an odd one."""
+        drawn_at = re.findall(r"<a( class=o)? id=\d+[AB]\d+ href=#r\d+><title>\w+\n\w+ of \w+\n\d+ [AB] (?:cycles )?(\d+)", drawn(self.folder))
+        self.see("frames of each shade", (True, True), (any(odd for odd, _ in drawn_at), not all(odd for odd, _ in drawn_at)))
+        self.see("frames of the wrong shade", [], [it for it in drawn_at if bool(it[0]) != int(it[1]) % 2])
+
+    def test_looks(self):
+        """Of twenty suppliers with a lane each no two look alike, in the drawing and in the legend; each looks the same in both."""
+        names = [f"maker{number:02}" for number in range(20)]
+        head = CLUSTER.decode().split("[suppliers]")[0].replace("static_slots = 4", "static_slots = 20").replace("macroticks_per_cycle = 100", "macroticks_per_cycle = 260")
+        ask = ['integrator1 {"do":"open_variant","variant":"v1"}']
+        for slot, name in enumerate(names, 1):
+            ask.append('integrator1 {"do":"add_node","supplier":"%s","node":"n1"}' % name)
+            ask.append('integrator1 {"do":"grant","variant":"v1","slot":%d,"channel":"A","supplier":"%s","node":"n1"}' % (slot, name))
+        register = Register(self.folder, head + "[suppliers]\n" + "".join(f'{name} = "key{name}"\n' for name in names), "\n".join(ask))
+        page = register.tell("picture", "car.db", "v1")
+        lanes = re.findall(r'<svg class=("[^"]+"|\w+) x=\d+><title>n1 of (\w+)\n', page)
+        keys = re.findall(r'<li><i class=("[^"]+"|\w+)>\w+</i> (\w+):', page)
+        self.see("the looks", (20, sorted(lanes)), (len({look for look, _ in keys}), sorted(keys)))
+
+    def test_reach(self):
+        page = drawn(self.folder)
+        self.see("what hides links", [], re.findall(r"role=(?:img|presentation)|aria-hidden=true><a|tabindex=-", page))
+        self.see("the width", 1, page.count('<meta name=viewport content="width=device-width,initial-scale=1">'))
+
+
 class SeenInABrowser(RegisterCase):
     """Each of a picture's texts can be seen where there is chromium, on a screen and on a narrow one."""
 

@@ -14,6 +14,15 @@ KEY = re.compile(r"([a-h]\d?) (\w+): lanes (\d+), cells (\d+), sent in (\d+) of 
 SENT = re.compile(r"(?:(\d+/\d+)|cycles((?: [\d-]+)+)) (\w+)")
 # A colour of the page's style: of lanes, and of the legend.
 COLOUR = re.compile(r"\.c(\d)\{fill:#(\w{6});background:#(\w{6});")
+# The other shade of a colour, of frames that begin in an odd cycle.
+SHADE = re.compile(r"\.c(\d) \.o\{fill:#(\w{6})\}")
+# The patterns over the colours of suppliers behind the first eight: in the drawing, where they are used there, and in the legend.
+PATTERN = re.compile(r"<pattern id=t(\d)( .*?)</pattern>")
+OVER = re.compile(r"^\.t(\d)\{--p:url\(#t(\d)\)\}$", re.M)
+KEYED = re.compile(r"^i\.t(\d)\{(background-image:.*)\}$", re.M)
+# How high a part is on paper, in millimetres: so much for each unit of its height. A sheet of A4 that lies on its side has 186 between its margins, of
+# which a heading takes 13. A part is as wide as the sheet, 277, and so 138 units are.
+PAPER, LEFT = re.compile(r"^@media print\{\.plan>svg\{height:calc\((\d+)\*2\.5mm\)\}\}$", re.M), 186 - 13
 # Where the lanes of a part begin; where channel B stands further right, where the cluster has both; and how narrow and how wide a lane may be.
 START, SHIFT, NARROW, WIDE = 4, 68, 2, 12
 
@@ -31,6 +40,11 @@ def mark_of(place):
     return "abcdefgh"[place % 8] + (str(place // 8) if place > 7 else "")
 
 
+def look_of(place):
+    """The classes of the supplier at this place: its colour, and behind the first eight a pattern."""
+    return f"c{place % 8}" + (f" t{place // 8}" if place > 7 else "")
+
+
 class Part:
     """A part of the drawing: its heading, its name where it is shown small, and its lanes, the attributes of each with its title and its shapes."""
 
@@ -39,16 +53,18 @@ class Part:
 
 
 class Page(HTMLParser):
-    """The parts of a page, its legend, index and tables, and where its links lead. Each shape of a lane has its attributes, title and text."""
+    """The parts of a page, its legend, index and tables, and where its links lead. Each shape of a lane, and of a link in it, has its attributes and text."""
 
     def __init__(self, text):
         super().__init__()
         self.shapes = {}  # by their names, as lists of rectangles
         self.parts, self.small, self.keys, self.index, self.tables, self.text = [], [], [], [], [], ""
         self.ids, self.links, self.headings = [], [], {}
+        self.metas, self.backs = {}, {}  # what the page says of itself; by its row, where each placement of a frame leads
         self.open = []
         self.hatched = []  # the cycles, each by one more, that have a line across in a granted lane
-        self.lane = self.shape = self.heading = self.titled = None
+        self.lane = self.link = self.shape = self.heading = self.titled = None
+        self.boxed, self.named = False, None
         self.feed(text)
         self.close()
 
@@ -70,8 +86,11 @@ class Page(HTMLParser):
             self.headings |= {self.titled: ""} if self.titled else {}
         elif tag == "div" and given.get("class") == "plan":
             assert "tabindex" in given and given["aria-labelledby"] == self.heading, given
-        elif tag == "svg" and given.get("role") == "img":
-            assert given["aria-labelledby"] == self.heading, given
+            self.boxed = True
+        elif tag == "svg" and self.boxed:
+            # What it has can be focused, so it is no image.
+            assert given["role"] == "none", given
+            self.boxed = False
             self.parts.append(Part(self.heading, given))
         elif tag == "g" and self.parts and not self.tables:
             self.parts[-1].group = given["id"]
@@ -79,22 +98,33 @@ class Page(HTMLParser):
             self.small.append([given["href"], None, ""])
         elif tag == "use" and "nav" in self.open:
             self.small[-1][1] = given["href"]
-        elif tag == "path" and given.get("id", "").isdigit():
-            self.shapes[given["id"]] = boxes(given["d"])
-        elif tag == "path" and "g" in self.open and not self.parts and "id" not in given:
+        elif tag == "g" and given.get("id", "").isdigit():
+            self.named = given["id"]
+        elif tag == "path" and self.named:
+            # Over each shape stands that of a pattern, the same.
+            assert given.get("class") == (None, "h")[self.named in self.shapes], given
+            assert self.shapes.setdefault(self.named, boxes(given["d"])) == boxes(given["d"]), given
+        elif tag == "path" and "g" in self.open and "pattern" not in self.open and not self.parts and "id" not in given:
             self.hatched += [int(y) for y in re.findall(r"M0 (\d+)l\d+-1", given["d"])]
         elif self.parts and tag == "svg" and not self.tables:
-            self.lane = {"tag": tag, **given, "title": "", "shapes": []}
+            self.lane = {"tag": tag, **given, "title": "", "shapes": [], "links": []}
             self.parts[-1].lanes.append(self.lane)
+        elif self.lane is not None and tag == "a":
+            self.link = {**given, "title": "", "shapes": []}
+            self.lane["links"].append(self.link)
         elif self.lane is not None and tag in ("use", "path", "text"):
-            self.shape = {"tag": tag, **given, "title": "", "text": ""}
-            self.lane["shapes"].append(self.shape)
+            self.shape = {"tag": tag, **given, "text": ""}
+            (self.link or self.lane)["shapes"].append(self.shape)
+        elif tag == "meta":
+            self.metas |= {given["name"]: given["content"]} if "name" in given else {}
+        elif tag == "a" and "td" in self.open:
+            self.backs.setdefault(self.tables[-1][-1][0], []).append(given["href"])
         elif tag == "ul":
             self.list = self.index if given.get("class") == "index" else self.keys
         elif tag == "li":
             self.list.append(["", ""])
-        elif tag == "a":
-            self.list[-1][1] = given["href"]
+        elif tag in ("a", "i"):
+            self.list[-1][1] = given["href" if tag == "a" else "class"]
         elif tag == "table":
             self.tables.append([])
         elif tag == "tr":
@@ -113,6 +143,10 @@ class Page(HTMLParser):
             pass
         if tag in ("use", "path", "text"):
             self.shape = None
+        elif tag == "g":
+            self.named = None
+        elif tag == "a":
+            self.link = None
         elif tag == "svg":
             self.lane = None
 
@@ -127,10 +161,10 @@ class Page(HTMLParser):
         elif "h2" in inside and self.titled:
             self.headings[self.titled] += data
         elif self.shape is not None:
-            self.shape["title" if "title" in inside else "text"] += data
+            self.shape["text"] += data
         elif self.lane is not None:
             assert "title" in inside, data
-            self.lane["title"] += data
+            (self.link or self.lane)["title"] += data
         elif "style" not in inside:
             self.text += data
 
@@ -177,7 +211,7 @@ def read(text, channels, count):
                     said, first, last = GAP.fullmatch(shape["text"]).groups()
                     gaps.add((int(first), int(last or first), said))
                     shown.add(int(first))
-                elif shape["tag"] == "text" and shape["y"] in ("-1", str(count)) and not shape["title"] and here in lanes and len(lanes[here].marks) < 2:
+                elif shape["tag"] == "text" and shape["y"] in ("-1", str(count)) and here in lanes and len(lanes[here].marks) < 2:
                     lanes[here].marks.append((shape["y"], shape["text"]))
                 elif shape.get("href") == "#free":
                     free.add(here)
@@ -185,23 +219,39 @@ def read(text, channels, count):
                     node, supplier, slot, channel = HELD.fullmatch(drawn["title"]).groups()
                     assert (int(slot), channel) == here, drawn
                     lanes.setdefault(here, Lane()).holders.append((node, supplier))
-                elif shape["title"]:
-                    frame, node, supplier, slot, channel, repeated, single = TITLE.fullmatch(shape["title"]).groups()
-                    if shape["tag"] == "use":
-                        rectangles = [(bx, int(shape.get("y", 0)) + by, bw, bh) for bx, by, bw, bh in page.shapes[shape["href"][1:]]]
-                    else:
-                        rectangles = boxes(shape["d"])
-                    assert (int(slot), channel) == here, shape
-                    assert all(bx == 0 and not [at for at in places if x < at < x + bw] for bx, _, bw, _ in rectangles), shape
-                    told = sorted(cycles_of(repeated or single, count))
-                    assert told == sorted(c for _, y, _, high in rectangles for c in range(y, y + high)), shape
-                    lanes.setdefault(here, Lane()).kinds.append((frame, node, supplier, drawn["class"], [(y, high) for _, y, _, high in rectangles]))
+            for link in drawn["links"]:
+                frame, node, supplier, slot, channel, repeated, single = TITLE.fullmatch(link["title"]).groups()
+                labels = [it for it in link["shapes"] if it["tag"] == "text"]
+                shape, *over = (it for it in link["shapes"] if it["tag"] != "text")
+                assert over == ([] if shape["tag"] == "use" else [{**shape, "class": "h"}]), link
+                if shape["tag"] == "use":
+                    rectangles = [(bx, int(shape.get("y", 0)) + by, bw, bh) for bx, by, bw, bh in page.shapes[shape["href"][1:]]]
+                else:
+                    rectangles = boxes(shape["d"])
+                assert (int(slot), channel) == here, link
+                assert all(bx == 0 and not [at for at in places if x < at < x + bw] for bx, _, bw, _ in rectangles), link
+                told = sorted(cycles_of(repeated or single, count))
+                assert told == sorted(c for _, y, _, high in rectangles for c in range(y, y + high)), link
+                number = number_of(link, here, labels, min(rectangles, key=lambda box: box[1]), frame)
+                assert link.get("class") == (None, "o")[told[0] % 2], link
+                lanes.setdefault(here, Lane()).kinds.append((frame, node, supplier, drawn["class"], [(y, high) for _, y, _, high in rectangles], number))
         firsts.append(min(shown | set(columns.values())))
     # Each part has its heading; where there are more, the overview shows each and leads to it.
     assert [page.headings[part.heading].split(": ")[1] for part in page.parts] == [f"slots from {first} on" for first in firsts], page.headings
     small = [(f"#{part.heading}", f"#{part.group}", f"from {first}") for part, first in zip(page.parts, firsts)]
     assert [(to, what, said.strip()) for to, what, said in page.small] == (small if len(small) > 1 else []), page.small
     return page, lanes, gaps, free
+
+
+def number_of(link, here, labels, first, frame):
+    """The number of the row to which a frame's rectangles lead. It stands in the first of them, and the frame's name beside it, or down below it."""
+    number = link["href"].removeprefix("#r")
+    assert link["id"] == f"{here[0]}{here[1]}{number}", link
+    (said, at), *more = [(label["text"].split(" "), int(label["y"])) for label in labels]
+    _, top, _, high = first
+    assert at == top and said in ([number], [number, frame]), link
+    assert not more or more == [([frame], top + 1)] and said == [number] and high > 1, link
+    return int(number)
 
 
 def bits_of(start, length, order):
@@ -239,22 +289,26 @@ def compare(text, plan):
     compare_drawing(found.same, page, lanes, gaps, free, plan)
     compare_columns(found.same, page, plan)
     compare_colours(found.same, text)
+    compare_patterns(found.same, text)
     marks = {supplier: mark_of(place) for place, supplier in enumerate(plan["suppliers"])}
     compare_suppliers(found.same, page, lanes, marks, plan)
     compare_slots(found.same, page, marks, plan)
     compare_frames(found.same, page, marks, plan)
+    compare_ways(found.same, page, lanes)
+    compare_sheets(found.same, page, text, plan)
+    found.same("what a narrow screen is told", "width=device-width,initial-scale=1", page.metas.get("viewport"))
     return found.lines
 
 
 def compare_drawing(same, page, lanes, gaps, free, plan):
     """The drawing has the plan's cells and grants, and the rest of the slots as gaps and crossed lanes."""
     same("the cycles in which a granted lane is hatched", list(range(1, plan["cycles"] + 1)), page.hatched)
-    drawn = [(c, slot, channel, frame, node, supplier) for (slot, channel), lane in lanes.items() for frame, node, supplier, _, runs in lane.kinds for y, high in runs for c in range(y, y + high)]
+    drawn = [(c, slot, channel, frame, node, supplier) for (slot, channel), lane in lanes.items() for frame, node, supplier, _, runs, _ in lane.kinds for y, high in runs for c in range(y, y + high)]
     same("the cells", sorted(plan["cells"]), sorted(drawn))
     held = [(slot, channel, node, supplier) for (slot, channel), lane in lanes.items() for node, supplier in lane.holders]
     same("the grants", sorted(plan["grants"]), sorted(held))
     for (slot, channel), lane in lanes.items():
-        for frame, _, supplier, _, runs in lane.kinds:
+        for frame, _, supplier, _, runs, _ in lane.kinds:
             ends = {y + high for y, high in runs}
             same(f"rectangles of {frame} in slot {slot} on {channel} that could be one", [], [y for y, _ in runs if y in ends])
         names = [kind[0::2][:2] for kind in lane.kinds]
@@ -294,12 +348,26 @@ def compare_columns(same, page, plan):
 
 
 def compare_colours(same, text):
-    """Each letter has a colour of its own, the same in the drawing and in the legend. Two differ in red, green or blue by a fifth of what they may."""
+    """Each letter has a colour of its own, the same in the drawing and in the legend. Two differ in red, green or blue by a fifth of what they may. Each
+    has another shade, which differs from it as much, and from all else by an eighth."""
     colours = COLOUR.findall(text)
     same("the colours of the legend", [(place, fill) for place, fill, _ in colours], [(place, ground) for place, _, ground in colours])
     same("whose colours they are", [str(place) for place in range(8)], [place for place, _, _ in colours])
     parts = [bytes.fromhex(fill) for _, fill, _ in colours]
-    same("colours that are alike", [], [pair for pair in combinations(parts, 2) if max(abs(a - b) for a, b in zip(*pair)) < 50])
+    shades = [bytes.fromhex(fill) for _, fill in SHADE.findall(text)]
+    apart = lambda one, other: max(abs(a - b) for a, b in zip(one, other))
+    same("colours that are alike", [], [pair for pair in combinations(parts, 2) if apart(*pair) < 50])
+    same("whose shades they are", [str(place) for place in range(8)], [place for place, _ in SHADE.findall(text)])
+    same("shades that are like their colour", [], [pair for pair in zip(parts, shades) if apart(*pair) < 50])
+    same("shades that are alike, or like a colour", [], [pair for pair in combinations(parts + shades, 2) if apart(*pair) < 32])
+
+
+def compare_patterns(same, text):
+    """There are seven patterns, so that each of 64 suppliers has its own look, and each is one of the drawing and one of the legend, unlike the others."""
+    drawn, used, keyed = PATTERN.findall(text), OVER.findall(text), KEYED.findall(text)
+    numbers = list("1234567")
+    same("the patterns", [numbers, [(n, n) for n in numbers], numbers], [[n for n, _ in drawn], used, [n for n, _ in keyed]])
+    same("patterns that are alike", (7, 7), (len({look for _, look in drawn}), len({look for _, look in keyed})))
 
 
 def compare_suppliers(same, page, lanes, marks, plan):
@@ -311,9 +379,11 @@ def compare_suppliers(same, page, lanes, marks, plan):
         sent = sum(cell[5] == key[2] for cell in plan["cells"])
         room = lanes_held * plan["cycles"]
         same(f"how full the grants of {key[2]} are", (lanes_held, room, sent, sent * 100 // room if room else 0), tuple(map(int, key.groups()[2:])))
+    looks = {supplier: look_of(place) for place, supplier in enumerate(plan["suppliers"])}
+    same("the looks of the legend", list(looks.values()), [look for _, look in page.keys])
     both = lambda mark: [("-1", mark), (str(plan["cycles"]), mark)]
     same("marks above and below lanes", [], [at for at, lane in lanes.items() for _, supplier in lane.holders if lane.marks != both(marks.get(supplier))])
-    same("colours", [], [kind for lane in lanes.values() for kind in lane.kinds if kind[3] != "c%d" % "abcdefgh".index(marks[kind[2]][0])])
+    same("looks", [], [kind for lane in lanes.values() for kind in lane.kinds if kind[3] != looks[kind[2]]])
 
 
 def compare_slots(same, page, marks, plan):
@@ -353,3 +423,22 @@ def compare_frames(same, page, marks, plan):
     same("the frames' numbers", [(f"r{number}", str(number)) for number in range(1, len(got) + 1)], numbers)
     entries = sorted(((name, number, supplier) for number, (name, _, supplier, _, _) in enumerate(got, 1)), key=lambda entry: entry[:2])
     same("the index", [(f"{name} {marks[supplier]} {number}", f"#r{number}") for name, number, supplier in entries], [(text.strip(), to) for text, to in page.index])
+
+
+def compare_ways(same, page, lanes):
+    """Each frame's rectangles in a lane lead to its row, and say that row's number; from there each placement leads to them."""
+    rows = {(name, node, supplier): (int(number), placed) for _, number, name, node, supplier, placed, *_ in page.tables[1][2:]}
+    drawn = [(frame, node, supplier, number) for lane in lanes.values() for frame, node, supplier, _, _, number in lane.kinds]
+    same("numbers that are not those of the frame's row", [], [it for it in drawn if it[3] != rows[it[:3]][0]])
+    for number, placed in rows.values():
+        ways = [f"#{slot}{channels[0]}{number}" for slot, channels, _ in (line.split() for line in placed.split("\n") if line)]
+        same(f"where the placements of row {number} lead", ways, page.backs.get(f"r{number}", []))
+
+
+def compare_sheets(same, page, text, plan):
+    """On paper each part is as high as the sheet has room for where there are 64 cycles, and its figures are stretched by no more than a quarter."""
+    high = plan["cycles"] + 5
+    same("how high a part is on paper", [str(high)], PAPER.findall(text))
+    same("whether it fits", True, high * 2.5 <= LEFT and 1 < 2.5 / (277 / 138) < 1.25)
+    drawn = (f"0 -4 138 {high}", "none")
+    same("parts that are not stretched", [], [part.given for part in page.parts if (part.given["viewbox"], part.given.get("preserveaspectratio")) != drawn])

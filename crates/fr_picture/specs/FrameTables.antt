@@ -1,10 +1,14 @@
--- Table of frames: when frames stand in order, the worst first. The text of a frame's row: its
--- number in this order, its names, placements and greatest gap, and its payload.
+-- Table of frames: when frames stand in order, the worst first. The text of a frame's row: its number in this order, its
+-- names, its placements, each of which leads to where it is drawn, its greatest gap, and its payload.
 use Rattle.std.specs.Prelude.{ℕ, ◌-◌, ◌^◌, List, [], ◌∷◌, ◌++◌, codes, decimal, Option, Some, None}
 use Rattle.std.specs.List.{enumerate_from, flat_map}
 use Rattle.std.specs.List.Sorted.{IsNonDecreasingBy, IsStableByKey}
 use Rattle.std.specs.Ordering.{nat_cmp}
-use Rattle.fr_base.specs.Channels.{text_of_channels}
+use Rattle.fr_base.specs.Channels.{text_of_channel, text_of_channels}
+use Rattle.fr_base.specs.declared.channel.Channel.{Channel}
+use Rattle.fr_base.specs.declared.channel.Channel.TheVariants.{A, B}
+use Rattle.fr_base.specs.declared.channel.Channels.{Channels}
+use Rattle.fr_base.specs.declared.channel.Channels.TheVariants as channels
 use Rattle.fr_base.specs.declared.name.Name.{Name}
 use Rattle.fr_base.specs.declared.placement.Placement.{Placement}
 use Rattle.fr_picture.specs.declared.frame_table.DrawnFrame.{DrawnFrame}
@@ -36,16 +40,28 @@ unfoldable pub names_text : Name → Name → Name → List ℕ
 names_text frame node supplier =
     together (codes "<td>" ∷ frame ∷ codes "<td>" ∷ node ∷ codes "<td>" ∷ supplier ∷ codes "<td>" ∷ [])
 
+-- the first of a placement's channels
+unfoldable pub first_of : Channels → Channel
+first_of channels.A = A
+first_of channels.AB = A
+first_of channels.B = B
+
+-- the beginning of what leads to where the frame of this number is drawn in a slot and channel
+unfoldable pub back_text : ℕ → ℕ → List ℕ → List ℕ
+back_text number slot channel = together (codes "<a href=#" ∷ decimal slot ∷ channel ∷ decimal number ∷ codes ">" ∷ [])
+
 -- slot, channels, base and repetition
 unfoldable pub placement_text_of : ℕ → List ℕ → ℕ → ℕ → List ℕ
 placement_text_of slot channels base repetition =
-    together (decimal slot ∷ codes " " ∷ channels ∷ codes " " ∷ decimal base ∷ codes "/" ∷ decimal repetition ∷ codes "\n" ∷ [])
+    together (decimal slot ∷ codes " " ∷ channels ∷ codes " " ∷ decimal base ∷ codes "/" ∷ decimal repetition ∷ codes "</a>\n" ∷ [])
 
-unfoldable pub placement_text : Placement → List ℕ
-placement_text q = placement_text_of q.slot (text_of_channels q.channels) q.cycles.base q.cycles.repetition
+-- a placement of the frame of this number, which leads to where it is drawn on its first channel
+unfoldable pub placement_text : ℕ → Placement → List ℕ
+placement_text number q =
+    back_text number q.slot (text_of_channel (first_of q.channels)) ++ placement_text_of q.slot (text_of_channels q.channels) q.cycles.base q.cycles.repetition
 
-unfoldable pub placements_text : List Placement → List ℕ
-placements_text placements = flat_map placement_text placements
+unfoldable pub placements_text : ℕ → List Placement → List ℕ
+placements_text number placements = flat_map (placement_text number) placements
 
 unfoldable pub number_text : ℕ → List ℕ
 number_text n = together (codes "<td>" ∷ decimal n ∷ [])
@@ -58,7 +74,7 @@ gap_word (Some gap) = number_text gap
 -- a frame's row: its number, its names, its placements, its greatest gap, and its payload as a strip of bits
 unfoldable pub frame_text : ℕ → DrawnFrame → List ℕ
 frame_text number f =
-    row_start number ++ names_text f.row.frame f.row.node f.row.supplier ++ placements_text f.row.placements ++ gap_word f.gap ++ strip_text f.signals
+    row_start number ++ names_text f.row.frame f.row.node f.row.supplier ++ placements_text number f.row.placements ++ gap_word f.gap ++ strip_text f.signals
 
 unfoldable pub frames_text : List DrawnFrame → List ℕ
 frames_text frames = flat_map (λ p. frame_text p.0 p.1) (enumerate_from 1 frames)

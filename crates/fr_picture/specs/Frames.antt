@@ -14,7 +14,6 @@ use Rattle.fr_base.specs.declared.refusal.Refusal.{Refusal}
 use Rattle.fr_base.specs.declared.refusal.Refusal.TheVariants.{Unavailable}
 use Rattle.fr_base.specs.declared.request.Request.{Request}
 use Rattle.fr_base.specs.declared.report.Report.TheVariants.{Grants, Frames, Schedule, Gaps, Layout}
-use Rattle.fr_base.specs.declared.request.Request.TheVariants as request
 use Rattle.fr_picture.specs.FrameTables.{AreWorstFirst, KeepTies}
 use Rattle.fr_picture.specs.Strips.{HasItsBits}
 use Rattle.fr_picture.specs.declared.frame_table.DrawnFrame.{DrawnFrame}

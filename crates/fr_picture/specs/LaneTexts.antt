@@ -1,6 +1,6 @@
 -- Text of a lane: the slot's number, a gap, the holder's mark above and below the lane, and its rectangles. A part of
 -- the drawing has its heading.
-use Rattle.std.specs.Prelude.{ℕ, ◌%◌, ◌==◌, ◌&&◌, Bool, false, length, List, [], ◌∷◌, ◌++◌, codes, decimal, Option, Some, None, if◌then◌else◌}
+use Rattle.std.specs.Prelude.{ℕ, ◌==◌, ◌&&◌, Bool, false, length, List, [], ◌∷◌, ◌++◌, codes, decimal, Option, Some, None, if◌then◌else◌}
 use Rattle.std.specs.List.{flat_map}
 use Rattle.fr_base.specs.Channels.{text_of_channel}
 use Rattle.fr_base.specs.declared.answer.GrantRow.{GrantRow}
@@ -10,10 +10,11 @@ use Rattle.fr_picture.specs.declared.drawing.lane.Lane.{Lane}
 use Rattle.fr_picture.specs.declared.drawing.marks.Shows.{Shows}
 use Rattle.fr_picture.specs.declared.drawing.marks.Shows.TheVariants.{Nothing, Slot, Gap}
 use Rattle.fr_picture.specs.declared.drawing.rectangle.Rectangle.{Rectangle}
+use Rattle.fr_picture.specs.declared.frame_index.Entry.{Entry}
 use Rattle.fr_picture.specs.declared.plan.Plan.{Plan}
-use Rattle.fr_picture.specs.declared.texts.Fixed.TheVariants.{Free, GapOfNobody, GapOfOthers, LaneEnd, TextEnd}
+use Rattle.fr_picture.specs.declared.texts.Fixed.TheVariants.{Free, GapOfNobody, GapOfOthers, LaneEnd, LaneStart, TextEnd}
 use Rattle.fr_picture.specs.Kinds.{rectangles_text}
-use Rattle.fr_picture.specs.Shares.{mark_text, number_of}
+use Rattle.fr_picture.specs.Shares.{look_text, mark_text, number_of}
 use Rattle.fr_picture.specs.Texts.{together, fixed_text}
 
 -- the heading of a part of the drawing
@@ -21,13 +22,13 @@ unfoldable pub heading_text : Name → ℕ → List ℕ
 heading_text variant first =
     together (codes "</g></svg></div>\n<h2 id=p" ∷ decimal first ∷ codes ">Variant " ∷ variant ∷ codes ": slots from " ∷ decimal first ∷ codes " on</h2>\n" ∷ [])
 
--- a box that scrolls, and the drawing in it, both named by the heading
+-- a box that scrolls, named by the heading, and the drawing in it. What it has can be focused, so it is no image.
 unfoldable pub box_start : ℕ → List ℕ
 box_start first =
-    together (codes "<div class=plan role=group aria-labelledby=p" ∷ decimal first ∷ codes " tabindex=0><svg role=img aria-labelledby=p" ∷ decimal first ∷ [])
+    together (codes "<div class=plan role=group aria-labelledby=p" ∷ decimal first ∷ codes " tabindex=0><svg role=none" ∷ [])
 
 unfoldable pub view_text : ℕ → ℕ → List ℕ
-view_text height first = together (codes " viewBox=\"0 -4 138 " ∷ decimal height ∷ codes "\"><use href=#cycles /><g id=g" ∷ decimal first ∷ codes ">\n" ∷ [])
+view_text height first = together (codes " viewBox=\"0 -4 138 " ∷ decimal height ∷ codes "\" preserveAspectRatio=none><use href=#cycles /><g id=g" ∷ decimal first ∷ codes ">\n" ∷ [])
 
 -- the beginning of a part of the drawing, and the end of the part before
 unfoldable pub part_text : Name → ℕ → ℕ → List ℕ
@@ -88,26 +89,30 @@ is_bare Nothing grants rectangles = (length grants == 0) && (length rectangles =
 is_bare (Slot n) grants rectangles = false
 is_bare (Gap first last) grants rectangles = false
 
--- the colour of the lane's holder
-unfoldable pub colour_of : List Name → List GrantRow → ℕ
-colour_of names [] = 0
-colour_of names (g ∷ grants) = number_of names g.supplier % 8
+-- the number of the lane's holder
+unfoldable pub holder_of : List Name → List GrantRow → ℕ
+holder_of names [] = 0
+holder_of names (g ∷ grants) = number_of names g.supplier
 
+unfoldable pub edge_text : ℕ → List ℕ
+edge_text x = together (codes " x=" ∷ decimal x ∷ codes ">" ∷ [])
+
+-- the beginning of a lane: the look of its holder, and its left edge
 unfoldable pub start_text : ℕ → ℕ → List ℕ
-start_text colour x = together (codes "<svg class=c" ∷ decimal colour ∷ codes " x=" ∷ decimal x ∷ codes ">" ∷ [])
+start_text number x = fixed_text LaneStart ++ look_text number ++ edge_text x
 
--- what is drawn of a lane, in its colour: its grant, and over it its rectangles
-unfoldable pub drawn_text : Plan → Scale → Lane → List ℕ
-drawn_text plan scale l =
-    start_text (colour_of plan.suppliers.items l.grants.items) l.place.x ++ grants_text plan.suppliers.items scale.cycles l.grants.items
-    ++ shows_text plan.supplier l.place.shows ++ ungranted_text l.place.shows l.grants.items ++ rectangles_text scale l.rectangles.items
+-- what is drawn of a lane, in its holder's look: its grant, and over it its rectangles
+unfoldable pub drawn_text : Plan → Scale → List Entry → Lane → List ℕ
+drawn_text plan scale index l =
+    start_text (holder_of plan.suppliers.items l.grants.items) l.place.x ++ grants_text plan.suppliers.items scale.cycles l.grants.items
+    ++ shows_text plan.supplier l.place.shows ++ ungranted_text l.place.shows l.grants.items ++ rectangles_text scale index l.rectangles.items
     ++ fixed_text LaneEnd
 
 -- a lane, where there is something to draw
-unfoldable pub lane_text : Plan → Scale → Lane → List ℕ
-lane_text plan scale l =
+unfoldable pub lane_text : Plan → Scale → List Entry → Lane → List ℕ
+lane_text plan scale index l =
     opens_text plan.variant scale.height l.place.opens ++ (if is_bare l.place.shows l.grants.items l.rectangles.items then []
-    else drawn_text plan scale l)
+    else drawn_text plan scale index l)
 
-unfoldable pub lanes_text : Plan → Scale → List Lane → List ℕ
-lanes_text plan scale lanes = flat_map (lane_text plan scale) lanes
+unfoldable pub lanes_text : Plan → Scale → List Entry → List Lane → List ℕ
+lanes_text plan scale index lanes = flat_map (lane_text plan scale index) lanes

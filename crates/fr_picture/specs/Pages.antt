@@ -1,6 +1,6 @@
 -- Page: the text is that of the variant and the cluster's figures, the legend, an overview, a drawing of exactly its grants
 -- and cells, the table of slots, and the index and the table of frames.
-use Rattle.std.specs.Prelude.{◌≡◌, ℕ, ◌*◌, Bool, List, [], ◌∷◌, ◌++◌, map, codes, decimal, Option, Some, None, if◌then◌else◌}
+use Rattle.std.specs.Prelude.{◌≡◌, ℕ, ◌+◌, ◌*◌, Bool, List, [], ◌∷◌, ◌++◌, map, codes, decimal, Option, Some, None, if◌then◌else◌}
 use Rattle.std.specs.List.{flat_map, range_with_len}
 use Rattle.fr_base.specs.Channels.{text_of_channels}
 use Rattle.fr_base.specs.declared.channel.Channels.{Channels}
@@ -28,7 +28,7 @@ use Rattle.fr_picture.specs.Texts.{together, fixed_text}
 
 unfoldable pub head_text : Name → List ℕ
 head_text variant =
-    together (codes "<!DOCTYPE html>\n<html lang=en>\n<meta charset=utf-8>\n<title>Plan of " ∷ variant ∷ codes "</title>\n<style>@page{@bottom-left{content:\"Variant "
+    together (codes "<!DOCTYPE html>\n<html lang=en>\n<meta charset=utf-8>\n<meta name=viewport content=\"width=device-width,initial-scale=1\">\n<title>Plan of " ∷ variant ∷ codes "</title>\n<style>@page{@bottom-left{content:\"Variant "
     ∷ variant ∷ codes "\"}}" ∷ [])
 
 unfoldable pub heading_text : Name → List ℕ
@@ -73,8 +73,12 @@ figures_text plan =
 unfoldable pub strips_text : ℕ → List ℕ
 strips_text bits = together (codes "td path{transform:scale(calc(400/" ∷ decimal bits ∷ codes "),1)}\n" ∷ [])
 
+-- how high a part of the drawing is on paper, where it has this height: with 64 cycles it fills a sheet of A4 that lies on its side
+unfoldable pub sheet_text : ℕ → List ℕ
+sheet_text height = together (codes "@media print{.plan>svg{height:calc(" ∷ decimal height ∷ codes "*2.5mm)}}\n" ∷ [])
+
 unfoldable pub top_text : Plan → List ℕ
-top_text plan = head_text plan.variant ++ style_text ++ strips_text (16 * plan.params.payload_words) ++ figures_text plan
+top_text plan = head_text plan.variant ++ style_text ++ strips_text (16 * plan.params.payload_words) ++ sheet_text (plan.params.cycles + 5) ++ figures_text plan
 
 unfoldable pub cycle_text : ℕ → List ℕ
 cycle_text n = together (codes "<text class=names x=3.6 y=" ∷ decimal n ∷ codes ">" ∷ decimal n ∷ codes "</text>" ∷ [])
@@ -98,10 +102,10 @@ legend_end (Some supplier) = fixed_text fixed.LegendEndOfOne
 unfoldable pub suppliers_text : Plan → List Share → List ℕ
 suppliers_text plan shares = fixed_text fixed.LegendStart ++ legend_text shares ++ legend_end plan.supplier
 
-unfoldable pub drawing_text : Plan → Scale → List Lane → List ℕ
-drawing_text plan scale lanes =
+unfoldable pub drawing_text : Plan → Scale → List Entry → List Lane → List ℕ
+drawing_text plan scale index lanes =
     fixed_text fixed.ShapesStart ++ shapes_text scale ++ fixed_text fixed.NumbersStart ++ cycles_text scale.cycles ++ bands_text plan.params.channels
-    ++ lanes_text plan scale lanes
+    ++ lanes_text plan scale index lanes
 
 -- the end of the index, and the head of the table of frames, which each printed page repeats
 unfoldable pub frames_head : Name → List ℕ
@@ -115,7 +119,7 @@ frame_parts plan index =
 
 unfoldable pub page_text : Plan → Drawing → List Entry → List Share → List ℕ
 page_text plan d index shares =
-    top_text plan ++ suppliers_text plan shares ++ overview_text d.scale.cycles (starts_of d.lanes.items) ++ drawing_text plan d.scale d.lanes.items
+    top_text plan ++ suppliers_text plan shares ++ overview_text d.scale.cycles (starts_of d.lanes.items) ++ drawing_text plan d.scale index d.lanes.items
     ++ slot_table_text plan d.scale.cycles d.lanes.items ++ frame_parts plan index
 
 -- how full the grants of the plan's suppliers are

@@ -1,9 +1,9 @@
--- Shapes: the text of the shapes that a page has once: the cells of each repetition, a hatched
--- lane, and a lane and a gap that nobody holds.
+-- Shapes: the text of what a page has once: patterns, the cells of each repetition, a hatched lane, and a lane and a gap
+-- that nobody holds.
 use Rattle.std.specs.Prelude.{ℕ, ◌+◌, ◌*◌, ◌/◌, ◌%◌, ◌==◌, List, [], ◌∷◌, ◌++◌, codes, decimal, if◌then◌else◌}
 use Rattle.std.specs.List.{flat_map, range_with_len}
 use Rattle.fr_picture.specs.declared.drawing.columns.Scale.{Scale}
-use Rattle.fr_picture.specs.declared.texts.Fixed.TheVariants.{FreeStart, HeldEnd, ShapeEnd}
+use Rattle.fr_picture.specs.declared.texts.Fixed.TheVariants.{FreeStart, GroupEnd, OverStart, Patterns}
 use Rattle.fr_picture.specs.Kinds.{box_text}
 use Rattle.fr_picture.specs.Texts.{together, fixed_text}
 
@@ -31,10 +31,10 @@ unfoldable pub hatches_text : ℕ → ℕ → List ℕ
 hatches_text width cycles = flat_map (hatch_text width) (range_with_len 0 cycles)
 
 unfoldable pub held_text : Scale → List ℕ
-held_text scale = hatches_text scale.width scale.cycles ++ fixed_text HeldEnd
+held_text scale = hatches_text scale.width scale.cycles ++ fixed_text GroupEnd
 
 unfoldable pub set_start : ℕ → List ℕ
-set_start repetition = together (codes "<path id=" ∷ decimal repetition ∷ codes " d=\"" ∷ [])
+set_start repetition = together (codes "<g id=" ∷ decimal repetition ∷ codes "><path d=\"" ∷ [])
 
 -- so many cells, one in each repetition
 unfoldable pub repeated_text : ℕ → ℕ → ℕ → List ℕ
@@ -45,13 +45,14 @@ unfoldable pub rows_text : Scale → ℕ → List ℕ
 rows_text scale repetition =
     if repetition == 1 then box_text 0 scale.width scale.cycles else repeated_text scale.width repetition (scale.cycles / repetition)
 
--- the shape of this repetition, if it divides the count of cycles
+-- the shape of this repetition, and over it that of a supplier's pattern, if it divides the count of cycles
 unfoldable pub set_path : Scale → ℕ → List ℕ
 set_path scale repetition =
-    if scale.cycles % repetition == 0 then set_start repetition ++ rows_text scale repetition ++ fixed_text ShapeEnd else []
+    if scale.cycles % repetition == 0 then set_start repetition ++ rows_text scale repetition ++ fixed_text OverStart ++ rows_text scale repetition ++ fixed_text GroupEnd
+    else []
 
 unfoldable pub sets_text : Scale → List ℕ
 sets_text scale = flat_map (λ index. set_path scale (index + 1)) (range_with_len 0 scale.cycles)
 
 unfoldable pub shapes_text : Scale → List ℕ
-shapes_text scale = empties_text scale.width scale.cycles ++ held_text scale ++ sets_text scale
+shapes_text scale = fixed_text Patterns ++ empties_text scale.width scale.cycles ++ held_text scale ++ sets_text scale

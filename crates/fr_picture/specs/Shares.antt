@@ -1,4 +1,4 @@
--- Suppliers of a page: their numbers and marks; how many lanes each holds and in how many cells it sends; the text of the
+-- Suppliers of a page: their numbers, marks and looks; how many lanes each holds and in how many cells it sends; the text of the
 -- legend.
 use Rattle.std.specs.Prelude.{ℕ, ◌-◌, ◌*◌, ◌/◌, ◌%◌, ◌^◌, ◌==◌, min, List, [], ◌∷◌, ◌++◌, count_by, codes, decimal, if◌then◌else◌}
 use Rattle.std.specs.List.{flat_map, position}
@@ -8,8 +8,9 @@ use Rattle.fr_base.specs.declared.answer.GrantRow.{GrantRow}
 use Rattle.fr_base.specs.declared.answer.Sending.{Sending}
 use Rattle.fr_base.specs.declared.name.Name.{Name}
 use Rattle.fr_picture.specs.declared.shares.Share.{Share}
+use Rattle.fr_picture.specs.declared.texts.Fixed.TheVariants.{KeyStart, TagEnd}
 use Rattle.fr_picture.specs.Styles.{letter_of}
-use Rattle.fr_picture.specs.Texts.{together}
+use Rattle.fr_picture.specs.Texts.{together, fixed_text}
 
 -- the part in a hundred of the whole, rounded down; 0 of nothing
 abbrev pub percent : ℕ → ℕ → ℕ
@@ -39,8 +40,11 @@ round_text round = if round == 0 then [] else decimal round
 unfoldable pub mark_text : ℕ → List ℕ
 mark_text number = letter_of (number % 8) ++ round_text (number / 8)
 
-unfoldable pub key_text : ℕ → List ℕ
-key_text colour = together (codes "<li><i class=c" ∷ decimal colour ∷ codes ">" ∷ [])
+-- a supplier's colour, and over it, where the colours came before, a pattern: no two of 64 suppliers have both the same
+unfoldable pub look_text : ℕ → List ℕ
+look_text number =
+    if number / 8 == 0 then together (codes "c" ∷ decimal (number % 8) ∷ [])
+    else together (codes "\"c" ∷ decimal (number % 8) ∷ codes " t" ∷ decimal (number / 8) ∷ codes "\"" ∷ [])
 
 unfoldable pub holds_text : Share → ℕ → List ℕ
 holds_text s hundredths =
@@ -48,7 +52,7 @@ holds_text s hundredths =
     ∷ codes " of them (" ∷ decimal hundredths ∷ codes " %)</li>\n" ∷ [])
 
 unfoldable pub share_text : Share → List ℕ
-share_text s = key_text (s.number % 8) ++ mark_text s.number ++ holds_text s (percent s.sent s.room)
+share_text s = fixed_text KeyStart ++ look_text s.number ++ fixed_text TagEnd ++ mark_text s.number ++ holds_text s (percent s.sent s.room)
 
 unfoldable pub legend_text : List Share → List ℕ
 legend_text shares = flat_map share_text shares

@@ -1,6 +1,6 @@
 -- Table of slots: a row for each grant, with slot and channel, the node and supplier that hold it,
 -- the frames that are sent there and their cycles, and in how many cycles something is sent.
-use Rattle.std.specs.Prelude.{ℕ, ◌+◌, ◌-◌, ◌^◌, nat_lt, min, Bool, List, [], ◌∷◌, ◌++◌, filter, codes, decimal, Option, Some, None, if◌then◌else◌}
+use Rattle.std.specs.Prelude.{ℕ, ◌+◌, ◌-◌, ◌^◌, nat_lt, min, Bool, List, [], ◌∷◌, ◌++◌, filter, codes, decimal, if◌then◌else◌}
 use Rattle.std.specs.List.{flat_map, fold, list_any}
 use Rattle.fr_base.specs.Channels.{text_of_channel}
 use Rattle.fr_base.specs.declared.answer.GrantRow.{GrantRow}
@@ -8,8 +8,8 @@ use Rattle.fr_base.specs.declared.name.Name.{Name}
 use Rattle.fr_picture.specs.declared.drawing.lane.Lane.{Lane}
 use Rattle.fr_picture.specs.declared.drawing.rectangle.Rectangle.{Rectangle}
 use Rattle.fr_picture.specs.declared.plan.Plan.{Plan}
-use Rattle.fr_picture.specs.declared.texts.Fixed.TheVariants.{Comma, CyclesStart, SlotRow, SlotTableEnd}
-use Rattle.fr_picture.specs.Kinds.{was_drawn, is_of_same_frame, set_of, spans_text, within_text}
+use Rattle.fr_picture.specs.declared.texts.Fixed.TheVariants.{Comma, SlotRow, SlotTableEnd}
+use Rattle.fr_picture.specs.Kinds.{was_drawn, is_of_same_frame, set_of, when_text}
 use Rattle.fr_picture.specs.Shares.{mark_text, number_of}
 use Rattle.fr_picture.specs.Texts.{together, fixed_text}
 
@@ -25,11 +25,6 @@ stands_behind_another all r = list_any (λ other. nat_lt other.first.cycle r.fir
 
 unfoldable pub comma_text : List Rectangle → Rectangle → List ℕ
 comma_text all r = if stands_behind_another all r then fixed_text Comma else []
-
--- the cycles in which a frame is sent: base and repetition, or the cycles themselves
-unfoldable pub when_text : List Rectangle → Rectangle → Option ℕ → List ℕ
-when_text same r (Some repetition) = within_text r.first.cycle repetition
-when_text same r None = fixed_text CyclesStart ++ spans_text same
 
 unfoldable pub frame_text : Name → List ℕ
 frame_text frame = together (codes " " ∷ frame ∷ [])

@@ -1,11 +1,13 @@
-//! The index of frames: by name, each with its number in the table.
-ghost use Rattle.std.specs.Prelude.{◌≡◌, OnOk, IfOk};
-ghost use Rattle.fr_picture.specs.FrameIndexes.{IsIndex, entries_of, entry_of, entry_text, index_text, link_text, number_text};
+//! The index of frames: by name, each with its number in the table. The number of a cell's frame is found in it.
+ghost use Rattle.std.specs.Prelude.{◌≡◌, OnOk, IfOk, map};
+ghost use Rattle.std.specs.Cmp.Lexicographic.{slice_cmp};
+ghost use Rattle.std.specs.Ordering.{is_lt, nat_cmp};
+ghost use Rattle.fr_picture.specs.FrameIndexes.{AreByName, IsIndex, entries_of, entry_of, entry_text, index_text, is_entry_of, link_text, number_in, number_text};
 ghost use Rattle.fr_picture.specs.Texts.{Appends};
 
 use crate::frame_table::DrawnFrame;
 use crate::shares::{number_of, push_mark};
-use fr_base::{Name, NoMemory};
+use fr_base::{Name, NoMemory, Sending};
 use std::alloc::Global;
 
 /// A frame, and its place in the table.
@@ -13,6 +15,8 @@ use std::alloc::Global;
 pub struct Entry {
     /// The frame.
     pub frame: Name,
+    /// The node that sends it.
+    pub node: Name,
     /// Its supplier.
     pub supplier: Name,
     /// Its number in the table, from 1 on.
@@ -45,9 +49,44 @@ fn entry_of(number: u64, frame: &DrawnFrame) -> Entry
 {
     Entry {
         frame: frame.row.frame,
+        node: frame.row.node,
         supplier: frame.row.supplier,
         number,
     }
+}
+
+/// The number that the table gives the cell's frame, if the table has it.
+pub(crate) fn number_in(index: &[Entry], cell: &Sending) -> Option<u64>
+    requires by_name { AreByName index.now }
+    ensures { result ≡ number_in index.now cell.now }
+{
+    let from = index.partition_point(
+        |entry: &Entry| -> bool
+            ensures { result ≡ is_lt (slice_cmp nat_cmp entry.now.frame cell.entry.now.frame) }
+        { entry.frame < cell.frame },
+    );
+    first_number(&index[from..], cell)
+}
+
+// The number of the first entry of the cell's frame.
+#[tactic(auto, unfolding(crate::specs::FrameIndexes::number_in))]
+fn first_number(index: &[Entry], cell: &Sending) -> Option<u64>
+    ensures { result ≡ number_in index.now cell.now }
+{
+    for entry in index {
+        if is_entry_of(cell, entry) {
+            return Some(entry.number);
+        }
+    }
+    None
+}
+
+// Whether the entry is of the frame that is sent in the cell.
+#[tactic(auto, unfolding(crate::specs::FrameIndexes::is_entry_of))]
+fn is_entry_of(cell: &Sending, entry: &Entry) -> bool
+    ensures { result ≡ is_entry_of cell.now entry.now }
+{
+    entry.frame == cell.frame && entry.node == cell.node && entry.supplier == cell.supplier
 }
 
 /// Appends the index. The place of a supplier among these names gives the supplier's mark.

@@ -1,11 +1,11 @@
 //! The table of frames: their numbers, placements, greatest gaps and payloads.
 ghost use Rattle.std.specs.Prelude.{◌≡◌, OnErr, OnOk, IsPermutation};
-ghost use Rattle.fr_picture.specs.FrameTables.{AreWorstFirst, KeepTies, frame_text, frames_text, gap_word, names_text, number_text, placement_text, row_start, placement_text_of, placements_text, urgency};
+ghost use Rattle.fr_picture.specs.FrameTables.{AreWorstFirst, KeepTies, back_text, first_of, frame_text, frames_text, gap_word, names_text, number_text, placement_text, row_start, placement_text_of, placements_text, urgency};
 ghost use Rattle.fr_picture.specs.Texts.{Appends};
 
 use crate::signals::{DrawnSignal, push_strip};
 use crate::texts::{Fixed, push_fixed};
-use fr_base::{FrameRow, Name, NoMemory, Placement, Rows};
+use fr_base::{Channel, Channels, FrameRow, Name, NoMemory, Placement, Rows};
 
 /// A frame as the page shows it.
 #[derive(Drop)]
@@ -58,7 +58,7 @@ fn push_frame(number: u64, frame: &DrawnFrame, out: &mut String) -> Result<(), N
 {
     push_row_start(number, out)?;
     push_names(frame.row.frame, frame.row.node, frame.row.supplier, out)?;
-    push_placements(frame.row.placements.as_slice(), out)?;
+    push_placements(number, frame.row.placements.as_slice(), out)?;
     push_gap(frame.gap, out)?;
     push_strip(frame.signals.as_slice(), out)
 }
@@ -78,19 +78,26 @@ fn push_names(frame: Name, node: Name, supplier: Name, out: &mut String) -> Resu
 }
 
 #[tactic(auto, unfolding(crate::specs::FrameTables::placements_text))]
-fn push_placements(placements: &[Placement], out: &mut String) -> Result<(), NoMemory>
-    ensures { OnOk result (Appends out.old out.new (placements_text placements.now)) }
+fn push_placements(number: u64, placements: &[Placement], out: &mut String) -> Result<(), NoMemory>
+    ensures { OnOk result (Appends out.old out.new (placements_text number placements.now)) }
 {
     for placement in placements {
-        push_placement(placement, out)?;
+        push_placement(number, placement, out)?;
     }
     Ok(())
 }
 
+// Appends a placement of the frame of this number, which leads to where it is drawn.
 #[tactic(auto, unfolding(crate::specs::FrameTables::placement_text))]
-fn push_placement(placement: &Placement, out: &mut String) -> Result<(), NoMemory>
-    ensures { OnOk result (Appends out.old out.new (placement_text placement.now)) }
+fn push_placement(number: u64, placement: &Placement, out: &mut String) -> Result<(), NoMemory>
+    ensures { OnOk result (Appends out.old out.new (placement_text number placement.now)) }
 {
+    push_back(
+        number,
+        placement.slot.get(),
+        first_of(placement.channels).as_str(),
+        out,
+    )?;
     push_placement_of(
         placement.slot.get(),
         placement.channels.as_str(),
@@ -98,6 +105,24 @@ fn push_placement(placement: &Placement, out: &mut String) -> Result<(), NoMemor
         placement.cycles.repetition(),
         out,
     )
+}
+
+// The first of a placement's channels.
+#[tactic(auto, unfolding(crate::specs::FrameTables::first_of))]
+fn first_of(channels: Channels) -> Channel
+    ensures { result ≡ first_of channels }
+{
+    match channels {
+        Channels::A | Channels::AB => Channel::A,
+        Channels::B => Channel::B,
+    }
+}
+
+#[tactic(auto, unfolding(crate::specs::FrameTables::back_text))]
+fn push_back(number: u64, slot: u32, channel: &str, out: &mut String) -> Result<(), NoMemory>
+    ensures { OnOk result (Appends out.old out.new (back_text number slot channel.now)) }
+{
+    write!(out, "<a href=#{slot}{channel}{number}>")
 }
 
 #[tactic(auto, unfolding(crate::specs::FrameTables::placement_text_of))]
@@ -111,7 +136,7 @@ fn push_placement_of(
     ensures { OnOk result (Appends out.old out.new
         (placement_text_of slot channels.now base repetition)) }
 {
-    write!(out, "{slot} {channels} {base}/{repetition}\n")
+    write!(out, "{slot} {channels} {base}/{repetition}</a>\n")
 }
 
 #[tactic(auto, unfolding(crate::specs::FrameTables::gap_word))]

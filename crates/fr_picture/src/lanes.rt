@@ -1,12 +1,14 @@
 //! The text of lanes, and of the parts of the drawing in which they stand.
 ghost use Rattle.std.specs.Prelude.{◌≡◌, OnOk};
-ghost use Rattle.fr_picture.specs.LaneTexts.{box_start, colour_of, drawn_text, foot_text, free_text, gap_text, grant_text, grants_text, heading_text, holder_text, is_bare, lane_text, lanes_text, opens_text, part_text, shows_text, slots_text, start_text, ungranted_text, view_text};
+ghost use Rattle.fr_picture.specs.FrameIndexes.{AreByName};
+ghost use Rattle.fr_picture.specs.LaneTexts.{box_start, drawn_text, edge_text, foot_text, free_text, gap_text, grant_text, grants_text, heading_text, holder_of, holder_text, is_bare, lane_text, lanes_text, opens_text, part_text, shows_text, slots_text, start_text, ungranted_text, view_text};
 ghost use Rattle.fr_picture.specs.Texts.{Appends};
 
 use crate::drawing::{Lane, Rectangle, Scale, Shows};
+use crate::frame_index::Entry;
 use crate::kinds::push_rectangles;
 use crate::plan::Plan;
-use crate::shares::{number_of, push_mark};
+use crate::shares::{number_of, push_look, push_mark};
 use crate::texts::{Fixed, push_fixed};
 use fr_base::{GrantRow, Name, NoMemory};
 use std::alloc::Global;
@@ -17,13 +19,16 @@ pub(crate) fn push_lanes(
     alloc: Global,
     plan: &Plan,
     scale: Scale,
+    index: &[Entry],
     lanes: &[Lane],
     out: &mut String,
 ) -> Result<(), NoMemory>
-    ensures { OnOk result (Appends out.old out.new (lanes_text plan.now scale lanes.now)) }
+    requires by_name { AreByName index.now }
+    ensures { OnOk result (Appends out.old out.new
+        (lanes_text plan.now scale index.now lanes.now)) }
 {
     for lane in lanes {
-        push_lane(alloc, plan, scale, lane, out)?;
+        push_lane(alloc, plan, scale, index, lane, out)?;
     }
     Ok(())
 }
@@ -33,10 +38,12 @@ fn push_lane(
     alloc: Global,
     plan: &Plan,
     scale: Scale,
+    index: &[Entry],
     lane: &Lane,
     out: &mut String,
 ) -> Result<(), NoMemory>
-    ensures { OnOk result (Appends out.old out.new (lane_text plan.now scale lane.now)) }
+    requires by_name { AreByName index.now }
+    ensures { OnOk result (Appends out.old out.new (lane_text plan.now scale index.now lane.now)) }
 {
     push_opens(plan.variant, scale.height, lane.place.opens, out)?;
     if is_bare(
@@ -46,7 +53,7 @@ fn push_lane(
     ) {
         return Ok(());
     }
-    push_drawn(alloc, plan, scale, lane, out)
+    push_drawn(alloc, plan, scale, index, lane, out)
 }
 
 // Whether there is nothing to draw: the place is inside a gap.
@@ -60,44 +67,56 @@ fn is_bare(shows: Shows, grants: &[GrantRow], rectangles: &[Rectangle]) -> bool
     }
 }
 
-// Appends what is drawn at a place, in the colour of the lane's holder.
+// Appends what is drawn at a place, in the look of the lane's holder.
 #[tactic(auto, unfolding(crate::specs::LaneTexts::drawn_text))]
 fn push_drawn(
     alloc: Global,
     plan: &Plan,
     scale: Scale,
+    index: &[Entry],
     lane: &Lane,
     out: &mut String,
 ) -> Result<(), NoMemory>
-    ensures { OnOk result (Appends out.old out.new (drawn_text plan.now scale lane.now)) }
+    requires by_name { AreByName index.now }
+    ensures { OnOk result (Appends out.old out.new
+        (drawn_text plan.now scale index.now lane.now)) }
 {
     let names = plan.suppliers.as_slice();
     let grants = lane.grants.as_slice();
-    push_start(colour_of(names, grants), lane.place.x, out)?;
+    push_start(holder_of(names, grants), lane.place.x, out)?;
     push_grants(names, scale.cycles, grants, out)?;
     push_shows(plan.supplier, lane.place.shows, out)?;
     push_ungranted(lane.place.shows, grants, out)?;
-    push_rectangles(alloc, scale, lane.rectangles.as_slice(), out)?;
+    push_rectangles(alloc, scale, index, lane.rectangles.as_slice(), out)?;
     push_fixed(Fixed::LaneEnd, out)
 }
 
-// The colour of the first supplier that holds a lane. Nobody else sends there.
-#[tactic(auto, unfolding(crate::specs::LaneTexts::colour_of))]
-fn colour_of(names: &[Name], grants: &[GrantRow]) -> usize
-    ensures { result ≡ colour_of names.now grants.now }
+// The number of the first supplier that holds a lane. Nobody else sends there.
+#[tactic(auto, unfolding(crate::specs::LaneTexts::holder_of))]
+fn holder_of(names: &[Name], grants: &[GrantRow]) -> usize
+    ensures { result ≡ holder_of names.now grants.now }
 {
     match grants.first() {
-        Some(grant) => number_of(names, grant.supplier) % 8,
+        Some(grant) => number_of(names, grant.supplier),
         None => 0,
     }
 }
 
-// Appends the beginning of a lane: its colour, and its left edge.
+// Appends the beginning of a lane: the look of the supplier of this number, and its left edge.
 #[tactic(auto, unfolding(crate::specs::LaneTexts::start_text))]
-fn push_start(colour: usize, x: u32, out: &mut String) -> Result<(), NoMemory>
-    ensures { OnOk result (Appends out.old out.new (start_text colour x)) }
+fn push_start(number: usize, x: u32, out: &mut String) -> Result<(), NoMemory>
+    ensures { OnOk result (Appends out.old out.new (start_text number x)) }
 {
-    write!(out, "<svg class=c{colour} x={x}>")
+    push_fixed(Fixed::LaneStart, out)?;
+    push_look(number, out)?;
+    push_edge(x, out)
+}
+
+#[tactic(auto, unfolding(crate::specs::LaneTexts::edge_text))]
+fn push_edge(x: u32, out: &mut String) -> Result<(), NoMemory>
+    ensures { OnOk result (Appends out.old out.new (edge_text x)) }
+{
+    write!(out, " x={x}>")
 }
 
 // Appends the end of a part and the beginning of the next, where a part begins.
@@ -135,14 +154,14 @@ fn push_heading(variant: Name, first: u32, out: &mut String) -> Result<(), NoMem
     )
 }
 
-// Appends a box that scrolls, and the drawing in it. The heading names both.
+// Appends a box that scrolls, which the heading names, and the drawing in it.
 #[tactic(auto, unfolding(crate::specs::LaneTexts::box_start))]
 fn push_box_start(first: u32, out: &mut String) -> Result<(), NoMemory>
     ensures { OnOk result (Appends out.old out.new (box_start first)) }
 {
     write!(
         out,
-        "<div class=plan role=group aria-labelledby=p{first} tabindex=0><svg role=img aria-labelledby=p{first}"
+        "<div class=plan role=group aria-labelledby=p{first} tabindex=0><svg role=none"
     )
 }
 
@@ -152,7 +171,7 @@ fn push_view(height: u32, first: u32, out: &mut String) -> Result<(), NoMemory>
 {
     write!(
         out,
-        " viewBox=\"0 -4 138 {height}\"><use href=#cycles /><g id=g{first}>\n"
+        " viewBox=\"0 -4 138 {height}\" preserveAspectRatio=none><use href=#cycles /><g id=g{first}>\n"
     )
 }
 

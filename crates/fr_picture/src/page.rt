@@ -1,7 +1,8 @@
 //! The page of a variant.
 ghost use Rattle.std.specs.Prelude.{◌≡◌, OnOk, IfOk};
 ghost use Rattle.std.specs.String.{string_bytes};
-ghost use Rattle.fr_picture.specs.Pages.{IsPage, bands_text, cluster_text, cycle_figures, cycle_text, cycles_text, drawing_text, figures_text, frame_parts, frames_head, head_text, heading_text, legend_end, opened_text, page_text, parent_text, segment_figures, state_text, strips_text, suppliers_text, top_text, viewer_text};
+ghost use Rattle.fr_picture.specs.FrameIndexes.{AreByName};
+ghost use Rattle.fr_picture.specs.Pages.{IsPage, bands_text, cluster_text, cycle_figures, cycle_text, cycles_text, drawing_text, figures_text, frame_parts, frames_head, head_text, heading_text, legend_end, opened_text, page_text, parent_text, segment_figures, sheet_text, state_text, strips_text, suppliers_text, top_text, viewer_text};
 ghost use Rattle.fr_picture.specs.Texts.{Appends};
 
 use crate::drawing::{Drawing, Lane, Scale, draw};
@@ -42,6 +43,7 @@ fn write_parts(
     index: &[Entry],
     shares: &[Share],
 ) -> Result<String, NoMemory>
+    requires by_name { AreByName index.now }
     ensures { IfOk result (λ text.
         string_bytes text ≡ page_text plan.now drawing.now index.now shares.now) }
 {
@@ -52,7 +54,7 @@ fn write_parts(
     push_top(plan, &mut out)?;
     push_suppliers(plan, shares, &mut out)?;
     push_overview(cycles, starts.as_slice(), &mut out)?;
-    push_drawing(alloc, plan, drawing.scale, lanes, &mut out)?;
+    push_drawing(alloc, plan, drawing.scale, index, lanes, &mut out)?;
     push_slot_table(alloc, plan, cycles, lanes, &mut out)?;
     push_frame_parts(plan, index, &mut out)?;
     Ok(out)
@@ -66,6 +68,7 @@ fn push_top(plan: &Plan, out: &mut String) -> Result<(), NoMemory>
     push_head(plan.variant, out)?;
     push(style(), out)?;
     push_strips(16 * plan.params.payload_words(), out)?;
+    push_sheet(plan.params.cycles() + 5, out)?;
     push_figures(plan, out)
 }
 
@@ -77,13 +80,24 @@ fn push_strips(bits: u32, out: &mut String) -> Result<(), NoMemory>
     write!(out, "td path{{transform:scale(calc(400/{bits}),1)}}\n")
 }
 
+// Appends how high a part of the drawing is on paper, where it has this height.
+#[tactic(auto, unfolding(crate::specs::Pages::sheet_text))]
+fn push_sheet(height: u32, out: &mut String) -> Result<(), NoMemory>
+    ensures { OnOk result (Appends out.old out.new (sheet_text height)) }
+{
+    write!(
+        out,
+        "@media print{{.plan>svg{{height:calc({height}*2.5mm)}}}}\n"
+    )
+}
+
 #[tactic(auto, unfolding(crate::specs::Pages::head_text))]
 fn push_head(variant: Name, out: &mut String) -> Result<(), NoMemory>
     ensures { OnOk result (Appends out.old out.new (head_text variant)) }
 {
     write!(
         out,
-        "<!DOCTYPE html>\n<html lang=en>\n<meta charset=utf-8>\n<title>Plan of {variant}</title>\n<style>@page{{@bottom-left{{content:\"Variant {variant}\"}}}}"
+        "<!DOCTYPE html>\n<html lang=en>\n<meta charset=utf-8>\n<meta name=viewport content=\"width=device-width,initial-scale=1\">\n<title>Plan of {variant}</title>\n<style>@page{{@bottom-left{{content:\"Variant {variant}\"}}}}"
     )
 }
 
@@ -214,17 +228,20 @@ fn push_drawing(
     alloc: Global,
     plan: &Plan,
     scale: Scale,
+    index: &[Entry],
     lanes: &[Lane],
     out: &mut String,
 ) -> Result<(), NoMemory>
-    ensures { OnOk result (Appends out.old out.new (drawing_text plan.now scale lanes.now)) }
+    requires by_name { AreByName index.now }
+    ensures { OnOk result (Appends out.old out.new
+        (drawing_text plan.now scale index.now lanes.now)) }
 {
     push_fixed(Fixed::ShapesStart, out)?;
     push_shapes(scale, out)?;
     push_fixed(Fixed::NumbersStart, out)?;
     push_cycles(scale.cycles, out)?;
     push_bands(plan.params.channels(), out)?;
-    push_lanes(alloc, plan, scale, lanes, out)
+    push_lanes(alloc, plan, scale, index, lanes, out)
 }
 
 // Appends the numbers of the cycles.

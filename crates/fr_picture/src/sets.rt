@@ -1,4 +1,4 @@
-//! Shapes that the page has once: the cells of each repetition, a granted lane, and a lane and a
+//! What the page has once: patterns, the cells of each repetition, a granted lane, and a lane and a
 //! gap that nobody holds.
 ghost use Rattle.std.specs.Prelude.{◌+◌, ◌*◌, ◌/◌, ◌<◌, ◌≤◌, OnOk};
 ghost use Rattle.fr_picture.specs.Sets.{cross_text, crossed_text, empties_text, hatch_text, hatches_text, held_text, repeated_text, rows_text, set_path, set_start, sets_text, shapes_text};
@@ -14,6 +14,7 @@ use fr_base::NoMemory;
 pub(crate) fn push_shapes(scale: Scale, out: &mut String) -> Result<(), NoMemory>
     ensures { OnOk result (Appends out.old out.new (shapes_text scale)) }
 {
+    push_fixed(Fixed::Patterns, out)?;
     push_empties(scale.width, scale.cycles, out)?;
     push_held(scale, out)?;
     push_sets(scale, out)
@@ -55,7 +56,7 @@ fn push_held(scale: Scale, out: &mut String) -> Result<(), NoMemory>
     ensures { OnOk result (Appends out.old out.new (held_text scale)) }
 {
     push_hatches(scale.width, scale.cycles, out)?;
-    push_fixed(Fixed::HeldEnd, out)
+    push_fixed(Fixed::GroupEnd, out)
 }
 
 #[tactic(auto, unfolding(crate::specs::Sets::hatches_text))]
@@ -87,7 +88,7 @@ fn push_sets(scale: Scale, out: &mut String) -> Result<(), NoMemory>
     Ok(())
 }
 
-// Appends the cells of base 0 and this repetition, if it divides the count of cycles.
+// Appends the cells of base 0 and this repetition, and over them those of a pattern, if it divides the count of cycles.
 #[tactic(auto, unfolding(crate::specs::Sets::set_path))]
 fn push_set(scale: Scale, repetition: u32, out: &mut String) -> Result<(), NoMemory>
     requires { 1 ≤ repetition }
@@ -98,14 +99,16 @@ fn push_set(scale: Scale, repetition: u32, out: &mut String) -> Result<(), NoMem
     }
     push_set_start(repetition, out)?;
     push_rows(scale, repetition, out)?;
-    push_fixed(Fixed::ShapeEnd, out)
+    push_fixed(Fixed::OverStart, out)?;
+    push_rows(scale, repetition, out)?;
+    push_fixed(Fixed::GroupEnd, out)
 }
 
 #[tactic(auto, unfolding(crate::specs::Sets::set_start))]
 fn push_set_start(repetition: u32, out: &mut String) -> Result<(), NoMemory>
     ensures { OnOk result (Appends out.old out.new (set_start repetition)) }
 {
-    write!(out, "<path id={repetition} d=\"")
+    write!(out, "<g id={repetition}><path d=\"")
 }
 
 // Appends the cells of base 0 and this repetition: one rectangle of all cycles for repetition 1,

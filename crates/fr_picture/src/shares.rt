@@ -1,12 +1,12 @@
-//! The suppliers of a page: their colours, and how full their grants are.
+//! The suppliers of a page: their looks, and how full their grants are.
 ghost use Rattle.std.specs.Prelude.{◌≡◌, ◌<◌, OnOk, IfOk, map};
 ghost use Rattle.std.specs.List.{position};
 ghost use Rattle.fr_base.specs.Names.{same_text};
-ghost use Rattle.fr_picture.specs.Shares.{holds_text, key_text, legend_text, mark_text, number_of, percent, round_text, share_of, share_text};
+ghost use Rattle.fr_picture.specs.Shares.{holds_text, legend_text, look_text, mark_text, number_of, percent, round_text, share_of, share_text};
 ghost use Rattle.fr_picture.specs.Texts.{Appends};
 
 use crate::style::letter;
-use crate::texts::push;
+use crate::texts::{Fixed, push, push_fixed};
 use fr_base::{GrantRow, Name, NoMemory, Sending};
 use std::alloc::Global;
 
@@ -124,16 +124,25 @@ pub(crate) fn push_legend(shares: &[Share], out: &mut String) -> Result<(), NoMe
 fn push_share(share: &Share, out: &mut String) -> Result<(), NoMemory>
     ensures { OnOk result (Appends out.old out.new (share_text share.now)) }
 {
-    push_key(share.number % 8, out)?;
+    push_fixed(Fixed::KeyStart, out)?;
+    push_look(share.number, out)?;
+    push_fixed(Fixed::TagEnd, out)?;
     push_mark(share.number, out)?;
     push_holds(share, percent(share.sent as u64, share.room), out)
 }
 
-#[tactic(auto, unfolding(crate::specs::Shares::key_text))]
-fn push_key(colour: usize, out: &mut String) -> Result<(), NoMemory>
-    ensures { OnOk result (Appends out.old out.new (key_text colour)) }
+/// Appends the look of the supplier of this number: its colour, and a pattern where the colours came before.
+#[tactic(auto, unfolding(crate::specs::Shares::look_text))]
+pub(crate) fn push_look(number: usize, out: &mut String) -> Result<(), NoMemory>
+    ensures { OnOk result (Appends out.old out.new (look_text number)) }
 {
-    write!(out, "<li><i class=c{colour}>")
+    let colour = number % 8;
+    let pattern = number / 8;
+    if pattern == 0 {
+        write!(out, "c{colour}")
+    } else {
+        write!(out, "\"c{colour} t{pattern}\"")
+    }
 }
 
 #[tactic(auto, unfolding(crate::specs::Shares::holds_text))]

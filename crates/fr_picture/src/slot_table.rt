@@ -1,11 +1,11 @@
 //! The table of slots: who holds each lane, what is sent there and in which cycles, and how full
 //! the lane is.
 ghost use Rattle.std.specs.Prelude.{◌≡◌, OnOk};
-ghost use Rattle.fr_picture.specs.SlotTables.{all_sent_text, comma_text, frame_text, head_text, stands_behind_another, lane_name_text, lane_rows_text, load_of, load_text, owner_text, row_text, rows_text, sent_text, slot_table_text, turn_text, when_text};
+ghost use Rattle.fr_picture.specs.SlotTables.{all_sent_text, comma_text, frame_text, head_text, stands_behind_another, lane_name_text, lane_rows_text, load_of, load_text, owner_text, row_text, rows_text, sent_text, slot_table_text, turn_text};
 ghost use Rattle.fr_picture.specs.Texts.{Appends};
 
 use crate::drawing::{Lane, Rectangle};
-use crate::kinds::{of_same_frame, push_spans, push_within, set_of, was_drawn};
+use crate::kinds::{of_same_frame, push_when, set_of, was_drawn};
 use crate::plan::Plan;
 use crate::shares::{number_of, push_mark};
 use crate::texts::{Fixed, push_fixed};
@@ -194,24 +194,6 @@ fn push_turn(
     let repetition = set_of(cycles, one.first.cycle, same);
     push_when(same, one, repetition, out)?;
     push_frame(one.first.frame, out)
-}
-
-#[tactic(auto, unfolding(crate::specs::SlotTables::when_text))]
-fn push_when(
-    same: &[Rectangle],
-    one: &Rectangle,
-    repetition: Option<u32>,
-    out: &mut String,
-) -> Result<(), NoMemory>
-    ensures { OnOk result (Appends out.old out.new (when_text same.now one.now repetition)) }
-{
-    match repetition {
-        Some(repetition) => push_within(one.first.cycle, repetition, out),
-        None => {
-            push_fixed(Fixed::CyclesStart, out)?;
-            push_spans(same, out)
-        }
-    }
 }
 
 #[tactic(auto, unfolding(crate::specs::SlotTables::frame_text))]

@@ -18,19 +18,29 @@ a{color:inherit}
 .c5{fill:#D55E00;background:#D55E00;stroke:#D55E00}
 .c6{fill:#0072B2;background:#0072B2;stroke:#0072B2}
 .c7{fill:#882255;background:#882255;stroke:#882255}
+.c0 .o{fill:#B3DDF5}
+.c1 .o{fill:#F1CA73}
+.c2 .o{fill:#A6DDCE}
+.c3 .o{fill:#F7F097}
+.c4 .o{fill:#7A4964}
+.c5 .o{fill:#E8A673}
+.c6 .o{fill:#004A74}
+.c7 .o{fill:#C99CB2}
 .defs svg{width:0;height:0;position:absolute}
 .plan{overflow-x:auto}
 .plan>svg{display:block;width:100%;min-width:1240px}
 svg[x]{overflow:visible}
 nav{display:flex;flex-wrap:wrap;gap:8px;--text:none;--line:0}
 nav a{text-decoration:none;border:1px solid #777;padding:2px 2px 0}
-nav svg{display:block;width:138px}
+nav svg{display:block;width:138px;pointer-events:none}
 text{font-size:.85px;dominant-baseline:hanging;fill:#111;stroke:none;transform:translate(.15px,.1px);display:var(--text,inline)}
+.s{font-size:.65px}
 .v,.n{writing-mode:vertical-rl;transform:translate(.5px,.3px);dominant-baseline:middle}
 .names{text-anchor:end}
 .band{font-size:1.2px;font-weight:bold}
-path{stroke:#222;stroke-width:var(--line,.08px)}
-use+text,path+text{paint-order:stroke;stroke:#fff;stroke-width:.2px}
+path{stroke:var(--edge,#222);stroke-width:var(--line,.08px)}
+a text{paint-order:stroke;stroke:#fff;stroke-width:.2px}
+svg a:target,svg a:focus{--edge:#d00;--line:.3px}
 .n{stroke:none}
 #gap{fill:#ccc;stroke:none}
 #free{fill:none;stroke:#bbb;stroke-width:var(--line,.06px)}
@@ -39,6 +49,24 @@ use+text,path+text{paint-order:stroke;stroke:#fff;stroke-width:.2px}
 ul{list-style:none;padding:0;columns:28em;margin:.5em 0}
 li{break-inside:avoid}
 i{display:inline-block;width:2.4em;border:1px solid #222;text-align:center;font-style:normal;paint-order:stroke;-webkit-text-stroke:3px #fff}
+.h{fill:var(--p,none);stroke:none;pointer-events:none}
+.t1{--p:url(#t1)}
+.t2{--p:url(#t2)}
+.t3{--p:url(#t3)}
+.t4{--p:url(#t4)}
+.t5{--p:url(#t5)}
+.t6{--p:url(#t6)}
+.t7{--p:url(#t7)}
+i.t1{background-image:repeating-linear-gradient(45deg,#fff0 0 3px,#fff 3px 5px,#111 5px 6px)}
+i.t2{background-image:radial-gradient(#fff 1.5px,#111 1.5px 2px,#fff0 2.2px);background-size:5px 5px}
+i.t3{background-image:repeating-linear-gradient(0deg,#fff0 0 3px,#fff 3px 5px,#111 5px 6px)}
+i.t4{background-image:repeating-linear-gradient(90deg,#fff0 0 3px,#fff 3px 5px,#111 5px 6px)}
+i.t5{background-image:repeating-linear-gradient(45deg,#fff0 0 3px,#fff 3px 5px,#111 5px 6px),repeating-linear-gradient(-45deg,#fff0 0 3px,#fff 3px 5px,#111 5px 6px)}
+i.t6{background-image:repeating-linear-gradient(-45deg,#fff0 0 3px,#fff 3px 5px,#111 5px 6px)}
+i.t7{background-image:repeating-linear-gradient(0deg,#fff0 0 3px,#fff 3px 5px,#111 5px 6px),repeating-linear-gradient(90deg,#fff0 0 3px,#fff 3px 5px,#111 5px 6px)}
+pattern path{stroke:#fff;stroke-width:.2px}
+pattern .k{stroke:#111;stroke-width:.07px}
+circle{fill:#fff;stroke:#111;stroke-width:.05px}
 table{border-collapse:collapse;width:100%;font-size:.85em}
 th,td{text-align:left;vertical-align:top;padding:.2em .5em;border-bottom:1px solid #ccc}
 tr{break-inside:avoid}

@@ -26,18 +26,30 @@ pub(crate) enum Fixed {
     NoStrip,
     /// The beginning of a path's description.
     PathStart,
-    /// The end of a path's description.
-    QuoteEnd,
     /// The beginning of cycles that no repetition has.
     CyclesStart,
-    /// The end of a path with a title.
+    /// The end of a title.
+    TitleEnd,
+    /// The end of a path.
     PathEnd,
-    /// The end of a shape that is drawn again.
-    UseEnd,
+    /// The beginning of what leads to a frame's row.
+    LinkStart,
+    /// The shade of frames that begin in an odd cycle.
+    OddShade,
+    /// The end of a tag.
+    TagEnd,
+    /// The end of what leads to a frame's row.
+    LinkEnd,
     /// The end of a text.
     TextEnd,
-    /// The end of a shape without a title.
-    ShapeEnd,
+    /// The patterns that are drawn over colours.
+    Patterns,
+    /// The end of a shape, and the beginning of the shape of a pattern over it.
+    OverStart,
+    /// The beginning of a lane.
+    LaneStart,
+    /// The beginning of a supplier in the legend.
+    KeyStart,
     /// The beginning of the shape of a lane that nobody is granted.
     FreeStart,
     /// A lane that nobody is granted.
@@ -48,8 +60,8 @@ pub(crate) enum Fixed {
     GapOfOthers,
     /// The end of a lane.
     LaneEnd,
-    /// The end of a granted lane's shape.
-    HeldEnd,
+    /// The end of a path and of its group.
+    GroupEnd,
     /// The beginning of the legend.
     LegendStart,
     /// The end of the legend, with what the drawing's marks mean.
@@ -97,18 +109,24 @@ impl Fixed {
             Fixed::StripEnd => STRIP_END,
             Fixed::NoStrip => NO_STRIP,
             Fixed::PathStart => PATH_START,
-            Fixed::QuoteEnd => QUOTE_END,
             Fixed::CyclesStart => CYCLES_START,
+            Fixed::TitleEnd => TITLE_END,
             Fixed::PathEnd => PATH_END,
-            Fixed::UseEnd => USE_END,
+            Fixed::LinkStart => LINK_START,
+            Fixed::OddShade => ODD_SHADE,
+            Fixed::TagEnd => TAG_END,
+            Fixed::LinkEnd => LINK_END,
             Fixed::TextEnd => TEXT_END,
-            Fixed::ShapeEnd => SHAPE_END,
+            Fixed::Patterns => PATTERNS,
+            Fixed::OverStart => OVER_START,
+            Fixed::LaneStart => LANE_START,
+            Fixed::KeyStart => KEY_START,
             Fixed::FreeStart => FREE_START,
             Fixed::Free => FREE,
             Fixed::GapOfNobody => GAP_OF_NOBODY,
             Fixed::GapOfOthers => GAP_OF_OTHERS,
             Fixed::LaneEnd => LANE_END,
-            Fixed::HeldEnd => HELD_END,
+            Fixed::GroupEnd => GROUP_END,
             Fixed::LegendStart => LEGEND_START,
             Fixed::LegendEnd => LEGEND_END,
             Fixed::LegendEndOfOne => LEGEND_END_OF_ONE,
@@ -140,17 +158,30 @@ const NO_STRIP: &str = "<td>";
 
 const PATH_START: &str = "<path d=\"";
 
-const QUOTE_END: &str = "\">";
-
 const CYCLES_START: &str = " cycles";
 
-const PATH_END: &str = "</title></path>";
+const TITLE_END: &str = "</title>";
 
-const USE_END: &str = "</title></use>";
+const PATH_END: &str = "\"/>";
+
+const LINK_START: &str = "<a";
+
+const ODD_SHADE: &str = " class=o";
+
+const TAG_END: &str = ">";
+
+const LINK_END: &str = "</a>";
 
 const TEXT_END: &str = "</text>";
 
-const SHAPE_END: &str = "\"/>\n";
+const PATTERNS: &str =
+    "<pattern id=t1 width=.7 height=.7 patternUnits=userSpaceOnUse patternTransform=rotate(45)><path d=\"M.2 0v1\"/><path class=k d=\"M.35 0v1\"/></pattern>\n<pattern id=t2 width=.5 height=.5 patternUnits=userSpaceOnUse><circle cx=.25 cy=.25 r=.13 /></pattern>\n<pattern id=t3 width=.5 height=.5 patternUnits=userSpaceOnUse><path d=\"M0 .2h1\"/><path class=k d=\"M0 .35h1\"/></pattern>\n<pattern id=t4 width=.5 height=.5 patternUnits=userSpaceOnUse><path d=\"M.2 0v1\"/><path class=k d=\"M.35 0v1\"/></pattern>\n<pattern id=t5 width=.9 height=.9 patternUnits=userSpaceOnUse patternTransform=rotate(45)><path d=\"M.2 0v1M0 .2h1\"/><path class=k d=\"M.35 0v1M0 .35h1\"/></pattern>\n<pattern id=t6 width=.7 height=.7 patternUnits=userSpaceOnUse patternTransform=rotate(-45)><path d=\"M.2 0v1\"/><path class=k d=\"M.35 0v1\"/></pattern>\n<pattern id=t7 width=1 height=.5 patternUnits=userSpaceOnUse><path d=\"M.2 0v1M0 .2h1\"/><path class=k d=\"M.35 0v1M0 .35h1\"/></pattern>\n";
+
+const OVER_START: &str = "\"/><path class=h d=\"";
+
+const LANE_START: &str = "<svg class=";
+
+const KEY_START: &str = "<li><i class=";
 
 const FREE_START: &str = "<path id=free d=\"";
 
@@ -162,15 +193,15 @@ const GAP_OF_OTHERS: &str = "<use href=#gap /><text class=n y=0>not yours ";
 
 const LANE_END: &str = "</svg>\n";
 
-const HELD_END: &str = "\"/></g>\n";
+const GROUP_END: &str = "\"/></g>\n";
 
 const LEGEND_START: &str = "<h2>Suppliers</h2>\n<ul>\n";
 
 const LEGEND_END: &str =
-    "</ul>\n<p>Cycles go down, slots go across. A lane is a slot on a channel. Above and below it stands the letter of the supplier that holds it. Nobody holds a crossed lane, nor the slots of a grey strip. A hatched cell is granted, and nothing is sent in it. Hover over a rectangle to see its frame, its node and supplier, its slot and channel, and its cycles; 1/4 is base 1 and repetition 4. The tables below say the same.</p>\n";
+    "</ul>\n<p>Cycles go down, slots go across. A lane is a slot on a channel. Above and below it stands the letter of the supplier that holds it. Nobody holds a crossed lane, nor the slots of a grey strip. A frame that begins in an odd cycle has the other shade of its supplier's colour. A hatched cell is granted, and nothing is sent in it. A rectangle leads to its frame's row in the table below, whose number stands in the first of a lane, and a placement there leads back. Hover over a rectangle to see its frame, its node and supplier, its slot and channel, and its cycles; 1/4 is base 1 and repetition 4. The tables below say the same.</p>\n";
 
 const LEGEND_END_OF_ONE: &str =
-    "</ul>\n<p>Cycles go down, slots go across. A lane is a slot on a channel. Above and below it stands the letter of the supplier that holds it. A crossed lane and the slots of a grey strip are another supplier's or nobody's. A hatched cell is granted, and nothing is sent in it. Hover over a rectangle to see its frame, its node and supplier, its slot and channel, and its cycles; 1/4 is base 1 and repetition 4. The tables below say the same.</p>\n";
+    "</ul>\n<p>Cycles go down, slots go across. A lane is a slot on a channel. Above and below it stands the letter of the supplier that holds it. A crossed lane and the slots of a grey strip are another supplier's or nobody's. A frame that begins in an odd cycle has the other shade of its supplier's colour. A hatched cell is granted, and nothing is sent in it. A rectangle leads to its frame's row in the table below, whose number stands in the first of a lane, and a placement there leads back. Hover over a rectangle to see its frame, its node and supplier, its slot and channel, and its cycles; 1/4 is base 1 and repetition 4. The tables below say the same.</p>\n";
 
 const OVERVIEW_START: &str =
     "<h2>Overview</h2>\n<p>Each part leads to its drawing. Below it stands the first of its slots.</p>\n<nav>\n";

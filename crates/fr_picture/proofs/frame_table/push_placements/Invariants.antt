@@ -6,4 +6,4 @@ use Rattle.fr_picture.proofs.frame_table.push_placements.Given as goal
 
 -- the text of those up to here
 abbrev pub invariant-loop-placement : goal.invariant-loop-placement
-invariant-loop-placement l = string_bytes l.out ≡ string_bytes l.initial.out ++ flat_map (placement_text) (take l.placement-index l.placements)
+invariant-loop-placement l = string_bytes l.out ≡ string_bytes l.initial.out ++ flat_map (placement_text l.number) (take l.placement-index l.placements)

@@ -1,4 +1,4 @@
-use Rattle.std.proofs.Common.{◌≡◌, ◌+◌, ◌∙◌, ap, sym, arith, inl, inr, true, false, add-one}
+use Rattle.std.proofs.Common.{◌≡◌, ◌+◌, ◌∙◌, ap, sym, arith, inl, inr, false, add-one}
 use Rattle.std.proofs.lemmas.Bool.{ltb-false}
 use Rattle.fr_picture.proofs.MarkLemmas.{gap_here, unset}
 use Rattle.fr_picture.proofs.drawing.marks.Marks.shows.Goals as goal
