@@ -105,7 +105,8 @@ class Keeping(ConnectionCase):
 
 
 class Reading(PlannedCase):
-    """A request is read to its end, behind `100 Continue` where it asks for that, and however often that is interrupted; a failed read is not repeated."""
+    """A request is read to its end, behind `100 Continue` where it asks for that, and however often that is interrupted; a failed read is not
+    repeated."""
 
     def test_invited(self):
         """A client that waits for `100 Continue` before it sends the body gets it."""
@@ -150,7 +151,8 @@ class Reading(PlannedCase):
 
 
 class Writing(LongCase):
-    """A long reply is written whole to a client that reads late, however often that is interrupted, and whatever the client sent behind its request."""
+    """A long reply is written whole to a client that reads late, however often that is interrupted, and whatever the client sent behind its
+    request."""
 
     def test_interrupted(self):
         with self.served("--count", "1", *limited(SECONDS)) as (server, port):

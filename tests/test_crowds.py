@@ -11,7 +11,8 @@ from threading import Event, Thread
 
 from tests.lib.case import TURN, for_each
 from tests.lib.clients import (
-    LATE, SHORT, comes_to, connected, descriptors, had, interrupt, is_heard, is_open, limited, narrow, open_at, put, received, reset, stopped, work_of,
+    LATE, SHORT, comes_to, connected, descriptors, had, interrupt, is_heard, is_open, limited, narrow, open_at, put, received, reset, stopped,
+    work_of,
 )
 from tests.lib.connections import (
     EXISTS, FRAMES, HONEST, NOTHING, READ_FAILED, SCHEDULE, TRUNCATED, WHOLE, HeldCase, LongCase, PlannedCase, add_frame, adds, long_schedule, soon,

@@ -268,7 +268,8 @@ class Whole(HeldCase):
         field, many = b"x: 1\r\n", engine("431 Request Header Fields Too Large")
         begun = b"GET /v1/nothing HTTP/1.1\r\n"
         asked = [
-            *((data, engine("400 Bad Request")) for data in (b"\0", b"GET /\x7f", b"GET / HTTP/2", begun + b"x\0", begun + b"x: \x7f", begun + b":")),
+            *((data, engine("400 Bad Request")) for data in (b"\0", b"GET /\x7f", b"GET /\xff ", b"GET / HTTP/2")),
+            *((begun + data, engine("400 Bad Request")) for data in (b"x\0", b"x: \x7f", b":")),
             (b"GET /" + b"x" * 8_187, many),
             (begun + b"x: " + b"x" * (8_192 - 3 - len(begun)), many),
             (begun + field * 65, many),

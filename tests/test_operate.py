@@ -1,6 +1,7 @@
 """The backup script and the files for nginx of docs/OPERATE.md, taken from the page and run beside a server of the program, as their user has them.
 
-Their folders and ports are the test's own. Where the script calls systemctl the test starts and stops the server. What is wanted was typed by hand."""
+Their folders and ports are the test's own. Where the script calls systemctl the test starts and stops the server. What is wanted was typed by
+hand."""
 import os
 import re
 import shutil
@@ -305,13 +306,13 @@ class Proxied(RegisterCase):
         self.replies(head("GET", SCHEDULE_PATH, "supplier01", CLOSE), text(b"00 0001 A f1 n1\n"))
         self.replies(head("GET", SCHEDULE_PATH, "nobody123", CLOSE), UNKNOWN)
         self.replies(command("supplier01", b'{"do":"release","variant":"v1"}', CLOSE), json(refused(3, "NotYours"), "403 Forbidden"))
-        chunks = head("POST", "/v1/commands", "supplier01", CLOSE, "Transfer-Encoding: chunked") + b"1e\r\n" + b'{"do":"grants","variant":"v1"}\r\n0\r\n\r\n'
-        self.replies(chunks, json(b'{"lines":["0001 A n1"],"ok":"grants"}'))
+        chunks = b'1e\r\n{"do":"grants","variant":"v1"}\r\n0\r\n\r\n'
+        self.replies(head("POST", "/v1/commands", "supplier01", CLOSE, "Transfer-Encoding: chunked") + chunks, json(b'{"lines":["0001 A n1"],"ok":"grants"}'))
         _, page, said = self.asked(head("GET", "/", None, CLOSE))
         direct, _, wanted = sent(self.behind, head("GET", "/")).partition(b"\r\n\r\n")
         self.see("the page is as the server gives it", True, page == wanted and b"</html>" in page)
-        policies = [line for line in direct.split(b"\r\n") if not line.lower().startswith((b"http/", b"content-length", b"content-type", b"connection"))]
-        self.see("its fields come along", [], [line for line in policies if line not in said.split(b"\r\n")])
+        fields = [line for line in direct.split(b"\r\n")[1:] if not line.startswith((b"content-length", b"content-type", b"connection"))]
+        self.see("its fields come along", (5, []), (len(fields), [line for line in fields if line not in said.split(b"\r\n")]))
         self.see("a path outside", "404", self.asked(head("GET", "/v2/variants", "supplier01", CLOSE))[0])
         self.see("a body that is too long", "413", self.asked(head("POST", "/v1/commands", "supplier01", CLOSE, "Content-Length: 65537"))[0])
         wanted = [("s1", f"GET {SCHEDULE_PATH}", 200), ("nobody", f"GET {SCHEDULE_PATH}", 401), ("s1", "POST /v1/commands", 403)]
@@ -323,11 +324,12 @@ class Proxied(RegisterCase):
         """Blanks do not count, as in the register. Any other byte is answered 400, and the register is not asked."""
         self.begin()
         added = b'{"do":"add_frame","variant":"v1","frame":"f9","node":"n1"}'
-        fields = ["\tsupplier01", "supplier01\t", " \t supplier01", "supplier01 \t ", "supp\tlier01", "supplier01\x0b", "\x0csupplier01", "supplier01,", "\u00a0supplier01", "\t"]
-        for value in fields:
+        tabs = "\tsupplier01", "supplier01\t", " \t supplier01", "supplier01 \t ", "supp\tlier01", "\t"
+        others = "supplier01\x0b", "\x0csupplier01", "supplier01,", "\u00a0supplier01", "supplier01;"
+        for value in tabs + others:
             data = head("POST", "/v1/commands", None, f"X-Office-Key:{value}", f"Content-Length: {len(added)}", CLOSE) + added
             self.see(f"to the key {value!r}", "400", self.asked(data)[0])
-        self.see("none of them is taken for its owner's", {("nobody", 400)}, {(said["owner"], said["status"]) for _, said in self.lines(len(fields))})
+        self.see("none of them is taken for its owner's", {("nobody", 400)}, {(said["owner"], said["status"]) for _, said in self.lines(len(tabs + others))})
         for value in "supplier01", "  supplier01  ":
             self.replies(head("GET", "/v1/variants/v1/frames", None, f"X-Office-Key:{value}", CLOSE), text(b"FRAME f1 n1\nAT 0001 A 00 64\n"))
 
@@ -338,7 +340,8 @@ class Proxied(RegisterCase):
         keys = SHUT.replace("leakedKey1", "integrator1")
         self.see("the page says what is changed for that", (True, True), (keys != SHUT, bool(place)))
         self.begin(f"{outside}{keys}server {{{before}{place}        {REFUSES}\n{behind}")
-        for value, status in ("integrator1", "403"), ("  integrator1 ", "403"), ("\tintegrator1", "400"), ("integrator1\t", "400"), ("Integrator1", "401"):
+        statuses = {"integrator1": "403", "  integrator1 ": "403", "\tintegrator1": "400", "integrator1\t": "400", "Integrator1": "401"}
+        for value, status in statuses.items():
             self.see(f"to the key {value!r}", status, self.asked(head("GET", SCHEDULE_PATH, None, f"X-Office-Key: {value}", CLOSE))[0])
         self.replies(head("GET", SCHEDULE_PATH, "supplier01", CLOSE), text(b"00 0001 A f1 n1\n"))
 
