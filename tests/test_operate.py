@@ -212,7 +212,7 @@ AS_ROOT = "daemon off; master_process off;"
 AROUND = """\
 pid %(room)s/nginx.pid;
 error_log %(room)s/error.log;
-events { }
+events { worker_connections %(connections)s; }
 http {
 client_body_temp_path %(room)s/bodies;
 proxy_temp_path %(room)s/proxied;
@@ -224,16 +224,18 @@ scgi_temp_path %(room)s/scgi;
 """
 NAME, CLOSE = "slots.example.org", "Connection: close"
 SCHEDULE_PATH = "/v1/variants/v1/schedule"
-# So many requests of an address may be under way, and so long is a line of the log at most of who has no key that is known.
-AT_ONCE, LINE = 32, 256
+# So many requests of an address may be under way; a crowd of slow ones is tried, and nginx has so many connections.
+AT_ONCE, CROWD, CONNECTIONS = 32, 80, 64
+# So long is a line of the log at most of who has no key that is known.
+LINE = 256
 
 
-def come_on(stream):
-    """The first bytes that came on a connection by TLS which is not waited for; none where there are none."""
+def is_let_go(stream):
+    """Whether a connection by TLS which is not waited for has ended without a word."""
     try:
-        return stream.recv(12)
+        return stream.recv(1) == b""
     except ssl.SSLWantReadError:
-        return b""
+        return False
 
 
 class Proxied(RegisterCase):
@@ -266,7 +268,7 @@ class Proxied(RegisterCase):
         ):
             self.see(f"the page has {old}", True, old in front)
             front = front.replace(old, new)
-        (self.folder / "nginx.conf").write_text(AROUND % {"room": self.folder, "front": front})
+        (self.folder / "nginx.conf").write_text(AROUND % {"room": self.folder, "front": front, "connections": CONNECTIONS})
         words = ["nginx", "-p", self.folder, "-e", self.folder / "error.log", "-c", self.folder / "nginx.conf", "-g", AS_ROOT]
         proxy = self.enterContext(subprocess.Popen(words))
         self.addCleanup(proxy.terminate)
@@ -284,11 +286,15 @@ class Proxied(RegisterCase):
         plain = socket.create_connection((HERE, self.port), SECONDS, (source, 0))
         return self.trusting.wrap_socket(plain, server_hostname=NAME)
 
-    def asked(self, data, source=HERE):
-        """The status and the body of the reply to these bytes, and its head."""
+    def sent(self, data, source=HERE):
+        """What is replied to these bytes."""
         with closing(self.stream(source)) as stream:
             stream.sendall(data)
-            said, _, body = had(stream).partition(b"\r\n\r\n")
+            return had(stream)
+
+    def asked(self, data, source=HERE):
+        """The status and the body of the reply to these bytes, and its head."""
+        said, _, body = self.sent(data, source).partition(b"\r\n\r\n")
         return said.split(b" ")[1].decode(), body, said
 
     def replies(self, data, wanted, what=""):
@@ -306,8 +312,9 @@ class Proxied(RegisterCase):
         self.replies(head("GET", SCHEDULE_PATH, "supplier01", CLOSE), text(b"00 0001 A f1 n1\n"))
         self.replies(head("GET", SCHEDULE_PATH, "nobody123", CLOSE), UNKNOWN)
         self.replies(command("supplier01", b'{"do":"release","variant":"v1"}', CLOSE), json(refused(3, "NotYours"), "403 Forbidden"))
-        chunks = b'1e\r\n{"do":"grants","variant":"v1"}\r\n0\r\n\r\n'
-        self.replies(head("POST", "/v1/commands", "supplier01", CLOSE, "Transfer-Encoding: chunked") + chunks, json(b'{"lines":["0001 A n1"],"ok":"grants"}'))
+        chunked = head("POST", "/v1/commands", "supplier01", CLOSE, "Transfer-Encoding: chunked")
+        grants = json(b'{"lines":["0001 A n1"],"ok":"grants"}')
+        self.replies(chunked + b'1e\r\n{"do":"grants","variant":"v1"}\r\n0\r\n\r\n', grants)
         _, page, said = self.asked(head("GET", "/", None, CLOSE))
         direct, _, wanted = sent(self.behind, head("GET", "/")).partition(b"\r\n\r\n")
         self.see("the page is as the server gives it", True, page == wanted and b"</html>" in page)
@@ -329,7 +336,8 @@ class Proxied(RegisterCase):
         for value in tabs + others:
             data = head("POST", "/v1/commands", None, f"X-Office-Key:{value}", f"Content-Length: {len(added)}", CLOSE) + added
             self.see(f"to the key {value!r}", "400", self.asked(data)[0])
-        self.see("none of them is taken for its owner's", {("nobody", 400)}, {(said["owner"], said["status"]) for _, said in self.lines(len(tabs + others))})
+        told = self.lines(len(tabs + others))
+        self.see("none of them is taken for its owner's", {("nobody", 400)}, {(said["owner"], said["status"]) for _, said in told})
         for value in "supplier01", "  supplier01  ":
             self.replies(head("GET", "/v1/variants/v1/frames", None, f"X-Office-Key:{value}", CLOSE), text(b"FRAME f1 n1\nAT 0001 A 00 64\n"))
 
@@ -373,20 +381,15 @@ class Proxied(RegisterCase):
         self.see("keys in the log", [], [key for key in ("supplier01", "integrator1", "newKey2026") if key in self.log.read_text()])
 
     def test_slow_bodies(self):
-        """Of one address so many may be under way; who comes from another is answered meanwhile."""
+        """Of one address so many may be under way. Others are let go, so that nginx has connections left, and who comes from another is answered."""
         self.begin()
         with ExitStack() as held:
-            slow, turned_down = [held.enter_context(closing(self.stream())) for _ in range(AT_ONCE + 8)], {}
-            for stream in slow:
-                stream.sendall(head("POST", "/v1/commands", "supplier01", "Content-Length: 50", CLOSE) + b"x")
-                stream.setblocking(False)
-
-            def looked():
-                turned_down.update({stream: got for stream in slow if stream not in turned_down and (got := come_on(stream))})
-                return len(turned_down)
-
-            self.see("so many are turned down", 8, comes_to(8, looked))
-            self.see("they are told so", {b"HTTP/1.1 429"}, {*turned_down.values()})
+            slow = []
+            for _ in range(CROWD):
+                slow.append(held.enter_context(closing(self.stream())))
+                slow[-1].sendall(head("POST", "/v1/commands", "supplier01", "Content-Length: 50", CLOSE) + b"x")
+                slow[-1].setblocking(False)
+            self.see("others are let go", True, comes_to(True, lambda: sum(map(is_let_go, slow)) >= CROWD - AT_ONCE))
             data = head("GET", SCHEDULE_PATH, "supplier01", CLOSE)
-            self.see("one more of that address", "429", self.asked(data)[0])
+            self.see("one more of that address", b"", self.sent(data))
             self.see("one of another address", ("200", b"00 0001 A f1 n1\n"), self.asked(data, "127.0.0.2")[:2])
