@@ -7,7 +7,7 @@ import os
 import socket
 import sqlite3
 import time
-from contextlib import closing
+from contextlib import closing, suppress
 from functools import partial
 from itertools import product
 
@@ -15,7 +15,7 @@ from tests.lib import made
 from tests.lib.clients import (
     comes_to, connected, has_arrived, interrupt, is_heard, limited, meanwhile, memory_of, narrow, open_at, received, reset, waited,
 )
-from tests.lib.connections import FRAMES, SCHEDULE, ConnectionCase, LongCase, PlannedCase, add_frame, adds, long_schedule
+from tests.lib.connections import FRAMES, NOTHING, SCHEDULE, ConnectionCase, LongCase, PlannedCase, add_frame, adds, long_schedule
 from tests.lib.messages import CLUSTER, CONTINUE, DONE, engine, head, json, post, refused, text
 from tests.lib.preload import Pieces
 from tests.lib.program import SECONDS
@@ -24,6 +24,8 @@ from tests.lib.server import sent
 
 # For how many seconds the server reads what is still sent where it has replied before it read the whole request.
 REST = 1
+# How many bytes of that it reads at most; and more than that and the system holds of a connection on both sides.
+REST_BYTES, MOST_SENT = 1_048_576, 33_554_432
 CONNECTIONS = 20_001
 FILE_READS = 100_000
 IMPORT_BYTES = 65_536
@@ -31,7 +33,6 @@ IMPORT_BYTES = 65_536
 SHELF = 67_108_864
 
 ADD = add_frame("f7")
-NOTHING = head("GET", "/v1/nothing"), engine("404 Not Found")
 LONG_BODY = b"x" * 200_000
 TOO_LONG = head("POST", "/v1/commands", "supplier01", f"Content-Length: {len(LONG_BODY)}"), engine("413 Payload Too Large")
 
@@ -104,7 +105,8 @@ class Keeping(ConnectionCase):
 
 
 class Reading(PlannedCase):
-    """A request is read to its end, behind `100 Continue` where it asks for that, and however often that is interrupted; a failed read is not repeated."""
+    """A request is read to its end, behind `100 Continue` where it asks for that, and however often that is interrupted; a failed read is not
+    repeated."""
 
     def test_invited(self):
         """A client that waits for `100 Continue` before it sends the body gets it."""
@@ -149,7 +151,8 @@ class Reading(PlannedCase):
 
 
 class Writing(LongCase):
-    """A long reply is written whole to a client that reads late, however often that is interrupted, and whatever the client sent behind its request."""
+    """A long reply is written whole to a client that reads late, however often that is interrupted, and whatever the client sent behind its
+    request."""
 
     def test_interrupted(self):
         with self.served("--count", "1", *limited(SECONDS)) as (server, port):
@@ -195,6 +198,20 @@ class TooLong(PlannedCase):
 
     def test_in_pieces(self):
         self.can_send(20_000, 0.05)
+
+    def test_more_than_is_read(self):
+        """It reads 1 MiB of it, and no more: nobody keeps it reading for a second as fast as can be sent."""
+        with self.served("--count", "1") as (server, port):
+            with connected(port) as stream:
+                begun, count = time.monotonic(), 0
+                stream.sendall(TOO_LONG[0])
+                with suppress(ConnectionError):
+                    while count < MOST_SENT:
+                        stream.sendall(b"x" * 65_536)
+                        count += 65_536
+                self.see("it reads so much, or for a second", True, count >= REST_BYTES or time.monotonic() - begun > REST or count)
+                self.see("it reads no more", True, count < MOST_SENT or count)
+            self.ends(server)
 
     def test_that_does_not_end(self):
         """It reads on for a second, in which the next one is served."""

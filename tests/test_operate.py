@@ -1,18 +1,24 @@
-"""The backup script of docs/OPERATE.md, taken from the page and run beside a server of the program, as its user has it.
+"""The backup script and the files for nginx of docs/OPERATE.md, taken from the page and run beside a server of the program, as their user has them.
 
-Its two folders are the test's own. Where it calls systemctl the test starts and stops the server. What is wanted was typed by hand."""
+Their folders and ports are the test's own. Where the script calls systemctl the test starts and stops the server. What is wanted was typed by
+hand."""
 import os
 import re
 import shutil
 import signal
+import socket
+import ssl
 import subprocess
 import time
+from contextlib import ExitStack, closing
+from json import loads
 from threading import Thread
 
-from tests.lib.messages import DONE, command, json, post
+from tests.lib.clients import comes_to, connected, had
+from tests.lib.messages import DONE, UNKNOWN, command, head, json, post, refused, text
 from tests.lib.program import SECONDS, TOP, program
 from tests.lib.registers import RegisterCase
-from tests.lib.server import listens_on, sent, started
+from tests.lib.server import HERE, free_port, listens_on, sent, started
 
 PAGE = (TOP / "docs/OPERATE.md").read_text()
 SCRIPT = re.search(r"^Put this at `/usr/local/sbin/slotplan-backup`[^\n]*\n\n```sh\n(.*?)```\n", PAGE, re.M | re.DOTALL)[1]
@@ -189,3 +195,201 @@ class Backups(RegisterCase):
         os.utime(self.copies / others[1], (time.time() - 29 * DAY,) * 2)
         new = self.backed_up()
         self.see("what is kept", {*new, *others}, self.kept())
+
+
+# ---- nginx in front
+
+
+def shown(words, kind="nginx"):
+    """The block of this kind that stands on the page first behind these words."""
+    return re.search(rf"{re.escape(words)}.*?\n *```{kind}\n(.*?) *```\n", PAGE, re.DOTALL)[1]
+
+
+FRONT, OWNERS = shown("`/etc/nginx/conf.d/slotplan.conf`"), shown("A key that is not there has the owner `nobody`", "")
+SHUT, REFUSES = shown("Shut it out at once, in nginx"), re.search(r"`(if \(\$shut\) \{[^`]*)`", PAGE)[1]
+AS_ROOT = "daemon off; master_process off;"
+# What nginx needs besides, which Debian has in files of its own.
+AROUND = """\
+pid %(room)s/nginx.pid;
+error_log %(room)s/error.log;
+events { worker_connections %(connections)s; }
+http {
+client_body_temp_path %(room)s/bodies;
+proxy_temp_path %(room)s/proxied;
+fastcgi_temp_path %(room)s/fast;
+uwsgi_temp_path %(room)s/uwsgi;
+scgi_temp_path %(room)s/scgi;
+%(front)s
+}
+"""
+NAME, CLOSE = "slots.example.org", "Connection: close"
+SCHEDULE_PATH = "/v1/variants/v1/schedule"
+# So many requests of an address may be under way; a crowd of slow ones is tried, and nginx has so many connections.
+AT_ONCE, CROWD, CONNECTIONS = 32, 80, 64
+# So long is a line of the log at most of who has no key that is known.
+LINE = 256
+
+
+def is_let_go(stream):
+    """Whether a connection by TLS which is not waited for has ended without a word."""
+    try:
+        return stream.recv(1) == b""
+    except ssl.SSLWantReadError:
+        return False
+
+
+class Proxied(RegisterCase):
+    """nginx in front, as the page has it: it hands on what it is to, by TLS; no byte beside a key gets past its maps; its log names who asked, and
+    without a key that is known nobody fills it; slow bodies of one address keep no other waiting."""
+
+    may_be_skipped = waits = in_memory = True
+
+    def setUp(self):
+        super().setUp()
+        for name in "nginx", "openssl":
+            if not shutil.which(name):
+                self.skipTest(f"there is no {name}")
+        self.plan()
+        words = re.search(r"A certificate for a try-out:\n\n```\n(.*?)```", PAGE, re.DOTALL)[1]
+        subprocess.run(["sh", "-c", words], cwd=self.folder, check=True, stderr=subprocess.DEVNULL)
+        self.trusting = ssl.create_default_context(cafile=self.folder / "cert.pem")
+        (self.folder / "owners").write_text(OWNERS)
+        self.log, self.port = self.folder / "slotplan.log", free_port()
+        self.server, _, self.behind = self.enterContext(started(self.folder))
+
+    def begin(self, front=FRONT):
+        """Starts it with this file."""
+        for old, new in (
+            ("listen 443 ssl;", f"listen {HERE}:{self.port} ssl;"),
+            ("/etc/nginx/slotplan.owners", f"{self.folder}/owners"),
+            ("/etc/ssl/slotplan/", f"{self.folder}/"),
+            ("/var/log/nginx/slotplan.log", str(self.log)),
+            ("http://127.0.0.1:8080", f"http://{HERE}:{self.behind}"),
+        ):
+            self.see(f"the page has {old}", True, old in front)
+            front = front.replace(old, new)
+        (self.folder / "nginx.conf").write_text(AROUND % {"room": self.folder, "front": front, "connections": CONNECTIONS})
+        words = ["nginx", "-p", self.folder, "-e", self.folder / "error.log", "-c", self.folder / "nginx.conf", "-g", AS_ROOT]
+        proxy = self.enterContext(subprocess.Popen(words))
+        self.addCleanup(proxy.terminate)
+        self.see("it listens", True, comes_to(True, self.listens))
+
+    def listens(self):
+        try:
+            connected(self.port).close()
+            return True
+        except ConnectionRefusedError:
+            return False
+
+    def stream(self, source=HERE):
+        """A connection by TLS, from this address of this machine."""
+        plain = socket.create_connection((HERE, self.port), SECONDS, (source, 0))
+        return self.trusting.wrap_socket(plain, server_hostname=NAME)
+
+    def sent(self, data, source=HERE):
+        """What is replied to these bytes."""
+        with closing(self.stream(source)) as stream:
+            stream.sendall(data)
+            return had(stream)
+
+    def asked(self, data, source=HERE):
+        """The status and the body of the reply to these bytes, and its head."""
+        said, _, body = self.sent(data, source).partition(b"\r\n\r\n")
+        return said.split(b" ")[1].decode(), body, said
+
+    def replies(self, data, wanted, what=""):
+        """The reply has the status and the body of this one."""
+        said, _, body = wanted.partition(b"\r\n\r\n")
+        self.see(f"to {what or data[:120]!r}", (said.split(b" ")[1].decode(), body), self.asked(data)[:2])
+
+    def lines(self, count):
+        """So many lines of the log, once they are there: each line, and what it says."""
+        self.see("lines of the log", count, comes_to(count, lambda: self.log.read_bytes().count(b"\n")))
+        return [(line, loads(line)) for line in self.log.read_text().splitlines()]
+
+    def test_what_comes_through(self):
+        self.begin()
+        self.replies(head("GET", SCHEDULE_PATH, "supplier01", CLOSE), text(b"00 0001 A f1 n1\n"))
+        self.replies(head("GET", SCHEDULE_PATH, "nobody123", CLOSE), UNKNOWN)
+        self.replies(command("supplier01", b'{"do":"release","variant":"v1"}', CLOSE), json(refused(3, "NotYours"), "403 Forbidden"))
+        chunked = head("POST", "/v1/commands", "supplier01", CLOSE, "Transfer-Encoding: chunked")
+        grants = json(b'{"lines":["0001 A n1"],"ok":"grants"}')
+        self.replies(chunked + b'1e\r\n{"do":"grants","variant":"v1"}\r\n0\r\n\r\n', grants)
+        _, page, said = self.asked(head("GET", "/", None, CLOSE))
+        direct, _, wanted = sent(self.behind, head("GET", "/")).partition(b"\r\n\r\n")
+        self.see("the page is as the server gives it", True, page == wanted and b"</html>" in page)
+        fields = [line for line in direct.split(b"\r\n")[1:] if not line.startswith((b"content-length", b"content-type", b"connection"))]
+        self.see("its fields come along", (5, []), (len(fields), [line for line in fields if line not in said.split(b"\r\n")]))
+        self.see("a path outside", "404", self.asked(head("GET", "/v2/variants", "supplier01", CLOSE))[0])
+        self.see("a body that is too long", "413", self.asked(head("POST", "/v1/commands", "supplier01", CLOSE, "Content-Length: 65537"))[0])
+        wanted = [("s1", f"GET {SCHEDULE_PATH}", 200), ("nobody", f"GET {SCHEDULE_PATH}", 401), ("s1", "POST /v1/commands", 403)]
+        told = [said for _, said in self.lines(7)]
+        self.see("who asked what", wanted, [(said["owner"], said["asked"], said["status"]) for said in told[:3]])
+        self.see("the body of a known owner", '{"do":"release","variant":"v1"}', told[2]["body"])
+
+    def test_beside_a_key(self):
+        """Blanks do not count, as in the register. Any other byte is answered 400, and the register is not asked."""
+        self.begin()
+        added = b'{"do":"add_frame","variant":"v1","frame":"f9","node":"n1"}'
+        tabs = "\tsupplier01", "supplier01\t", " \t supplier01", "supplier01 \t ", "supp\tlier01", "\t"
+        others = "supplier01\x0b", "\x0csupplier01", "supplier01,", "\u00a0supplier01", "supplier01;"
+        for value in tabs + others:
+            data = head("POST", "/v1/commands", None, f"X-Office-Key:{value}", f"Content-Length: {len(added)}", CLOSE) + added
+            self.see(f"to the key {value!r}", "400", self.asked(data)[0])
+        told = self.lines(len(tabs + others))
+        self.see("none of them is taken for its owner's", {("nobody", 400)}, {(said["owner"], said["status"]) for _, said in told})
+        for value in "supplier01", "  supplier01  ":
+            self.replies(head("GET", "/v1/variants/v1/frames", None, f"X-Office-Key:{value}", CLOSE), text(b"FRAME f1 n1\nAT 0001 A 00 64\n"))
+
+    def test_shut_out(self):
+        """A key that has leaked is shut out, whatever stands beside it; others are not."""
+        outside, inside = FRONT.split("server {", 1)
+        before, place, behind = inside.partition("    location /v1/ {\n")
+        keys = SHUT.replace("leakedKey1", "integrator1")
+        self.see("the page says what is changed for that", (True, True), (keys != SHUT, bool(place)))
+        self.begin(f"{outside}{keys}server {{{before}{place}        {REFUSES}\n{behind}")
+        statuses = {"integrator1": "403", "  integrator1 ": "403", "\tintegrator1": "400", "integrator1\t": "400", "Integrator1": "401"}
+        for value, status in statuses.items():
+            self.see(f"to the key {value!r}", status, self.asked(head("GET", SCHEDULE_PATH, None, f"X-Office-Key: {value}", CLOSE))[0])
+        self.replies(head("GET", SCHEDULE_PATH, "supplier01", CLOSE), text(b"00 0001 A f1 n1\n"))
+
+    def test_log(self):
+        """Without a key that is known a line is short, whatever is sent. No key is in the log."""
+        self.begin()
+        long, many = "x" * 7_900, b"\x01" * 65_536
+        asked = [
+            head("POST", "/v1/commands", None, "Content-Length: 65536", CLOSE) + many,
+            head("POST", "/v1/commands", "nobody123", "Content-Length: 65536", CLOSE) + many,
+            head("POST", "/v1/commands", None, "X-Office-Key:\tsupplier01", "Content-Length: 65536", CLOSE) + many,
+            head("GET", f"/v1/{long}", None, CLOSE),
+            head("GET", "/v1/" + "%01" * 2_600, None, CLOSE),
+            head("GET", f"/v1/variants?{long}", None, CLOSE),
+            head("G" * 7_900, "/v1/variants", None, CLOSE),
+            head("GET", SCHEDULE_PATH, "k" * 7_900, CLOSE),
+            head("GET", SCHEDULE_PATH, None, f"X-Office-Key:\t{long}", CLOSE),
+        ]
+        for data in asked:
+            self.see(f"{data[:60]!r} is refused", "4", self.asked(data)[0][:1])
+        for line, said in self.lines(len(asked)):
+            self.see("whose it is", "nobody", said["owner"])
+            self.see("how long its line is", True, len(line) <= LINE or line[:LINE])
+        known = len(asked)
+        self.asked(command("supplier01", b'{"do":"grants","variant":"v1"}', CLOSE))
+        self.asked(command("integrator1", b'{"do":"set_key","supplier":"s1","key":"newKey2026"}', CLOSE))
+        bodies = [said["body"] for _, said in self.lines(known + 2)[known:]]
+        self.see("bodies of known owners", ['{"do":"grants","variant":"v1"}', "(not shown: it has a key)"], bodies)
+        self.see("keys in the log", [], [key for key in ("supplier01", "integrator1", "newKey2026") if key in self.log.read_text()])
+
+    def test_slow_bodies(self):
+        """Of one address so many may be under way. Others are let go, so that nginx has connections left, and who comes from another is answered."""
+        self.begin()
+        with ExitStack() as held:
+            slow = []
+            for _ in range(CROWD):
+                slow.append(held.enter_context(closing(self.stream())))
+                slow[-1].sendall(head("POST", "/v1/commands", "supplier01", "Content-Length: 50", CLOSE) + b"x")
+                slow[-1].setblocking(False)
+            self.see("others are let go", True, comes_to(True, lambda: sum(map(is_let_go, slow)) >= CROWD - AT_ONCE))
+            data = head("GET", SCHEDULE_PATH, "supplier01", CLOSE)
+            self.see("one more of that address", b"", self.sent(data))
+            self.see("one of another address", ("200", b"00 0001 A f1 n1\n"), self.asked(data, "127.0.0.2")[:2])

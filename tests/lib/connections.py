@@ -1,15 +1,21 @@
 """Tests of connections to a server: over the register after the first script, and over one whose schedule is longer than a connection holds."""
 import sqlite3
+import time
 from contextlib import closing
 from itertools import product
 
 from . import made
-from .messages import command, head, text
+from .messages import command, engine, head, json, refused, text
 from .registers import RegisterCase
 from .server import sent
 
 FRAMES = head("GET", "/v1/variants/v1/frames", "supplier01"), text(b"FRAME f1 n1\nAT 0001 A 00 64\n")
 SCHEDULE = head("GET", "/v1/variants/v1/schedule", "integrator1")
+NOTHING = head("GET", "/v1/nothing"), engine("404 Not Found")
+EXISTS = json(refused(19, "Exists"), "409 Conflict")
+READ_FAILED, TRUNCATED = b"slotplan: ReadFailed\n", b"slotplan: Truncated\n"
+# So many honest clients come one after another, and within so many seconds they are served if nobody holds them up, on a slow machine too.
+HONEST, SOON = 10, 4
 
 # A supplier with a frame in each static slot, in all cycles on both channels; names are as long as may be.
 SLOTS, IN_A_FRAME = 64, 8
@@ -26,6 +32,10 @@ def add_frame(name):
 def adds(name, *fields):
     """The request that adds this frame."""
     return command("supplier01", add_frame(name), *fields)
+
+
+# A request that changes the register.
+WHOLE = adds("f7")
 
 
 def frame_in(slot):
@@ -70,6 +80,22 @@ class PlannedCase(ConnectionCase):
         """Others are served meanwhile."""
         for _ in range(times):
             self.see("the next one is served", FRAMES[1], sent(port, FRAMES[0]))
+
+
+def soon(begun, seconds=SOON):
+    """Whether no more time has passed."""
+    passed = time.monotonic() - begun
+    return passed <= seconds or passed
+
+
+class HeldCase(PlannedCase):
+    """Over the same register: honest clients come while others are there."""
+
+    def honest(self, port, seconds=SOON):
+        """They are served one after another, and nobody holds them up."""
+        begun = time.monotonic()
+        self.served_at_once(port, HONEST)
+        self.see("nobody holds them up", True, soon(begun, seconds))
 
 
 class LongCase(ConnectionCase):
