@@ -26,9 +26,9 @@
 # make install  proves and builds the program where that is still to be done, and puts it at $(PREFIX)/bin/slotplan, and slotplan-plans
 #               beside it. PROVED=no puts there the program that was compiled without proof; its --version says so
 # make bench    prints the program's speed and memory beside those of a register that python3's sqlite3 keeps, what a change costs with its
-#               supplier's rows and beside others', what reports and files of rows cost beside one another, the speed of texts alone, and how each
-#               report and change grows with a plan, which fails where one grows too fast; no test
-# make bench-all prints these figures, and those of the server, of instructions by valgrind, of a migration, of imports read, of
+#               supplier's rows and beside others', what reports and files of rows cost beside one another, the speed of texts alone, how many
+#               requests a server answers, and how each report and change grows with a plan, which fails where one grows too fast; no test
+# make bench-all prints these figures, and those of instructions by valgrind, of a migration, of imports read, of
 #               placements decided, of registers in files and of variants that keep their differences; an hour or so
 
 SCRIPT ?= examples/first.script
@@ -105,7 +105,7 @@ page:
 	@python3 page/build.py
 
 hostile: build
-	@WHOLE=yes SLOTPLAN=$(program) python3 -m tests.lib.run tests.test_stops tests.test_foreign tests.test_links
+	@WHOLE=yes SLOTPLAN=$(program) python3 -m tests.lib.run tests.test_stops tests.test_crowds tests.test_foreign tests.test_links
 
 refuse: build out/programs/refuse_store
 	@for crate in fr_tests fr_tests_registers fr_tests_program; do (cd crates/$$crate && rt test) || exit 1; done
@@ -139,10 +139,10 @@ bench: build
 	@python3 bench/turns.py
 	@python3 bench/reports.py
 	@python3 bench/texts.py
+	@python3 bench/serve.py
 	@python3 bench/growth.py
 
 bench-all: bench $(addprefix out/programs/,measure_store measure_decisions measure_imports store_pages)
-	@python3 bench/serve.py
 	@python3 bench/profile.py
 	@python3 bench/migrating.py
 	@python3 bench/imports.py
