@@ -7,7 +7,7 @@
 -- one cluster that are alike for a supplier stay alike for it. Suppliers depend on each other alone by a Grant that
 -- another's grant makes `Taken`, and by a supplier that is to have another's key, or is to join beside 64. Each law says
 -- of which books it is: any, or sound ones.
-use Rattle.std.specs.Prelude.{◌≡◌, ◌⊎◌, ℕ, Bool, true, false, ◌&&◌, nat_lt, List, [], length, take, drop, Some, None, Ok, Err, IsTrue, IsFalse}
+use Rattle.std.specs.Prelude.{◌≡◌, ◌≢◌, ◌⊎◌, All, AllPairs, ℕ, Bool, true, false, ◌&&◌, nat_lt, List, [], length, take, drop, Some, None, Ok, Err, IsTrue, IsFalse}
 use Rattle.fr_base.specs.Tables.{get, len}
 use Rattle.fr_base.specs.Cells.{Cell, cells_of}
 use Rattle.fr_base.specs.Schedule.{first_taken}
@@ -25,6 +25,7 @@ use Rattle.fr_base.specs.Queries.{sendings_of}
 use Rattle.fr_base.specs.Seen.{seen_grants, seen_frames}
 use Rattle.fr_base.specs.Differences.{gone_in, new_in, differences, missing, in_both}
 use Rattle.fr_base.specs.Load.{load_of, all_used}
+use Rattle.fr_base.specs.Layouts.{AreApart, lies_inside}
 use Rattle.fr_base.specs.Run.{IsRun}
 use Rattle.fr_base.specs.Sound.{FitsCluster, IsSent, IsSound}
 use Rattle.fr_base.specs.Alone.{own_variant, rows_of, own_sender, concerns, is_done, is_refused, is_mine, asks_of, answers_of, alone, answers_to, book_after, beside}
@@ -78,6 +79,12 @@ OneFrameInACell = (c : Cluster) (b : Book) (name : Name) (v : Variant) (k l : Na
 abbrev pub HolderSends : Type 0
 HolderSends = (c : Cluster) (b : Book) (name : Name) (v : Variant) (k : Name × Name) (f : Frame) (q : Placement) (cell : Cell) →
     IsSound c b → get b.variants name ≡ Some v → IsSent v k f q cell → get v.grants (cell.slot, cell.channel) ≡ Some (record { supplier = k.0; node = f.node })
+
+-- All bits of a frame's signals lie in its payload, and no two signals share a bit. None has the name of another.
+abbrev pub SignalsLieApart : Type 0
+SignalsLieApart = (c : Cluster) (b : Book) (name : Name) (v : Variant) (k : Name × Name) (f : Frame) →
+    IsSound c b → get b.variants name ≡ Some v → get v.frames k ≡ Some f →
+    All (λ s. IsTrue (lies_inside c.params.payload_words s)) f.signals × AllPairs AreApart f.signals × AllPairs (λ s t. s.name ≢ t.name) f.signals
 
 -- ---- who is known
 

@@ -1,7 +1,7 @@
 //! Laws of the register: functions with nothing to do, whose contracts say what holds of any register. A new register
 //! is sound and stays so, one frame is sent in a cell, a release freezes, an import acts once, each supplier is answered
 //! as if alone, and the same requests come to one end.
-ghost use Rattle.fr_base.specs.Laws.{BadVariantIsBadName, DifferencesDiffer, DifferencesTurn, EqualViews, FirstTakenIsOwn, HolderSends, ImportActsOnce, ImportIsKept, ImportIsTold, KeyIsChanged, KnownStaysKnown, LabelStaysUsed, LoadAddsUp, NothingDiffersFromItself, OneDependence, OneFrameInACell, OpenedDiffersNowhere, OpeningIsAlone, OpeningIsSound, OtherStepLeavesRows, OwnStepIsAlone, RefusedChangesNothing, ReleaseFreezes, ReleasedAnswersStay, ReleasedDifferencesStay, ReplacementIsTold, RestIsAlike, RoomFits, RoomIsAlone, RoomIsPlace, RoomIsRefused, RunIsAlone, RunIsSoundThroughout, RunKeepsSound, ScheduleIsOwn, StepKeepsSound, StepsAreARun, TrialChangesNothing};
+ghost use Rattle.fr_base.specs.Laws.{BadVariantIsBadName, DifferencesDiffer, DifferencesTurn, EqualViews, FirstTakenIsOwn, HolderSends, ImportActsOnce, ImportIsKept, ImportIsTold, KeyIsChanged, KnownStaysKnown, LabelStaysUsed, LoadAddsUp, NothingDiffersFromItself, OneDependence, OneFrameInACell, OpenedDiffersNowhere, OpeningIsAlone, OpeningIsSound, OtherStepLeavesRows, OwnStepIsAlone, RefusedChangesNothing, ReleaseFreezes, ReleasedAnswersStay, ReleasedDifferencesStay, ReplacementIsTold, RestIsAlike, RoomFits, RoomIsAlone, RoomIsPlace, RoomIsRefused, RunIsAlone, RunIsSoundThroughout, RunKeepsSound, ScheduleIsOwn, SignalsLieApart, StepKeepsSound, StepsAreARun, TrialChangesNothing};
 ghost use Rattle.fr_base.specs.DifferenceLaws.{NothingIsGoneAndNew, ToldIsWhatDiffers};
 ghost use Rattle.fr_base.specs.ExportParts.{AllRecordsAreTold, ExportHasParts, ExportIsTold, FewRecordsAreTold};
 ghost use Rattle.fr_base.specs.ReplacingLaws.{ReplacedLeavesTheRest};
@@ -56,6 +56,12 @@ pub fn one_frame_in_a_cell()
 /// In a sound book a frame is sent by the supplier's node that holds the grant of slot and channel.
 pub fn holder_sends()
     ensures { HolderSends }
+{}
+
+/// In a sound book all bits of a frame's signals lie in its payload, and no two of them share a bit or a
+/// name.
+pub fn signals_lie_apart()
+    ensures { SignalsLieApart }
 {}
 
 /// Who is known stays known, whatever is asked.

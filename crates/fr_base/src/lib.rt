@@ -138,6 +138,7 @@ pub use laws::schedule_is_own;
 pub use laws::seen_rows_are_in_order;
 pub use laws::set_key_changes_one_key;
 pub use laws::set_key_is_done;
+pub use laws::signals_lie_apart;
 pub use laws::step_keeps_sound;
 pub use laws::steps_are_a_run;
 pub use laws::told_is_what_differs;
