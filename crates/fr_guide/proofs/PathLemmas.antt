@@ -1,9 +1,11 @@
 -- The parts of a path and of its form, behind references.
-use Rattle.std.proofs.Common.{◌≡◌, ◌∙◌, ap, refl, sym, Bor, ℕ, Bool, true, false, cond, List, [], ◌∷◌, length, map, Option, Some, None, option_map}
+use Rattle.std.proofs.Common.{◌≡◌, ◌∙◌, ap, refl, sym, Bor, ℕ, Bool, true, false, cond, List, [], ◌∷◌, length, map, Option, Some, None, option_map, Result, Ok, Err, IfOk, String}
 use Rattle.std.specs.Prelude.{◌&&◌, ◌==◌, find}
 use Rattle.std.proofs.lemmas.Bool.{eq-eqb}
 use Rattle.std.proofs.lemmas.List.{length-map}
 use Rattle.std.specs.List.{list_all, zip}
+use Rattle.std.specs.Global.{Global, Vec}
+use Rattle.fr_guide.specs.Faults.{are_none}
 use Rattle.fr_guide.specs.Paths.{are_fine_parts, forms, has_form, is_fine_part, is_fine_path, parts_of, stands}
 
 -- what is so of pairs behind references
@@ -54,3 +56,11 @@ without_form path texts all found parts are is none =
     let there : find (has_form texts) forms ≡ None =
     ap (λ l. find (has_form texts) l) (sym are) ∙ found_behind texts_of (has_form texts) all ∙ ap (λ o. option_map texts_of o) (sym is ∙ none) in
     ap (are_fine_parts texts) (sym there) ∙ ap (λ t. are_fine_parts t (find (has_form t) forms)) parts
+
+-- ---- what is told
+
+-- faults that are told where something is found are told where the same is
+pub told_as : {E : Type 0} (r : Result (Vec (String Global)) E) (is found : Bool) → IfOk r (λ faults. are_none faults.items ≡ found) → is ≡ found
+    → IfOk r (λ faults. are_none faults.items ≡ is)
+told_as (Ok faults) is found told same = told ∙ sym same
+told_as (Err error) is found told same = tt

@@ -1,12 +1,14 @@
--- Path: the parts of a request's path over HTTP. Which of them are names and numbers, as the form
--- of the path says. A path is fine that has one of these forms, with names that are names and
--- numbers that are numbers.
+-- Path: the parts of a request's path over HTTP. Which of them are names, numbers and words, as the
+-- form of the path says. A path is fine that has one of these forms, with names that are names,
+-- numbers that are numbers and words that are explained.
 use Rattle.std.specs.Prelude.{ℕ, Bool, true, false, ◌==◌, ◌&&◌, ◌||◌, if◌then◌else◌, List, [], ◌∷◌, length, codes, find, Option, Some, None}
 use Rattle.std.specs.List.{list_all, slice_split, zip}
 use Rattle.std.specs.Result.{is_ok}
 use Rattle.std.specs.Str.{bytes_eq}
 use Rattle.fr_base.specs.ImportRows.{number}
 use Rattle.fr_base.specs.Names.{is_name}
+use Rattle.fr_guide.specs.Numbers.{meant_word}
+use Rattle.fr_guide.specs.Topics.{is_explained}
 
 -- the parts of a path: what stands before, between and behind its slashes
 unfoldable pub parts_of : List ℕ → List (List ℕ)
@@ -20,6 +22,10 @@ of_variant form = codes "" ∷ codes "v1" ∷ codes "variants" ∷ codes "{varia
 unfoldable pub forms : List (List (List ℕ))
 forms =
     (codes "" ∷ codes "" ∷ [])
+    ∷ (codes "" ∷ codes "v1" ∷ codes "explanations" ∷ [])
+    ∷ (codes "" ∷ codes "v1" ∷ codes "explanations" ∷ codes "{word}" ∷ [])
+    ∷ (codes "" ∷ codes "v1" ∷ codes "checks" ∷ codes "rows" ∷ [])
+    ∷ (codes "" ∷ codes "v1" ∷ codes "checks" ∷ codes "requests" ∷ [])
     ∷ (codes "" ∷ codes "v1" ∷ codes "commands" ∷ [])
     ∷ (codes "" ∷ codes "v1" ∷ codes "cluster" ∷ [])
     ∷ (codes "" ∷ codes "v1" ∷ codes "variants" ∷ [])
@@ -50,6 +56,10 @@ is_hole (b ∷ part) = b == 123
 abbrev pub is_number : List ℕ → Bool
 is_number part = bytes_eq part (codes "{repetition}") || bytes_eq part (codes "{part}")
 
+-- whether a part in braces is a word that may be explained
+abbrev pub is_word : List ℕ → Bool
+is_word part = bytes_eq part (codes "{word}")
+
 -- whether a text may stand for a part of a form, whatever name or number it is
 abbrev pub stands : List ℕ × List ℕ → Bool
 stands both = is_hole both.0 || bytes_eq both.0 both.1
@@ -58,16 +68,16 @@ stands both = is_hole both.0 || bytes_eq both.0 both.1
 abbrev pub has_form : List (List ℕ) → List (List ℕ) → Bool
 has_form texts form = (length form == length texts) && list_all stands (zip form texts)
 
--- whether a text is the name or the number that a part of a form says
+-- whether a text is the name, the number or the word that a part of a form says
 abbrev pub is_fine_part : List ℕ × List ℕ → Bool
 is_fine_part both =
-    if is_hole both.0 then (if is_number both.0 then is_ok (number both.1) else is_name both.1) else true
+    if is_hole both.0 then (if is_number both.0 then is_ok (number both.1) else if is_word both.0 then is_explained (meant_word both.1) else is_name both.1) else true
 
 -- whether the names and numbers of a path are, whose form is this; where it has no form, none is
 abbrev pub are_fine_parts : List (List ℕ) → Option (List (List ℕ)) → Bool
 are_fine_parts texts None = false
 are_fine_parts texts (Some form) = list_all is_fine_part (zip form texts)
 
--- whether a path has one of the forms, with names that are names and numbers that are numbers
+-- whether a path has one of the forms, with names, numbers and words that are such
 unfoldable pub is_fine_path : List ℕ → Bool
 is_fine_path path = are_fine_parts (parts_of path) (find (has_form (parts_of path)) forms)

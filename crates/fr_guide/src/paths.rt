@@ -1,11 +1,13 @@
 //! What is wrong with the path of a request over HTTP: it has none of the forms that paths have, or
-//! a part of it that must be a name or a number is none.
+//! a part of it that must be a name, a number or a word is none.
 ghost use Rattle.std.specs.Prelude.{◌≡◌, find, IfOk, false, map};
 ghost use Rattle.std.specs.List.{list_all, zip};
 ghost use Rattle.fr_guide.specs.Faults.{are_none};
-ghost use Rattle.fr_guide.specs.Paths.{forms, has_form, is_fine_part, is_fine_path, is_hole, is_number, parts_of, stands};
+ghost use Rattle.fr_guide.specs.Paths.{forms, has_form, is_fine_part, is_fine_path, is_hole, is_number, is_word, parts_of, stands};
 
+use crate::explain::explains;
 use crate::line_faults::one_fault;
+use crate::numbers::meant_word;
 use crate::shown::shown;
 use fr_base::{Name, NoMemory};
 use fr_text::read_number;
@@ -14,7 +16,7 @@ use std::alloc::Global;
 /// The form of a path, by its parts. What stands in braces says of what a name or a number is.
 type PathForm = &'static [&'static str];
 
-/// What is wrong with a path: it has no form, or one of its names or numbers is none. Which form it has, and which words say
+/// What is wrong with a path: it has no form, or one of its names, numbers or words is none. Which form it has, and which words say
 /// what is wrong, no clause says.
 pub fn path_faults(alloc: Global, path: &str) -> Result<Vec<String>, NoMemory>
     ensures { IfOk result (λ faults. are_none faults.items ≡ is_fine_path path.now) }
@@ -85,7 +87,14 @@ fn is_number(part: &str) -> bool
     part == "{repetition}" || part == "{part}"
 }
 
-// The faults of the names and numbers of a path that has this form.
+// Whether a part in braces is a word that may be explained.
+fn is_word(part: &str) -> bool
+    ensures { result ≡ is_word part.now }
+{
+    part == "{word}"
+}
+
+// The faults of the names, numbers and words of a path that has this form.
 #[tactic(auto, using(crate::proofs::PathLemmas::behind_references))]
 fn part_faults(alloc: Global, form: &[&str], texts: &[&str]) -> Result<Vec<String>, NoMemory>
     ensures { IfOk result (λ faults. are_none faults.items ≡ list_all is_fine_part
@@ -123,7 +132,7 @@ fn pair_faults(alloc: Global, pairs: &[(&str, &str)]) -> Result<Vec<String>, NoM
     Ok(faults)
 }
 
-// Whether a text is the name or the number that a part of a form says.
+// Whether a text is the name, the number or the word that a part of a form says.
 fn is_fine_part(part: &str, text: &str) -> bool
     ensures { result ≡ is_fine_part (part.now, text.now) }
 {
@@ -131,16 +140,20 @@ fn is_fine_part(part: &str, text: &str) -> bool
         true
     } else if is_number(part) {
         read_number(text.as_bytes()).is_some()
+    } else if is_word(part) {
+        explains(meant_word(text))
     } else {
         Name::read(text).is_some()
     }
 }
 
-// The fault of a text that is not the name or the number that a part of a form says.
+// The fault of a text that is not the name, the number or the word that a part of a form says.
 fn part_fault(alloc: Global, part: &str, text: &str) -> Result<String, NoMemory> {
     let text = shown(alloc, text)?;
     if is_number(part) {
         format!(in alloc; "{part} is \"{text}\", a number is 1 to 10 digits, at most 4294967295")
+    } else if is_word(part) {
+        format!(in alloc; "{part} is \"{text}\", no refusal and no fault has this name or number")
     } else {
         format!(in alloc;
             "{part} is \"{text}\", a name is 1 to 32 ASCII letters, digits and underscores, a letter first"
@@ -162,11 +175,15 @@ fn no_form(alloc: Global, path: &str) -> Result<Vec<String>, NoMemory>
 
 // The forms that paths have.
 #[tactic(auto, unfolding(crate::specs::Paths::forms))]
-fn path_forms() -> [PathForm; 20]
+fn path_forms() -> [PathForm; 24]
     ensures { map (λ form. map (λ part. part.now) form.now) result ≡ forms }
 {
     [
         &["", ""],
+        &["", "v1", "explanations"],
+        &["", "v1", "explanations", "{word}"],
+        &["", "v1", "checks", "rows"],
+        &["", "v1", "checks", "requests"],
         &["", "v1", "commands"],
         &["", "v1", "cluster"],
         &["", "v1", "variants"],

@@ -1,6 +1,6 @@
 use Rattle.std.proofs.Common.{◌∙◌, ap, sym}
 use Rattle.std.specs.List.{list_all}
-use Rattle.fr_guide.proofs.FieldLaws.{told_as}
+use Rattle.fr_guide.proofs.PathLemmas.{told_as}
 use Rattle.fr_guide.proofs.PathLemmas.{behind_references}
 use Rattle.fr_guide.proofs.paths.part_faults.Goals as goal
 use Rattle.fr_guide.specs.Paths.{is_fine_part}

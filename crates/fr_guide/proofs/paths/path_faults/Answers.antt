@@ -1,6 +1,6 @@
 use Rattle.std.proofs.Common.{◌≡◌, ◌∙◌, ap, map, sym}
 use Rattle.std.specs.List.{list_all, zip}
-use Rattle.fr_guide.proofs.FieldLaws.{told_as}
+use Rattle.fr_guide.proofs.PathLemmas.{told_as}
 use Rattle.fr_guide.proofs.PathLemmas.{with_form, without_form}
 use Rattle.fr_guide.proofs.paths.path_faults.Goals as goal
 use Rattle.fr_guide.specs.Paths.{is_fine_part, parts_of}
