@@ -61,6 +61,8 @@ class SuppliersWeek(PlannerCase):
         browser.click("input[value=replace]")
         self.rests()
         browser.press("Replace by 3 rows", "#view-files")
+        browser.wait("what would be gone", "return document.getElementById('dialog').textContent.includes('slot 4 A, base 3, repetition 8')")
+        browser.press("Replace", "#dialog")
         self.says("3 rows of placements.csv took the place")
 
     def friday(self, browser):

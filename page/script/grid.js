@@ -10,9 +10,10 @@ import {laneOf} from "./plan.js";
 import {GUTTER, HEAD, Sheet} from "./sheet.js";
 
 const WIDTHS = [1, 2, 3, 4, 6, 8, 11, 14, 18, 24, 32, 44, 60, 84, 116];
-// The least height of a cycle and the width of a lane to begin with, for a mouse and for a finger.
+// The least height of a cycle and the width of a lane to begin with, for a mouse and for a finger; and the height in which a name has room.
 const FOR_MOUSE = {row: 7, lane: 18};
 const FOR_FINGER = {row: 18, lane: 32};
+const TALL_ROW = 16;
 const sizes = () => window.matchMedia("(pointer: coarse)").matches ? FOR_FINGER : FOR_MOUSE;
 
 export class Grid {
@@ -51,7 +52,7 @@ export class Grid {
 
   sheetOf(width) {
     const {desk} = this, {plan, look} = desk, channels = look.channels || plan.cluster.channels;
-    const rowHeight = Math.max(sizes().row, Math.min(24, (this.scroller.clientHeight - HEAD - 2) / plan.cycles));
+    const rowHeight = Math.max(sizes().row, look.isTall ? TALL_ROW : 0, Math.min(24, (this.scroller.clientHeight - HEAD - 2) / plan.cycles));
     const isHeld = slot => plan.grants[laneOf(slot, "A")] || plan.grants[laneOf(slot, "B")] || this.isChanged(slot);
     return new Sheet(plan, {channels, width, rowHeight, isShown: slot => !look.folds || desk.granting || isHeld(slot)});
   }

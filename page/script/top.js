@@ -3,7 +3,7 @@ import {indented, inTree} from "./cluster.js";
 import {button, byId, listen, options} from "./dom.js";
 import {openHelp} from "./help.js";
 import {bySomebody} from "./meanwhile.js";
-import {attempt, hideTip, quiet, say} from "./messages.js";
+import {attempt, hideTip, nothingChanged, quiet, quietGood, say} from "./messages.js";
 import {choose, refresh} from "./reading.js";
 import {grouped} from "./words.js";
 
@@ -16,7 +16,7 @@ export function topBar(desk) {
   listen("variant", "change", ({target}) => show(desk, target.value));
   listen("reload", "click", () => attempt(desk, async () => {
     const changed = await refresh(desk);
-    say("good", "The plan is read again." + (changed ? bySomebody(changed) : " No frame and no lane has changed."));
+    say("good", "The plan is read again." + (changed ? bySomebody(changed) : nothingChanged(desk)));
   }));
   listen("help-open", "click", () => openHelp(desk));
   listen("leave", "click", () => desk.leave());
@@ -71,6 +71,7 @@ function showView(desk) {
     tab.tabIndex = name === desk.view ? 0 : -1;
   }
   hideTip();
+  quietGood();
   byId("detail").hidden = WIDE.includes(desk.view);
   byId("columns").classList.toggle("wide", byId("detail").hidden);
 }

@@ -13,7 +13,7 @@ pub const PAGE: &str = "<!doctype html>
 [hidden]{display:none!important}
 :root{--line:#c9ced6;--soft:#f3f5f8;--ink:#14181f;--quiet:#566070;--accent:#0b5cad;--bad:#a3161b;--good:#0a6b3d}
 html,body{height:100%}
-body{margin:0;font:14px/1.4 system-ui,\"Segoe UI\",\"DejaVu Sans\",sans-serif;color:var(--ink);background:#fff}
+body{display:flow-root;margin:0;font:14px/1.4 system-ui,\"Segoe UI\",\"DejaVu Sans\",sans-serif;color:var(--ink);background:#fff}
 h1{font-size:1.5rem;margin:0 0 .5rem}
 h2{font-size:1.05rem;margin:0 0 .4rem}
 h3{font-size:.95rem;margin:1rem 0 .3rem}
@@ -153,14 +153,14 @@ kbd{border:1px solid #9aa3b0;border-radius:3px;padding:0 .3em;background:var(--s
 .top .grow{display:none}
 .top select{flex:1;min-width:7rem}
 .tabs{order:9;width:100%;overflow-x:auto}
-.tabs button{flex:none}
+.tabs button{flex:none;font-size:.9rem;padding:.35rem .4rem}
 .columns,.columns.wide{display:flex;flex-direction:column}
 .side{border:0;border-bottom:1px solid var(--line)}
 .side-open{display:block}
 .side:not(.open)>:not(.side-open){display:none}
 .frames{max-height:50vh}
 .view{overflow-x:auto}
-#view-plan>.scroller{flex:none;height:58vh}
+#view-plan>.scroller{flex:none;height:58vh;scroll-margin-top:9rem}
 .tools{flex-wrap:nowrap;overflow-x:auto}
 .tools>*{flex:none}
 .mode{flex-wrap:wrap}
@@ -185,6 +185,7 @@ html,body,.app{height:auto;display:block}
 .top button,.tabs,.side,.facts label,.tools,.mode,#overview,#view-plan>.scroller,.cell,.message,.tip,.detail:empty,.detail button:not(.link),.detail form{display:none!important}
 button.link{color:#000;text-decoration:none}
 .top{background:none;color:#000;padding:0}
+.quiet{color:#000}
 .top select{background:none;color:#000;border:0;appearance:none;font-weight:700}
 .columns{display:block}
 .view,#view-plan{overflow:visible;padding:0;display:block}
@@ -262,6 +263,7 @@ tr{break-inside:avoid}
 <option value=\"node\">node</option>
 <option value=\"frame\">frame</option>
 </select></label>
+<label class=\"check\"><input id=\"tall\" type=\"checkbox\"> tall rows</label>
 <label class=\"check\"><input id=\"fold\" type=\"checkbox\" checked> <span id=\"fold-text\">fold slots that nobody holds</span></label>
 <label class=\"check\" id=\"mark-label\" hidden><input id=\"mark\" type=\"checkbox\" checked> mark differences</label>
 <span id=\"grant-tools\" class=\"set\" hidden>
@@ -570,7 +572,6 @@ lanesHeld(){return this.grants.reduce((sum,grant)=>sum+(grant?1:0),0);}
 cellsSent(){return this.load.reduce((sum,used)=>sum+used,0);}
 signalsOf(frame){return this.signals.get(keyOf(frame));}
 keepSignals(frame,signals){this.signals.set(keyOf(frame),signals);}
-forgetSignals(frame){this.signals.delete(keyOf(frame));}
 }
 const grouped=number=>String(number).replace(/\\B(?=(\\d{3})+$)/g,\",\");
 const plural=(number,one,many=one+\"s\")=>`${grouped(number)} ${number === 1 ? one : many}`;
@@ -579,7 +580,7 @@ const cyclesText=({base,repetition})=>`${base}/${repetition}`;
 const shortPlaceText=({slot,channels,base,repetition})=>`${slot} ${channels} ${base}/${repetition}`;
 const placeText=placement=>\"slot \"+shortPlaceText(placement);
 const longPlaceText=({slot,channels,base,repetition})=>`slot ${slot} ${channels}, base ${base}, repetition ${repetition}`;
-const bitsText=({name,start,length,order})=>`${name}: ${length} bits from bit ${start}, ${order}`;
+const bitsText=({name,start,length,order})=>`${name}: ${plural(length, \"bit\")} from bit ${start}, ${order}`;
 const firstOf=(texts,most)=>texts.slice(0,most).join(\", \")+(texts.length>most?` and ${grouped(texts.length - most)} more`:\"\");
 const byText=(one,other)=>one<other?-1:one>other?1:0;
 const placementsText=placements=>placements.map(shortPlaceText).sort().join(\", \");
@@ -595,14 +596,32 @@ if(old?.node!==grant?.node||old?.supplier!==grant?.supplier)lanes.push(lane);
 });
 return{frames:[...gone,...frames],lanes};
 }
-function meanwhile(before,after,isOwn=()=>false){
+function signalsBetween(before,after,isOwn){
+const found=[],texts=signals=>new Map(signals.map(one=>[one.name,bitsText(one)]));
+for(const frame of after.frames){
+if(!before.signalsOf(frame)||!after.signalsOf(frame))continue;
+const old=texts(before.signalsOf(frame)),now=texts(after.signalsOf(frame));
+for(const name of new Set([...old.keys(),...now.keys()])){
+if(old.get(name)!==now.get(name)&&!isOwn(frame,name))found.push(`${name} of ${frame.name}`);
+}
+}
+return found;
+}
+const told=(texts,one)=>texts.length?`${plural(texts.length, one)} (${firstOf(texts, 5)})`:\"\";
+function meanwhile(before,after,isOwn=()=>false,isOwnSignal=()=>false){
 const{frames,lanes}=changesBetween(before,after);
 const others=frames.filter(frame=>!isOwn(frame)),held=lanes.filter(lane=>!isOwn(lane));
-const parts=[];
-if(others.length)parts.push(`${plural(others.length, \"frame\")} (${firstOf(others.map(frame => frame.name), 5)})`);
-if(held.length)parts.push(`${plural(held.length, \"lane\")} (${firstOf(held.map(laneText), 5)})`);
-return parts.join(\" and \");
+return joined([told(others.map(frame=>frame.name),\"frame\"),told(held.map(laneText),\"lane\"),
+told(signalsBetween(before,after,isOwnSignal),\"signal\")]);
 }
+function meanwhileInAll(before,after){
+const old=new Map(before.variants.map(({name,isReleased})=>[name,isReleased])),known=new Set(before.nodes.map(keyOfNode));
+const variants=after.variants.filter(({name,isReleased})=>old.get(name)!==isReleased)
+.map(({name,isReleased})=>`${name} is ${isReleased ? \"released\" : \"open\"}`);
+return joined([told(variants,\"variant\"),told(after.nodes.filter(one=>!known.has(keyOfNode(one))).map(({node})=>node),\"node\")]);
+}
+const keyOfNode=({supplier,node})=>`${supplier} ${node}`;
+const joined=parts=>parts.filter(Boolean).join(\" and \");
 const bySomebody=changed=>changed?` Somebody else changed ${changed} meanwhile; you see it now.`:\"\";
 const SECONDS=60;
 class Register{
@@ -796,10 +815,11 @@ if(!(fault instanceof Torn)||!isFirst)throw fault;
 }
 }
 }
-async function take(desk,{plan,texts},signals){
+async function take(desk,{plan,texts},before,keepsSignals){
 const{frame,room,difference}=desk;
-if(signals)plan.signals=signals;
+if(keepsSignals)plan.signals=before.signals;
 Object.assign(desk,{plan,texts,placement:null,frame:frame&&plan.frameNamed(frame.supplier,frame.name)});
+if(desk.frame&&before?.signalsOf(desk.frame))await signalsOf(desk,desk.frame);
 if(difference)await compare(desk,difference.from);
 if(room)await findRoom(desk,room.repetition,room.channels);
 desk.tell(\"plan\");
@@ -810,18 +830,19 @@ if(desk.turn!==turn)return;
 if(variant!==desk.variant)Object.assign(desk,{difference:null,granting:null,room:null,lane:null,file:null});
 desk.variant=variant;
 desk.canUndo();
-await take(desk,read,null);
+await take(desk,read,null,false);
 }
-async function reread(desk,{known=[],keepsSignals=false,isOwn}={}){
+async function reread(desk,{known=[],keepsSignals=false,isOwn,isOwnSignal}={}){
 const{plan:before,turn,texts,variant}=desk;
 const read=await readPlan(desk,variant,Object.fromEntries(known.map(report=>[report,texts[report]])));
 if(desk.turn!==turn||desk.variant!==variant)return\"\";
-await take(desk,read,keepsSignals?before.signals:null);
-return meanwhile(before,desk.plan,isOwn);
+await take(desk,read,before,keepsSignals);
+return meanwhile(before,desk.plan,isOwn,isOwnSignal);
 }
 async function refresh(desk,isOwn){
+const{variants,nodes}=desk;
 await readRegister(desk);
-return desk.variant?reread(desk,{isOwn}):\"\";
+return joined([desk.variant?await reread(desk,{isOwn}):\"\",meanwhileInAll({variants,nodes},desk)]);
 }
 async function findRoom(desk,repetition,channels){
 const{frame,turn}=desk;
@@ -884,6 +905,7 @@ box.replaceChildren(make(\"div\",{},text),...buttons,button(\"Close\",quiet));
 box.hidden=false;
 }
 const quiet=()=>{byId(\"message\").hidden=true;};
+const quietGood=()=>{if(byId(\"message\").classList.contains(\"good\"))quiet();};
 async function attempt(desk,action){
 desk.busy+=1;
 document.body.setAttribute(\"aria-busy\",\"true\");
@@ -909,9 +931,10 @@ async function readAgain(desk,{isChange,isOwn}){
 try{
 const changed=await refresh(desk,isOwn);
 if(!isChange)return bySomebody(changed);
-return changed?` What has changed: ${changed}.`:\" No frame and no lane has changed.\";
+return changed?` What has changed: ${changed}.`:nothingChanged(desk);
 }catch{return\" It could not be read again.\";}
 }
+const nothingChanged=({frame})=>` No frame, no lane and no variant has changed${frame ? `, nor a signal of ${frame.name}` : \"\"}.`;
 function confirmed(title,content,yes,word=null){
 return new Promise(done=>{
 const dialog=byId(\"dialog\");
@@ -984,23 +1007,19 @@ const others=await rereadNamed(desk,name);
 done(desk,`${name} is dropped.`+others,null);
 });
 async function signalStep(desk,frame,request){
-const forget=()=>current(desk,frame)&&desk.plan.forgetSignals(current(desk,frame));
-try{
 await command(desk,{frame:frame.name,...request});
 if(request.do===\"add_signal\")desk.draft=null;
-}finally{
-forget();
-desk.tell(\"choice\");
-}
+const isOwnSignal=(one,name)=>keyOf(one)===keyOf(frame)&&name===request.signal;
+return bySomebody(await reread(desk,{known:[\"grants\",\"frames\",\"gaps\"],isOwnSignal}));
 }
 const addSignal=(desk,frame,signal)=>attempt(desk,async()=>{
 const{name,start,length,order}=signal;
-await signalStep(desk,frame,{do:\"add_signal\",signal:name,start,length,order});
-done(desk,`${name} is added to ${frame.name}.`,()=>dropSignal(desk,frame,signal));
+const others=await signalStep(desk,frame,{do:\"add_signal\",signal:name,start,length,order});
+done(desk,`${name} is added to ${frame.name}.${others}`,()=>dropSignal(desk,frame,signal));
 });
 const dropSignal=(desk,frame,signal)=>attempt(desk,async()=>{
-await signalStep(desk,frame,{do:\"drop_signal\",signal:signal.name});
-done(desk,`${signal.name} is dropped from ${frame.name}. It was ${bitsText(signal)}.`,()=>addSignal(desk,frame,signal));
+const others=await signalStep(desk,frame,{do:\"drop_signal\",signal:signal.name});
+done(desk,`${signal.name} is dropped from ${frame.name}. It was ${bitsText(signal)}.${others}`,()=>addSignal(desk,frame,signal));
 });
 function setGranting(desk,isOn){
 desk.granting=isOn?{lanes:[]}:null;
@@ -1252,7 +1271,7 @@ this.numbers=new Map(nodes.map(({node,supplier},at)=>[`${supplier} ${node}`,at])
 return this.numbers;
 }
 ofLane(grant){return this.desk.look.colourBy===\"frame\"?PLAIN:colourOf(this.number(grant,null));}
-letter(grant){return letterOf(this.number(grant,null));}
+letter(grant){return this.desk.look.colourBy===\"frame\"?\"\":letterOf(this.number(grant,null));}
 ofPlacement({frame,shade}){
 const colour=colourOf(this.number(frame,frame));
 return shade===1?shaded(colour):colour;
@@ -1393,7 +1412,7 @@ constructor(){
 this.listeners=[];
 this.turn=0;
 this.times=new Times();
-this.look={channels:\"\",colourBy:\"supplier\",folds:true,marks:true,width:18};
+this.look={channels:\"\",colourBy:\"supplier\",isTall:false,folds:true,marks:true,width:18};
 this.clear();
 }
 clear(){
@@ -1645,6 +1664,27 @@ if(row.kind===\"placement\")return longPlaceText(row);
 if(row.kind===\"signal\")return bitsText(row);
 return row.gap===Infinity?\"never sent\":desk.times.text(row.gap);
 }
+const ROW_FORMS={
+placements:{
+plain:([frame,,slot,channels,base,repetition])=>
+({frame,slot:Number(slot),channels,base:Number(base),repetition:Number(repetition)}),
+text:row=>`${row.frame} in ${longPlaceText(row)}`,
+},
+signals:{
+plain:([frame,name,start,length,order])=>({frame,name,start:Number(start),length:Number(length),order}),
+text:row=>`${row.frame}, ${bitsText(row)}`,
+},
+};
+async function rowsGone(desk,{kind,shown}){
+if(!ROW_FORMS[kind])return[];
+const{plain,text}=ROW_FORMS[kind],rows=shown.slice(1).map(plain);
+const stay=new Set(rows.map(text)),named=new Set(rows.map(({frame})=>frame));
+const{records}=await exported(desk,kind);
+return records.map(record=>plain(record.split(\",\"))).filter(({frame})=>named.has(frame)).map(text).filter(row=>!stay.has(row));
+}
+const isSameGone=(one,other)=>one.length===other.length&&one.every((row,at)=>row===other[at]);
+const goneCount=({kind,gone})=>plural(gone.length,kind.slice(0,-1));
+const goneList=({gone})=>make(\"ul\",{class:\"scroll\"},gone.map(row=>make(\"li\",{},row)));
 class NoWorkbook extends Error{}
 const isWorkbook=([p,k,three,four])=>p===0x50&&k===0x4b&&three===3&&four===4;
 const canUnpack=()=>{
@@ -1853,7 +1893,7 @@ if(bytes)await takeLooked(desk,await looked(blob.name,new Uint8Array(bytes)));
 else say(\"bad\",`${blob.name} cannot be read. If another program has it open, close it there, and choose it again.`);
 }
 async function takeLooked(desk,file){
-desk.file=file&&Object.assign(file,{way:\"import\",parts:null,part:0,fates:null,shown:[],onlyRefused:false});
+desk.file=file&&Object.assign(file,{way:\"import\",parts:null,part:0,fates:null,gone:[],shown:[],onlyRefused:false});
 if(file){
 divide(file);
 file.label=suggestedLabel(file);
@@ -1869,14 +1909,28 @@ const bodyOf=file=>file.parts?file.parts[file.part]:file.bytes;
 async function tryFile(desk){
 const{file}=desk;
 if(!file||file.fault||!desk.mayPlan())return;
+const{replaces}=WAYS[file.way];
 file.fates=null;
 file.shown=file.parts?recordsOf(new TextDecoder().decode(bodyOf(file))):file.records;
-await attempt(desk,async()=>{file.fates=readFates(await desk.register.tried(desk.variant,bodyOf(file),WAYS[file.way].replaces));});
+await attempt(desk,async()=>{
+const gone=replaces?await rowsGone(desk,file):[],fates=readFates(await desk.register.tried(desk.variant,bodyOf(file),replaces));
+Object.assign(file,{gone,fates});
+});
 if(desk.file===file)desk.tell(\"file\");
 }
 function suggestedLabel({name,parts,part}){
 const plain=name.replace(/\\.[^.]*$/,\"\").replace(/[^A-Za-z0-9_]/g,\"_\").replace(/^[^A-Za-z]+/,\"\")||\"file\";
 return plain.slice(0,26)+(parts?`_${part + 1}`:\"\");
+}
+async function mayTakeAway(desk,file){
+if(!WAYS[file.way].replaces)return true;
+if(file.gone.length&&!await confirmed(`${goneCount(file)} would be gone`,goneList(file),\"Replace\"))return false;
+const isSame=await attempt(desk,async()=>isSameGone(file.gone,await rowsGone(desk,file)));
+if(isSame!==false||desk.file!==file)return isSame&&desk.file===file;
+const others=await attempt(desk,()=>reread(desk,{known:[\"grants\"]}));
+await tryFile(desk);
+say(\"warn\",`Nothing was sent: what would be gone has changed meanwhile. Look at it again.${bySomebody(others)}`);
+return false;
 }
 async function carryOut(desk){
 const{file}=desk,way=WAYS[file.way];
@@ -1885,6 +1939,7 @@ if(file.way===\"import\"&&!isName(file.label)){
 say(\"bad\",\"The label is no name. A name has 1 to 32 letters, digits and underscores, a letter first.\");
 return;
 }
+if(!await mayTakeAway(desk,file))return;
 const isDone=await attempt(desk,async()=>{
 const{rows}=await way.send(desk,file,bodyOf(file));
 let said=`${plural(rows, \"row\")} of ${file.name} ${way.said(file)}`;
@@ -1978,9 +2033,14 @@ const only=make(\"input\",{type:\"checkbox\",id:\"only-bad\",checked:file.onlyRe
 const all=refused.length?`${plural(refused.length, \"row\")} of ${grouped(fates.length)} would be refused, so none is carried out.`
 :`All ${rows} would be carried out.`;
 return[row(make(\"strong\",{class:refused.length?\"fault\":\"\"},all)),
+WAYS[file.way].replaces?goneBox(file):\"\",
 row(file.way===\"import\"?[make(\"label\",{for:\"label\"},\"Label\"),label]:\"\",go),
 refused.length&&refused.length<fates.length?make(\"label\",{class:\"check\"},only,\"only refused rows\"):\"\",
 longTable([[\"line\",\"num\"],...file.shown[0],\"what would become of it\"],file.onlyRefused?refused:fates,fate=>fateRow(desk,file,fate))];
+}
+function goneBox(file){
+return make(\"div\",{id:\"gone\"},file.gone.length?[make(\"strong\",{},`${goneCount(file)} would be gone:`),goneList(file)]
+:\"Nothing would be gone: the file has all that its frames have.\");
 }
 function fateRow(desk,file,fate){
 const[heads,record]=[file.shown[0],file.shown[fate.record-1]??[]];
@@ -2252,7 +2312,7 @@ if(desk.lane===lane)strokeBox(ink,\"#000\",3,x+1,15.5,width-1,29);
 function paintHeld(ink,{sheet:{width},desk,palette},channel,lane,grant,x){
 const colour=palette.ofLane(grant),letter=palette.letter(grant),share=desk.plan.load[lane]/desk.plan.cycles,edge=width>3?0.5:0;
 fillBox(ink,colour,x+edge,16,width-edge,15);
-if(width>=8)write(ink,width>=24?`${channel} ${letter}`:letter,x+width/2,24,inkOn(colour),10,\"center\",\"bold\");
+if(width>=8)write(ink,width>=24?`${channel} ${letter}`.trim():letter||channel,x+width/2,24,inkOn(colour),10,\"center\",\"bold\");
 fillBox(ink,\"#fff\",x+0.5,33,width-0.5,12);
 fillBox(ink,share===1?\"#14181f\":\"#5d6b7c\",x+0.5,33+12*(1-share),Math.max(0.5,width-1),12*share);
 }
@@ -2353,6 +2413,7 @@ fillBox(ink,colour,x,(side+1)*high-part,wide,part);
 const WIDTHS=[1,2,3,4,6,8,11,14,18,24,32,44,60,84,116];
 const FOR_MOUSE={row:7,lane:18};
 const FOR_FINGER={row:18,lane:32};
+const TALL_ROW=16;
 const sizes=()=>window.matchMedia(\"(pointer: coarse)\").matches?FOR_FINGER:FOR_MOUSE;
 class Grid{
 constructor(desk,palette){
@@ -2386,7 +2447,7 @@ this.draw();
 wide(){return Math.min(this.scroller.clientWidth,GUTTER+this.sheet.wide);}
 sheetOf(width){
 const{desk}=this,{plan,look}=desk,channels=look.channels||plan.cluster.channels;
-const rowHeight=Math.max(sizes().row,Math.min(24,(this.scroller.clientHeight-HEAD-2)/plan.cycles));
+const rowHeight=Math.max(sizes().row,look.isTall?TALL_ROW:0,Math.min(24,(this.scroller.clientHeight-HEAD-2)/plan.cycles));
 const isHeld=slot=>plan.grants[laneOf(slot,\"A\")]||plan.grants[laneOf(slot,\"B\")]||this.isChanged(slot);
 return new Sheet(plan,{channels,width,rowHeight,isShown:slot=>!look.folds||desk.granting||isHeld(slot)});
 }
@@ -2480,6 +2541,7 @@ function listenToTools(desk,grid){
 const looks=(id,take)=>listen(id,\"change\",({target})=>{take(target);desk.tell(\"look\");});
 looks(\"shown\",({value})=>{desk.look.channels=value;});
 looks(\"colour-by\",({value})=>{desk.look.colourBy=value;});
+looks(\"tall\",({checked})=>{desk.look.isTall=checked;});
 looks(\"fold\",({checked})=>{desk.look.folds=checked;});
 looks(\"mark\",({checked})=>{desk.look.marks=checked;});
 listen(\"narrower\",\"click\",()=>grid.zoom(-1));
@@ -2494,6 +2556,7 @@ function showTools(desk){
 const{channels}=desk.cluster;
 options(byId(\"shown\"),channels===\"AB\"?[[\"AB\",\"A and B\"],[\"A\",\"A\"],[\"B\",\"B\"]]:[[channels,channels]],byId(\"shown\").value||channels);
 byId(\"fold-text\").textContent=desk.isIntegrator?\"fold slots that nobody holds\":\"fold slots that are not yours\";
+byId(\"colour-by\").value=desk.look.colourBy;
 byId(\"mark-label\").hidden=!desk.difference;
 byId(\"grant-tools\").hidden=!desk.mayGrant();
 options(byId(\"grant-to\"),desk.nodes.map(({node,supplier},at)=>[String(at),`${node} of ${supplier}`]),byId(\"grant-to\").value);
@@ -2588,6 +2651,7 @@ async function begin(desk,key,isKept){
 byId(\"login-fault\").textContent=\"\";
 try{
 await enter(desk,key);
+desk.look.colourBy=desk.isIntegrator?\"supplier\":\"frame\";
 if(isKept)stored(storage=>storage.setItem(STORED,key));
 byId(\"login\").hidden=true;
 byId(\"app\").hidden=false;
@@ -2699,13 +2763,14 @@ function printing(desk,grid){
 window.addEventListener(\"beforeprint\",()=>{if(desk.hasView(\"plan\")&&grid.sheet)byId(\"print\").replaceChildren(...pages(desk,grid));});
 window.addEventListener(\"afterprint\",()=>byId(\"print\").replaceChildren());
 }
+const atRest=desk=>Object.assign(Object.create(desk),{room:null,found:null});
 function pages(desk,{sheet:{width,channels},palette,sheet:shown}){
 const sheet=new Sheet(desk.plan,{channels:channels.join(\"\"),width,rowHeight:ROW,isShown:slot=>shown.columnOf(slot)!==null});
 const{columns}=sheet,found=[];
 if(sheet.wide>PAPER*MOST_PAGES)return[make(\"p\",{},\"The plan is too wide to be printed here. The picture, under Files, prints it.\")];
 for(let first=0,last;first<columns.length;first=last+1){
 for(last=first;columns[last+1]&&columns[last+1].x+columns[last+1].width-columns[first].x<=PAPER-GUTTER;)last+=1;
-found.push(page({desk,palette,sheet},first,last));
+found.push(page({desk:atRest(desk),palette,sheet},first,last));
 }
 return found;
 }
@@ -2783,7 +2848,7 @@ addTabs(desk);
 listen(\"variant\",\"change\",({target})=>show(desk,target.value));
 listen(\"reload\",\"click\",()=>attempt(desk,async()=>{
 const changed=await refresh(desk);
-say(\"good\",\"The plan is read again.\"+(changed?bySomebody(changed):\" No frame and no lane has changed.\"));
+say(\"good\",\"The plan is read again.\"+(changed?bySomebody(changed):nothingChanged(desk)));
 }));
 listen(\"help-open\",\"click\",()=>openHelp(desk));
 listen(\"leave\",\"click\",()=>desk.leave());
@@ -2834,6 +2899,7 @@ tab.setAttribute(\"aria-selected\",String(name===desk.view));
 tab.tabIndex=name===desk.view?0:-1;
 }
 hideTip();
+quietGood();
 byId(\"detail\").hidden=WIDE.includes(desk.view);
 byId(\"columns\").classList.toggle(\"wide\",byId(\"detail\").hidden);
 }
@@ -2944,4 +3010,4 @@ window.addEventListener(\"unhandledrejection\",({reason})=>say(\"bad\",`The page
 
 /// What a browser may do with it: run its script, show its style, and ask the server that it came from.
 pub const POLICY: &str =
-    "default-src 'none'; script-src 'sha256-tboDTVpGIgaRDbmKRTg56FGIfGTrUdPKqYc2rdIOc1o='; style-src 'sha256-cofPVVpLoIMb3Nq53Cr2s9UXXJl7gDSFxga5o/OsuCY='; connect-src 'self'; img-src data:; base-uri 'none'; form-action 'none'; frame-ancestors 'none'; require-trusted-types-for 'script'; trusted-types 'none'";
+    "default-src 'none'; script-src 'sha256-CY1GJP833lIikTD0jrt2AakzN2TLJ3Arx6JaZ1QiELY='; style-src 'sha256-UE+ai8XP4uD+uQsBJp/LJe+RhSDpIWnkH9VFKIVaNGI='; connect-src 'self'; img-src data:; base-uri 'none'; form-action 'none'; frame-ancestors 'none'; require-trusted-types-for 'script'; trusted-types 'none'";
