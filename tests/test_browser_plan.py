@@ -212,6 +212,23 @@ class Placing(PlannerCase):
         self.says("night_view is no longer sent")
         self.see("the register has it no more", [], self.placements("night_view"))
 
+    def test_a_new_frame(self):
+        """What is no name is asked for again, as it was typed; a frame that was added can be undone."""
+        browser = self.enter(CAMERA)
+        browser.press("New frame")
+        for typed in "", "my frame":
+            browser.type("#frame-name", typed)
+            browser.press("Add it", "#dialog")
+            browser.wait("why not", "return document.querySelector('#dialog .fault')?.textContent.includes(arguments[0])", "is no name")
+            self.see("what was typed is there still", typed, browser.run("return document.getElementById('frame-name').value"))
+        browser.type("#frame-name", "glare")
+        browser.keys(ENTER)
+        self.says("glare is added. It is not placed yet.")
+        self.see("the register has it", [], self.placements("glare"))
+        browser.press("Undo", "#message")
+        self.says("glare is dropped.")
+        self.see("it is gone", False, "glare" in self.api.get(CAMERA, "variants/my29/frames"))
+
     def test_a_placement_is_taken_back(self):
         browser = self.enter(CAMERA)
         place = self.place_of(8, 12, "A", "signs, sent by")

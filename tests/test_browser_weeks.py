@@ -169,6 +169,8 @@ class IntegratorsWeek(PlannerCase):
     def test_by_mouse(self):
         browser = self.enter(BOSS, frames=False)
         self.says("There is no variant yet. Open one.")
+        usable = "return [...document.querySelectorAll('#tabs button')].filter(it => !it.disabled).map(it => it.textContent)"
+        self.see("what can be looked at", ["Cluster"], browser.run(usable))
         self.form("Openavariant", name="saloon")
         self.says("saloon is open.")
         for supplier, node in ("brakes", "brake_unit"), ("steering", "rack_unit"):

@@ -60,7 +60,7 @@ function showGranting(desk, box) {
   const end = button("Done", () => endMode(desk));
   if (!to || lanes.length < 2) {
     box.replaceChildren(make("strong", {}, "Grant lanes"),
-      make("span", {}, "Click a lane to grant or to revoke it; draw over several (or Shift and arrows)."), end);
+      make("span", {}, "Click a lane to grant or to revoke it, or draw over several. By keys: Enter, or Shift and arrows."), end);
     return;
   }
   const {grants, revokes, others} = wantedOf(desk, lanes);

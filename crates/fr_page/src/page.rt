@@ -50,6 +50,7 @@ label.check{display:inline-flex;gap:.35rem;align-items:center}
 .top select,.top button{background:#2b3848;color:#fff;border-color:#55657a}
 .top button:hover{background:#3a4b60}
 .tag{border-radius:10px;padding:.05rem .55rem;font-size:.8rem;background:#2f6f4f}
+.tag:empty{display:none}
 .tag.released{background:#6b4a10}
 .who{font-weight:600}
 .tabs{display:flex;gap:2px;margin-left:.5rem}
@@ -85,8 +86,8 @@ label.check{display:inline-flex;gap:.35rem;align-items:center}
 .view{padding-bottom:6rem}
 #view-plan{overflow:hidden;padding:.4rem .5rem}
 .tools{display:flex;flex-wrap:wrap;gap:.3rem .7rem;align-items:center;font-size:.85rem;margin-bottom:.35rem}
-.mode{display:flex;gap:.3rem .8rem;align-items:center;padding:.15rem .6rem;margin-bottom:.35rem;background:#e8f1fb;border:1px solid #9fc2e6;border-radius:4px;font-size:.9rem}
-.mode span{flex:1;overflow:hidden;text-overflow:ellipsis;white-space:nowrap}
+.mode{display:flex;gap:.3rem .6rem;align-items:center;min-height:42px;padding:.15rem .6rem;margin-bottom:.35rem;background:#e8f1fb;border:1px solid #9fc2e6;border-radius:4px;font-size:.85rem;line-height:1.2}
+.mode span{flex:1}
 .mode button{flex:none}
 .overview{display:block;width:100%;height:26px;margin-bottom:3px;border:1px solid var(--line);cursor:pointer;touch-action:none}
 #view-plan>.scroller{flex:1 1 0;min-height:160px;overflow:auto;border:1px solid #8f99a8}
@@ -164,7 +165,7 @@ kbd{border:1px solid #9aa3b0;border-radius:3px;padding:0 .3em;background:var(--s
 .tools{flex-wrap:nowrap;overflow-x:auto}
 .tools>*{flex:none}
 .mode{flex-wrap:wrap}
-.mode span{flex:1 0 100%;white-space:normal}
+.mode span{flex:1 0 100%}
 .detail{border:0;border-top:1px solid var(--line)}
 .scroll{max-height:none}
 .words{min-width:12rem}
@@ -244,7 +245,7 @@ tr{break-inside:avoid}
 <option value=\"gap\">largest gap</option>
 <option value=\"node\">node</option>
 </select>
-<button id=\"add-frame\" type=\"button\">New frame</button>
+<button id=\"add-frame\" type=\"button\" hidden>New frame</button>
 </div>
 <ul id=\"frames\" class=\"frames\" tabindex=\"-1\"></ul>
 <p id=\"frames-note\" class=\"note\"></p>
@@ -1478,7 +1479,7 @@ return;
 }finally{box.removeAttribute(\"aria-busy\");}
 if(!isWanted())return;
 const matrix=make(\"div\",{class:\"scroll\",tabindex:\"0\",role:\"group\",\"aria-label\":`Payload of ${frame.name}`});
-box.replaceChildren(note(`${plural(signals.length, \"signal\")}, ${usedBits(signals)} of ${bitCount(desk.cluster)} bits. `
+box.replaceChildren(note(`${plural(signals.length, \"signal\")}, ${usedBits(signals)} of ${grouped(bitCount(desk.cluster))} bits. `
 +\"The most significant bit of a byte stands left.\"),matrix);
 if(signals.length)box.append(signalTable(desk,frame,signals,isOpen));
 if(isOpen)box.append(signalForm(desk,frame,signals,matrix));
@@ -1557,9 +1558,19 @@ return[make(\"h2\",{},`Variant ${desk.variant}`),
 pairs([[\"frames\",grouped(plan.frames.length)],[\"not placed\",never.length?grouped(never.length):\"none\"],
 [\"lanes\",`${grouped(held)} granted`],[\"cells\",`${grouped(plan.cellsSent())} of ${grouped(held * plan.cycles)} used`]]),
 desk.isOpen()?\"\":make(\"p\",{},\"The variant is released: it never changes again.\"),
-note(\"Choose a frame in the list, or a cell of the plan.\"),
+note(plan.frames.length?\"Choose a frame in the list, or a cell of the plan.\":\"\"),lacking(desk,held),
 never.length?[make(\"h3\",{},\"Not placed yet\"),
 make(\"ul\",{},never.slice(0,30).map(frame=>make(\"li\",{},link(frame.name,()=>desk.choose({frame})))))]:\"\"];
+}
+function lacking(desk,held){
+const{isIntegrator,nodes,plan}=desk,said=(toIntegrator,toSupplier)=>note(isIntegrator?toIntegrator:toSupplier);
+if(!desk.isOpen())return\"\";
+if(!nodes.length)return said(\"No supplier has a node yet. Add one, under Cluster.\",\"You have no node yet. The integrator adds nodes.\");
+if(!held){
+return said(\"No lane is granted yet. Choose a node above the plan, and press Grant by click.\",
+\"No lane is granted to you yet. The integrator grants lanes.\");
+}
+return plan.frames.length?\"\":said(\"There is no frame yet.\",\"You have no frame yet. Press New frame, or drop a file under Files.\");
 }
 function laneDetails(desk,lane){
 const{plan}=desk,grant=plan.grants[lane],sent=plan.sentIn(lane);
@@ -2066,7 +2077,13 @@ listen(\"add-frame\",\"click\",()=>askFrame(desk));
 listen(\"side-open\",\"click\",()=>this.open(!byId(\"side\").classList.contains(\"open\")));
 desk.on(\"plan\",()=>this.search());
 desk.on(\"choice look\",()=>{if(desk.plan)this.show();});
-desk.on(\"left\",()=>{byId(\"search\").value=\"\";byId(\"frames\").replaceChildren();byId(\"frames-note\").textContent=\"\";this.plan=null;});
+desk.on(\"left\",()=>this.clear());
+}
+clear(){
+for(const id of[\"frames\",\"frames-note\"])byId(id).replaceChildren();
+byId(\"search\").value=\"\";
+byId(\"add-frame\").hidden=true;
+this.plan=null;
 }
 open(isOpen){
 byId(\"side\").classList.toggle(\"open\",isOpen);
@@ -2113,14 +2130,17 @@ if(first&&desk.view===\"plan\")desk.reveal(first.slot,first.channels[0],first.ba
 byId(\"detail\").scrollIntoView({block:\"nearest\"});
 }
 }
-async function askFrame(desk){
-const name=textField({id:\"frame-name\"}),node=make(\"select\",{id:\"frame-node\"});
+async function askFrame(desk,typed=null){
+if(!desk.nodes.length){say(\"warn\",\"You have no node yet, and each frame is sent by one. The integrator adds nodes.\");return;}
+const name=textField({id:\"frame-name\",value:typed??\"\"}),node=make(\"select\",{id:\"frame-node\"});
 options(node,desk.nodes.map(one=>[one.node,one.node]));
 const form=make(\"form\",{class:\"form\",onsubmit:event=>{event.preventDefault();byId(\"dialog\").close(\"yes\");}},
 make(\"label\",{for:\"frame-name\"},\"Name\"),name,make(\"label\",{for:\"frame-node\"},\"Node\"),node);
-if(!await confirmed(\"New frame\",form,\"Add it\"))return;
+const fault=typed!==null&&make(\"p\",{class:\"fault\",role:\"alert\"},
+`${typed || \"An empty text\"} is no name. A name has 1 to 32 letters, digits and underscores, a letter first.`);
+if(!await confirmed(\"New frame\",[form,fault||\"\"],\"Add it\"))return;
 if(isName(name.value))addFrame(desk,name.value,node.value);
-else say(\"bad\",`${name.value || \"An empty text\"} is no name. A name has 1 to 32 letters, digits and underscores, a letter first.`);
+else askFrame(desk,name.value);
 }
 function paintColumns(ink,view,{from,until,rows,top}){
 for(let at=from;at<=until;at+=1){
@@ -2410,6 +2430,7 @@ fillBox(ink,softened(colour),x,side*high,wide,high);
 fillBox(ink,colour,x,(side+1)*high-part,wide,part);
 }
 }
+const READABLE=14;
 const WIDTHS=[1,2,3,4,6,8,11,14,18,24,32,44,60,84,116];
 const FOR_MOUSE={row:7,lane:18};
 const FOR_FINGER={row:18,lane:32};
@@ -2417,7 +2438,7 @@ const TALL_ROW=16;
 const sizes=()=>window.matchMedia(\"(pointer: coarse)\").matches?FOR_FINGER:FOR_MOUSE;
 class Grid{
 constructor(desk,palette){
-Object.assign(this,{desk,palette,sheet:null,variant:null,waiting:0});
+Object.assign(this,{desk,palette,sheet:null,variant:null,isGranting:false,waiting:0});
 this.canvas=byId(\"grid\");
 this.scroller=byId(\"scroller\");
 this.cursor={column:0,side:0,cycle:0,hover:null};
@@ -2433,6 +2454,8 @@ layOut(){
 const{desk,scroller}=this;
 if(!desk.hasView(\"plan\")||!scroller.clientWidth)return;
 if(this.variant!==desk.variant)this.begin();
+if(desk.granting&&!this.isGranting)this.narrow();
+this.isGranting=Boolean(desk.granting);
 this.sheet=this.sheetOf(desk.look.width);
 scroller.classList.toggle(\"draws\",Boolean(desk.granting));
 const spacer=byId(\"spacer\");
@@ -2523,10 +2546,14 @@ widest(){
 const wide=this.scroller.clientWidth-GUTTER-2;
 return WIDTHS.findLast(width=>this.sheetOf(width).wide<=wide)??WIDTHS[0];
 }
+narrow(){
+const widest=this.widest();
+if(widest>=READABLE)this.desk.look.width=Math.min(this.desk.look.width,widest);
+}
 begin(){
 this.variant=this.desk.variant;
 const widest=this.widest();
-this.desk.look.width=widest<14?sizes().lane:Math.max(widest,sizes().lane);
+this.desk.look.width=widest<READABLE?sizes().lane:Math.max(widest,sizes().lane);
 this.scroller.scrollLeft=0;
 }
 }
@@ -2580,7 +2607,7 @@ const to=granted(desk),{lanes}=desk.granting;
 const end=button(\"Done\",()=>endMode(desk));
 if(!to||lanes.length<2){
 box.replaceChildren(make(\"strong\",{},\"Grant lanes\"),
-make(\"span\",{},\"Click a lane to grant or to revoke it; draw over several (or Shift and arrows).\"),end);
+make(\"span\",{},\"Click a lane to grant or to revoke it, or draw over several. By keys: Enter, or Shift and arrows.\"),end);
 return;
 }
 const{grants,revokes,others}=wantedOf(desk,lanes);
@@ -2856,7 +2883,8 @@ listenToTimes(desk);
 desk.on(\"register plan\",()=>showVariants(desk));
 desk.on(\"register plan look\",()=>showFigures(desk));
 desk.on(\"plan\",()=>history.replaceState(null,\"\",\"#\"+desk.variant));
-desk.on(\"view\",()=>showView(desk));
+desk.on(\"view plan\",()=>showView(desk));
+desk.on(\"view\",quietGood);
 desk.on(\"left\",()=>{byId(\"figures\").textContent=\"\";});
 window.addEventListener(\"hashchange\",()=>{
 const wanted=location.hash.slice(1);
@@ -2884,9 +2912,9 @@ for(const[view,text]of VIEWS){
 tabs.append(button(text,()=>desk.show(view),{role:\"tab\",id:`tab-${view}`,\"aria-controls\":`view-${view}`}));
 }
 tabs.addEventListener(\"keydown\",event=>{
-const step={ArrowRight:1,ArrowLeft:-1}[event.key];
+const step={ArrowRight:1,ArrowLeft:-1}[event.key],there=VIEWS.filter(([view])=>!byId(`tab-${view}`).disabled);
 if(!step)return;
-const at=VIEWS.findIndex(([view])=>view===desk.view),[to]=VIEWS[(at+step+VIEWS.length)%VIEWS.length];
+const at=there.findIndex(([view])=>view===desk.view),[to]=there[(at+step+there.length)%there.length];
 desk.show(to);
 byId(`tab-${to}`).focus();
 });
@@ -2897,15 +2925,16 @@ byId(`view-${name}`).hidden=name!==desk.view;
 const tab=byId(`tab-${name}`);
 tab.setAttribute(\"aria-selected\",String(name===desk.view));
 tab.tabIndex=name===desk.view?0:-1;
+tab.disabled=name!==\"manage\"&&!desk.plan;
 }
 hideTip();
-quietGood();
 byId(\"detail\").hidden=WIDE.includes(desk.view);
 byId(\"columns\").classList.toggle(\"wide\",byId(\"detail\").hidden);
 }
 function showVariants(desk){
 const entry=desk.entry(),tag=byId(\"variant-state\");
-options(byId(\"variant\"),inTree(desk).map(variant=>[variant.name,`${indented(variant)}${variant.isReleased ? \"\" : \" (open)\"}`]),desk.variant);
+const values=inTree(desk).map(variant=>[variant.name,`${indented(variant)}${variant.isReleased ? \"\" : \" (open)\"}`]);
+options(byId(\"variant\"),values.length?values:[[\"\",\"none\"]],desk.variant);
 tag.className=entry?.isReleased?\"tag released\":\"tag\";
 tag.textContent=!entry?\"\":entry.isReleased?\"released\":\"open\";
 tag.title=!entry?\"\":entry.isReleased?\"It never changes again.\":\"It may be changed.\";
@@ -2915,7 +2944,7 @@ document.title=`${desk.variant ?? \"no variant\"} - slotplan`;
 function showFigures(desk){
 const{cluster,times}=desk,entry=desk.entry();
 byId(\"figures\").textContent=`Channels ${cluster.channels}. ${cluster.cycles} cycles of ${times.text(cluster.macroticks_per_cycle)}. `
-+`${cluster.static_slots} static slots of ${times.number(cluster.slot_macroticks)}; `
++`${grouped(cluster.static_slots)} static slots of ${times.number(cluster.slot_macroticks)}; `
 +`dynamic segment ${times.number(cluster.dynamic_macroticks)}, symbol window ${times.number(cluster.symbol_macroticks)}, `
 +`idle time ${times.number(cluster.idle_macroticks)}. Payload ${grouped(cluster.payload_words * 2)} bytes.`
 +(entry?` ${entry.name}: depth ${entry.depth}, ${entry.parent ? \"opened from \" + entry.parent : \"opened empty\"}.`:\"\");
@@ -3010,4 +3039,4 @@ window.addEventListener(\"unhandledrejection\",({reason})=>say(\"bad\",`The page
 
 /// What a browser may do with it: run its script, show its style, and ask the server that it came from.
 pub const POLICY: &str =
-    "default-src 'none'; script-src 'sha256-CY1GJP833lIikTD0jrt2AakzN2TLJ3Arx6JaZ1QiELY='; style-src 'sha256-UE+ai8XP4uD+uQsBJp/LJe+RhSDpIWnkH9VFKIVaNGI='; connect-src 'self'; img-src data:; base-uri 'none'; form-action 'none'; frame-ancestors 'none'; require-trusted-types-for 'script'; trusted-types 'none'";
+    "default-src 'none'; script-src 'sha256-tY3NpctzgoUL7YgIsbOOiAXmaG4UUCRb1yIelnDRkw0='; style-src 'sha256-mg04OR3PSBC9+09fGBJXv299MMqiruZKutjK/WBXS20='; connect-src 'self'; img-src data:; base-uri 'none'; form-action 'none'; frame-ancestors 'none'; require-trusted-types-for 'script'; trusted-types 'none'";
