@@ -189,9 +189,10 @@ class OfSpreadsheets(FileCase):
         self.see("none of them was sent", False, "glare" in self.frames())
 
     def test_more_of_excel(self):
-        """Text in UTF-16, a first line for spreadsheets alone, blank rows, empty columns behind the others, and a workbook."""
+        """Text in UTF-16, first lines for spreadsheets alone, blank rows, empty columns behind the others, and a workbook."""
         self.tells("unicode.txt", (HEADER + ROWS).replace(",", "\t").encode("utf-16"), "UTF-16", mend="Turn")
         self.tells("hint.csv", "sep=;\r\n" + (HEADER + ROWS).replace(",", ";"), "separated by semicolons", mend="Turn")
+        self.tells("loaded.csv", "Spalte1;Spalte2;Spalte3;Spalte4;Spalte5;Spalte6\r\n" + (HEADER + ROWS).replace(",", ";"), "numbered names", mend="Turn")
         self.tells("blank.csv", HEADER + ROWS.replace("\n", "\n,,,,,\n", 1), "nothing in it", mend="Mend")
         self.tells("wide.csv", (HEADER + ROWS).replace("\n", ",,\n"), "Empty columns", mend="Mend")
         book = workbook([line.split(",") for line in (HEADER + ROWS).splitlines()])

@@ -7,9 +7,9 @@ import {reread} from "./reading.js";
 import {bitsText, placeText} from "./words.js";
 
 // Says what was done; it can be undone by the message, the button of the plan and the keyboard, until something else is done.
-export function done(desk, text, undo) {
+export function done(desk, text, undo, kind = "good") {
   desk.canUndo(text, undo);
-  say("good", text, undo ? button("Undo", () => undoLast(desk)) : "");
+  say(kind, text, undo ? button("Undo", () => undoLast(desk)) : "");
 }
 
 export function undoLast(desk) {

@@ -962,9 +962,9 @@ tip.style.left=`${Math.max(4, Math.min(x + 14, window.innerWidth - wide - 8))}px
 tip.style.top=`${y + 18 + tall > window.innerHeight ? y - tall - 10 : y + 18}px`;
 }
 const hideTip=()=>{byId(\"tip\").hidden=true;};
-function done(desk,text,undo){
+function done(desk,text,undo,kind=\"good\"){
 desk.canUndo(text,undo);
-say(\"good\",text,undo?button(\"Undo\",()=>undoLast(desk)):\"\");
+say(kind,text,undo?button(\"Undo\",()=>undoLast(desk)):\"\");
 }
 function undoLast(desk){
 const{undo}=desk;
@@ -1340,7 +1340,7 @@ await desk.register.command(request);
 await readRegister(desk);
 if(then)await then();
 else if(desk.plan)desk.tell(\"plan\");
-done(desk,text,null);
+done(desk,text,null,request.key?\"warn\":\"good\");
 return true;
 });
 function formCard(title,fields,yes,act,more=\"\"){
@@ -1809,13 +1809,13 @@ if(!(fault instanceof NoWorkbook))throw fault;
 file.fault+=` It cannot be read: ${fault.message}${byHand}`;
 return;
 }
-const known=file.sheets.filter(({records})=>kindOf(records.find(isFilled)));
+const known=file.sheets.filter(({records})=>kindOf(withoutHint(records.filter(isFilled))[0]));
 if(known.length)takeSheet(file,known[0]);
 else file.fault+=` No sheet of it begins with a header that the register knows. ${unknown(file.sheets[0].records.filter(isFilled))}`;
 }
 function takeSheet(file,sheet){
 file.sheet=sheet;
-const{records,changes}=cleaned(sheet.records.filter(record=>record.length));
+const{records,changes}=cleaned(withoutHint(sheet.records.filter(record=>record.length)));
 file.fault=`This is a workbook (.xlsx), not a CSV file. Its sheet ${short(sheet.name)} has rows that the register reads.`
 +(changes.length?` ${changes.join(\" \")}`:\"\");
 file.mend=kindOf(records[0])?{text:`Take the sheet ${short(sheet.name)}`,records}:null;
@@ -1829,7 +1829,7 @@ file.fault=unknown(file.records)+(coding?\" \"+UTF_16:\"\");
 return;
 }
 const{records,changes}=cleaned(withoutHint(recordsOf(text,comma)));
-const faults=[coding&&UTF_16,SEPARATED[comma],...changes].filter(Boolean);
+const faults=[coding&&UTF_16,SEPARATED[comma],isNumbered(recordsOf(text,comma)[0])&&NUMBERED,...changes].filter(Boolean);
 file.kind=HEADERS[file.records[0]?.join(\",\")]??null;
 if(!faults.length&&file.kind)return;
 file.fault=faults.join(\" \");
@@ -1842,6 +1842,7 @@ return isIntegrators?\"This is a file of the integrator's, which has the supplie
 :`The first line is no header that the register knows: ${short(header.join(\",\"))}`;
 }
 const UTF_16=\"This is text in UTF-16, which spreadsheets call Unicode text. The register reads UTF-8.\";
+const NUMBERED=\"A line of numbered names stands above the header, as Excel writes it where a file was loaded without its data types.\";
 const SEPARATED={
 \";\":\"The fields are separated by semicolons, as spreadsheets do where a comma stands in decimal numbers. The register reads commas.\",
 \"\\t\":\"The fields are separated by tabs. The register reads commas.\",
@@ -1861,7 +1862,12 @@ file.notes.push(\"The file is not UTF-8 throughout. Rows with such bytes are ref
 return new TextDecoder().decode(file.bytes);
 }
 }
-const withoutHint=records=>/^sep=/i.test(records[0]?.[0]??\"\")&&records[0].join(\"\").length<=5?records.slice(1):records;
+const isHint=record=>/^sep=/i.test(record?.[0]??\"\")&&record.join(\"\").length<=5;
+const withoutHint=records=>isHint(records[0])||isNumbered(records[0])?records.slice(1):records;
+function isNumbered(record){
+const word=/^(\\D+)1$/.exec(record?.[0]??\"\")?.[1];
+return word!==undefined&&record.length>1&&record.every((field,at)=>field===word+(at+1));
+}
 const isFilled=record=>record.some(field=>field.trim()!==\"\");
 function cleaned(records){
 const filled=records.filter(isFilled),changes=[],blank=records.length-filled.length;
@@ -3039,4 +3045,4 @@ window.addEventListener(\"unhandledrejection\",({reason})=>say(\"bad\",`The page
 
 /// What a browser may do with it: run its script, show its style, and ask the server that it came from.
 pub const POLICY: &str =
-    "default-src 'none'; script-src 'sha256-tY3NpctzgoUL7YgIsbOOiAXmaG4UUCRb1yIelnDRkw0='; style-src 'sha256-mg04OR3PSBC9+09fGBJXv299MMqiruZKutjK/WBXS20='; connect-src 'self'; img-src data:; base-uri 'none'; form-action 'none'; frame-ancestors 'none'; require-trusted-types-for 'script'; trusted-types 'none'";
+    "default-src 'none'; script-src 'sha256-KiGmXszxeSKne8bxSeAUiYZkXl4zmCbjh2YqqWEsEBk='; style-src 'sha256-mg04OR3PSBC9+09fGBJXv299MMqiruZKutjK/WBXS20='; connect-src 'self'; img-src data:; base-uri 'none'; form-action 'none'; frame-ancestors 'none'; require-trusted-types-for 'script'; trusted-types 'none'";
