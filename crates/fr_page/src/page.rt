@@ -154,7 +154,8 @@ kbd{border:1px solid #9aa3b0;border-radius:3px;padding:0 .3em;background:var(--s
 .top .grow{display:none}
 .top select{flex:1;min-width:7rem}
 .tabs{order:9;width:100%;overflow-x:auto}
-.tabs button{flex:none;font-size:.9rem;padding:.35rem .4rem}
+.tabs{gap:0}
+.tabs button{flex:none;font-size:.9rem;padding:.35rem .32rem}
 .columns,.columns.wide{display:flex;flex-direction:column}
 .side{border:0;border-bottom:1px solid var(--line)}
 .side-open{display:block}
@@ -2216,7 +2217,8 @@ if(isChanged(cells[cycle]))paintMark(ink,sheet,x,cycle,Boolean(cells[cycle].now)
 }
 const isChanged=({now,then})=>Boolean(now||then)&&!(now&&then&&now.frame===then.frame&&now.supplier===then.supplier);
 function paintMark(ink,sheet,x,cycle,isNew,isEmpty){
-const y=sheet.y(cycle),tall=sheet.height(cycle),{width}=sheet,middle=[x+width/2,y+tall/2];
+const y=sheet.y(cycle),tall=sheet.height(cycle),{width}=sheet;
+const middle=[width>=44?x+width-8:x+width/2,y+tall/2];
 if(isEmpty)fillBox(ink,\"#fff\",x+1,y+1,width-1,tall-1);
 strokeChange(ink,isNew,x+1.5,y+1.5,Math.max(1,width-2),tall-2);
 if(width<9||tall<6)return;
@@ -3045,4 +3047,4 @@ window.addEventListener(\"unhandledrejection\",({reason})=>say(\"bad\",`The page
 
 /// What a browser may do with it: run its script, show its style, and ask the server that it came from.
 pub const POLICY: &str =
-    "default-src 'none'; script-src 'sha256-KiGmXszxeSKne8bxSeAUiYZkXl4zmCbjh2YqqWEsEBk='; style-src 'sha256-mg04OR3PSBC9+09fGBJXv299MMqiruZKutjK/WBXS20='; connect-src 'self'; img-src data:; base-uri 'none'; form-action 'none'; frame-ancestors 'none'; require-trusted-types-for 'script'; trusted-types 'none'";
+    "default-src 'none'; script-src 'sha256-SiCMptZpd2+KcetVpORnu+19Y/TL5+nsHhlj+lu8q48='; style-src 'sha256-ggMUxh90Pb4PMhlCfRdHgPBqYnDDES0J6XrvVPOqk4k='; connect-src 'self'; img-src data:; base-uri 'none'; form-action 'none'; frame-ancestors 'none'; require-trusted-types-for 'script'; trusted-types 'none'";
