@@ -61,6 +61,8 @@ class Files(FileCase):
         self.carried("2 rows of week 48.csv imported under the label week_48.")
         self.see("the register has them", True, "FRAME glare front_camera\nAT 0017 A 01 04\n" in self.frames())
         # The label is kept with that file now.
+        other = self.api.ask(CAMERA, "POST", "variants/my29/imports/week_48", HEADER)
+        self.see("another file under it", '{"no":9,"refused":"LabelUsed"}', other)
         self.file("week 48.csv", HEADER + "dusk,front_camera,17,A,3,4\n")
         self.fates(1)
         self.carried("LabelUsed (9)")
@@ -75,6 +77,18 @@ class Files(FileCase):
         self.fates(2)
         self.see("it would be carried out", True, WOULD in self.told())
 
+    def test_a_colleague(self):
+        """What a colleague did to a frame of the file before it was sent is said; what the file did is not."""
+        self.file("more.csv", HEADER + "walkers,front_camera,17,A,1,4\n" + ROWS.splitlines(True)[1])
+        self.fates(2)
+        place = {"do": "place", "variant": "my29", "frame": "walkers", "slot": 12, "channels": "A", "base": 2, "repetition": 8}
+        self.see("a colleague places it too", {"ok": "done"}, self.api.command(CAMERA, **place))
+        told = self.carried("2 rows of more.csv imported under the label more.")
+        self.see(f"{told!r} has the colleague's", True, "Somebody else changed 1 frame (walkers) meanwhile" in told)
+        self.file("most.csv", HEADER + "walkers,front_camera,17,B,3,4\ndusk,front_camera,17,A,3,4\n")
+        self.fates(2)
+        self.see("nobody else", False, "Somebody" in self.carried("2 rows of most.csv imported under the label most."))
+
     def test_drop_elsewhere(self):
         """A file that is dropped beside the place for it is taken too, and not opened by the browser."""
         self.view("plan")
@@ -83,6 +97,13 @@ class Files(FileCase):
         self.browser.drop((640, 400), path)
         self.fates(2)
         self.see("it would be carried out", True, WOULD in self.told())
+        self.browser.choose("#variant", "my28")
+        self.browser.wait("my28", "return document.getElementById('variant-state').textContent === 'released'")
+        self.rests()
+        self.view("plan")
+        self.browser.drop((640, 400), path)
+        self.browser.wait("why not", "return document.getElementById('view-files').textContent.includes('The variant is released')")
+        self.see("nothing can be sent", 0, self.browser.run("return document.querySelectorAll('#carry-out').length"))
 
 
 class Replacements(FileCase):

@@ -123,12 +123,16 @@ export async function signalsOf(desk, frame) {
   return plan.signalsOf(frame);
 }
 
+// More parts than the largest plan has.
+const MOST_PARTS = 4096;
+
 // All parts of an export, joined below one header.
 export async function exported(desk, kind) {
   const records = [];
   for (let part = 0, header; ; part += 1) {
     const read = readExport(kind, await desk.register.read(desk.path(`exports/${kind}/${part}`)));
     header ??= read.header;
+    if (part === MOST_PARTS) throw new Strange("The server sent an export without an end.");
     if (!read.records.length) return {records, parts: part, text: [header, ...records].join("\n") + "\n"};
     for (const record of read.records) records.push(record);
   }

@@ -2,7 +2,7 @@
 import {fileOf, MOST_BYTES, MOST_ROWS, partsOf, recordsOf} from "./csv.js";
 import {goneCount, goneList, isSameGone, rowsGone} from "./gone.js";
 import {looked} from "./looking.js";
-import {bySomebody} from "./meanwhile.js";
+import {bySomebody, placementsText} from "./meanwhile.js";
 import {attempt, confirmed, say} from "./messages.js";
 import {reread} from "./reading.js";
 import {isName, readFates} from "./reports.js";
@@ -27,8 +27,9 @@ export const WAYS = {
 const LARGEST = 4_000_000;
 
 export async function takeFile(desk, blob) {
-  if (!desk.mayPlan()) return;
   if (desk.view !== "files") desk.show("files");
+  // The view says why.
+  if (!desk.mayPlan()) return;
   if (blob.size > LARGEST) {
     takeLooked(desk, null);
     say("bad", `${blob.name} has ${grouped(blob.size)} bytes. That is no plan.`);
@@ -88,6 +89,21 @@ async function mayTakeAway(desk, file) {
   return false;
 }
 
+// Tells of a frame whether its placements are those that the file leaves it with, and of a signal whether its frame is one of the file's.
+function filedIn(desk, {kind, shown, way}) {
+  const {plan} = desk, rows = new Map(shown.slice(1).map(([frame]) => [frame, []]));
+  if (kind === "placements") {
+    for (const [frame, , slot, channels, base, repetition] of shown.slice(1)) {
+      rows.get(frame).push({slot: Number(slot), channels, base: Number(base), repetition: Number(repetition)});
+    }
+  }
+  const placed = (plan, {supplier, name}) => plan.frameNamed(supplier, name)?.placements ?? [];
+  const stay = frame => kind === "placements" && WAYS[way].replaces ? [] : placed(plan, frame);
+  const isOwn = frame => rows.has(frame.name)
+    && placementsText([...stay(frame), ...rows.get(frame.name)]) === placementsText(placed(desk.plan, frame));
+  return {isOwn, isOwnSignal: frame => kind === "signals" && rows.has(frame.name)};
+}
+
 export async function carryOut(desk) {
   const {file} = desk, way = WAYS[file.way];
   if (desk.busy) return;
@@ -96,6 +112,7 @@ export async function carryOut(desk) {
     return;
   }
   if (!await mayTakeAway(desk, file)) return;
+  const own = filedIn(desk, file);
   const isDone = await attempt(desk, async () => {
     const {rows} = await way.send(desk, file, bodyOf(file));
     let said = `${plural(rows, "row")} of ${file.name} ${way.said(file)}`;
@@ -106,8 +123,7 @@ export async function carryOut(desk) {
       file.label = suggestedLabel(file);
       said += ` Part ${file.part + 1} of ${file.parts.length} comes next.`;
     }
-    const named = new Set(file.shown.map(([frame]) => frame));
-    const others = bySomebody(await reread(desk, {known: ["grants"], isOwn: frame => named.has(frame.name)}));
+    const others = bySomebody(await reread(desk, {known: ["grants"], ...own}));
     if (isLast) desk.tell("file");
     else await tryFile(desk);
     done(desk, said + others, null);

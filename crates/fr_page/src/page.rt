@@ -881,11 +881,13 @@ const signals=readSignals(await desk.register.read(desk.path(`frames/${frame.nam
 plan.keepSignals(frame,signals.filter(({supplier})=>supplier===frame.supplier));
 return plan.signalsOf(frame);
 }
+const MOST_PARTS=4096;
 async function exported(desk,kind){
 const records=[];
 for(let part=0,header;;part+=1){
 const read=readExport(kind,await desk.register.read(desk.path(`exports/${kind}/${part}`)));
 header??=read.header;
+if(part===MOST_PARTS)throw new Strange(\"The server sent an export without an end.\");
 if(!read.records.length)return{records,parts:part,text:[header,...records].join(\"\\n\")+\"\\n\"};
 for(const record of read.records)records.push(record);
 }
@@ -1899,8 +1901,8 @@ said:()=>\"took the place of the earlier ones.\",
 };
 const LARGEST=4_000_000;
 async function takeFile(desk,blob){
-if(!desk.mayPlan())return;
 if(desk.view!==\"files\")desk.show(\"files\");
+if(!desk.mayPlan())return;
 if(blob.size>LARGEST){
 takeLooked(desk,null);
 say(\"bad\",`${blob.name} has ${grouped(blob.size)} bytes. That is no plan.`);
@@ -1950,6 +1952,19 @@ await tryFile(desk);
 say(\"warn\",`Nothing was sent: what would be gone has changed meanwhile. Look at it again.${bySomebody(others)}`);
 return false;
 }
+function filedIn(desk,{kind,shown,way}){
+const{plan}=desk,rows=new Map(shown.slice(1).map(([frame])=>[frame,[]]));
+if(kind===\"placements\"){
+for(const[frame,,slot,channels,base,repetition]of shown.slice(1)){
+rows.get(frame).push({slot:Number(slot),channels,base:Number(base),repetition:Number(repetition)});
+}
+}
+const placed=(plan,{supplier,name})=>plan.frameNamed(supplier,name)?.placements??[];
+const stay=frame=>kind===\"placements\"&&WAYS[way].replaces?[]:placed(plan,frame);
+const isOwn=frame=>rows.has(frame.name)
+&&placementsText([...stay(frame),...rows.get(frame.name)])===placementsText(placed(desk.plan,frame));
+return{isOwn,isOwnSignal:frame=>kind===\"signals\"&&rows.has(frame.name)};
+}
 async function carryOut(desk){
 const{file}=desk,way=WAYS[file.way];
 if(desk.busy)return;
@@ -1958,6 +1973,7 @@ say(\"bad\",\"The label is no name. A name has 1 to 32 letters, digits and under
 return;
 }
 if(!await mayTakeAway(desk,file))return;
+const own=filedIn(desk,file);
 const isDone=await attempt(desk,async()=>{
 const{rows}=await way.send(desk,file,bodyOf(file));
 let said=`${plural(rows, \"row\")} of ${file.name} ${way.said(file)}`;
@@ -1968,8 +1984,7 @@ file.part+=1;
 file.label=suggestedLabel(file);
 said+=` Part ${file.part + 1} of ${file.parts.length} comes next.`;
 }
-const named=new Set(file.shown.map(([frame])=>frame));
-const others=bySomebody(await reread(desk,{known:[\"grants\"],isOwn:frame=>named.has(frame.name)}));
+const others=bySomebody(await reread(desk,{known:[\"grants\"],...own}));
 if(isLast)desk.tell(\"file\");
 else await tryFile(desk);
 done(desk,said+others,null);
@@ -3047,4 +3062,4 @@ window.addEventListener(\"unhandledrejection\",({reason})=>say(\"bad\",`The page
 
 /// What a browser may do with it: run its script, show its style, and ask the server that it came from.
 pub const POLICY: &str =
-    "default-src 'none'; script-src 'sha256-SiCMptZpd2+KcetVpORnu+19Y/TL5+nsHhlj+lu8q48='; style-src 'sha256-ggMUxh90Pb4PMhlCfRdHgPBqYnDDES0J6XrvVPOqk4k='; connect-src 'self'; img-src data:; base-uri 'none'; form-action 'none'; frame-ancestors 'none'; require-trusted-types-for 'script'; trusted-types 'none'";
+    "default-src 'none'; script-src 'sha256-efavnZn7gVuesSQpp3fZLyRi+smQqjl61bxgfnqdL+Y='; style-src 'sha256-ggMUxh90Pb4PMhlCfRdHgPBqYnDDES0J6XrvVPOqk4k='; connect-src 'self'; img-src data:; base-uri 'none'; form-action 'none'; frame-ancestors 'none'; require-trusted-types-for 'script'; trusted-types 'none'";
