@@ -160,7 +160,7 @@ class Replacements(FileCase):
         """Where a file has all that its frames have it is not asked, and of the frames that it does not name nothing is said."""
         rows = "walkers,front_camera,17,AB,0,2\nwalkers,front_camera,12,A,2,8\n"
         would = self.replacement("more.csv", HEADER + rows, 2)
-        self.see("what would be gone", "Nothing would be gone: the file has all that its frames have.", would)
+        self.see("what would be gone", "Nothing would be gone.", would)
         self.carried("2 rows of more.csv took the place")
         self.see("the register has both", True, "FRAME walkers front_camera\nAT 0012 A 02 08\nAT 0017 AB 00 02\n" in self.frames())
 

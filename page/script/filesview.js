@@ -99,7 +99,7 @@ function fateBox(desk, file) {
 
 function goneBox(file) {
   return make("div", {id: "gone"}, file.gone.length ? [make("strong", {}, `${goneCount(file)} would be gone:`), goneList(file)]
-    : "Nothing would be gone: the file has all that its frames have.");
+    : "Nothing would be gone.");
 }
 
 function fateRow(desk, file, fate) {

@@ -2073,7 +2073,7 @@ longTable([[\"line\",\"num\"],...file.shown[0],\"what would become of it\"],file
 }
 function goneBox(file){
 return make(\"div\",{id:\"gone\"},file.gone.length?[make(\"strong\",{},`${goneCount(file)} would be gone:`),goneList(file)]
-:\"Nothing would be gone: the file has all that its frames have.\");
+:\"Nothing would be gone.\");
 }
 function fateRow(desk,file,fate){
 const[heads,record]=[file.shown[0],file.shown[fate.record-1]??[]];
@@ -3062,4 +3062,4 @@ window.addEventListener(\"unhandledrejection\",({reason})=>say(\"bad\",`The page
 
 /// What a browser may do with it: run its script, show its style, and ask the server that it came from.
 pub const POLICY: &str =
-    "default-src 'none'; script-src 'sha256-efavnZn7gVuesSQpp3fZLyRi+smQqjl61bxgfnqdL+Y='; style-src 'sha256-ggMUxh90Pb4PMhlCfRdHgPBqYnDDES0J6XrvVPOqk4k='; connect-src 'self'; img-src data:; base-uri 'none'; form-action 'none'; frame-ancestors 'none'; require-trusted-types-for 'script'; trusted-types 'none'";
+    "default-src 'none'; script-src 'sha256-pUrUejfIiXDWrNYx81q5CIRXmme90ILvbuKAIOAgEVo='; style-src 'sha256-ggMUxh90Pb4PMhlCfRdHgPBqYnDDES0J6XrvVPOqk4k='; connect-src 'self'; img-src data:; base-uri 'none'; form-action 'none'; frame-ancestors 'none'; require-trusted-types-for 'script'; trusted-types 'none'";
