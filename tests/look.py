@@ -11,7 +11,7 @@ import sys
 import tempfile
 from pathlib import Path
 
-from .lib.browser import LACKS, Browser
+from .lib.browser import ESCAPE, LACKS, Browser
 from .lib.picture import read
 from .lib.png import packed
 from .lib.plans import SECONDS, Register, examples, limits
@@ -47,28 +47,65 @@ def look(browser, page, channels, cycles, lines):
     return sum(len(kind[4]) for lane in lanes.values() for kind in lane.kinds)
 
 
+def integrators(user, folder, shown):
+    """The integrator's views of a plan, in which a frame was chosen; and what is printed."""
+    browser = user.enter(BOSS)
+    user.frame("signs")
+    (folder / "page.png").write_bytes(packed(browser.picture()))
+    for view in "frames", "lanes", "diff", "manage", "plan":
+        user.view(view)
+        shown(view)
+    (folder / "page.pdf").write_bytes(browser.printed())
+
+
+def suppliers(user, folder, shown):
+    """A supplier's plan: a frame is about to be placed, a difference is marked, and a file is to take the place of what is there."""
+    browser = user.enter(CAMERA)
+    user.frame("night_view")
+    user.room(8, "A")
+    browser.hover(user.place_of(22, 12, "A"))
+    shown("place")
+    browser.keys(ESCAPE)
+    user.view("diff")
+    browser.press("Compare")
+    user.rests()
+    user.view("plan")
+    browser.click("#tall")
+    shown("marked")
+    file = folder / "week 48.csv"
+    file.write_text("frame,node,slot,channels,base,repetition\nwalkers,front_camera,17,AB,1,2\nglare,front_camera,11,A,0,4\n")
+    user.view("files")
+    browser.upload("#pick", file)
+    browser.wait("the file", "return document.querySelector('input[value=replace]')")
+    browser.click("input[value=replace]")
+    browser.wait("what would be gone", "return document.getElementById('gone')")
+    shown("files")
+
+
+def phones(user, _, shown):
+    """What fits a phone's width."""
+    browser = user.enter(CAMERA)
+    shown("phone")
+    browser.click("#side-open")
+    user.frame("night_view")
+    user.room(8, "A")
+    shown("phone-place")
+
+
 def look_at_page(folder):
-    """Pictures of the planners' page of the register of `make demo`: the integrator's views, and a supplier's, who is about to place a frame."""
+    """Pictures of the planners' page of the register of `make demo`, on a desk, on a phone and on paper."""
     with tempfile.TemporaryDirectory() as place:
         Register(Path(place), CLUSTER, REQUESTS)
-        with started(place) as (_, _, port), Browser() as browser:
-            user = User(browser, f"http://{HERE}:{port}/")
-            user.enter(BOSS)
-            user.frame("signs")
-            (folder / "page.png").write_bytes(packed(browser.picture()))
-            for view in "frames", "lanes", "diff", "manage", "plan":
-                user.view(view)
-                user.rests()
-                (folder / f"page-{view}.png").write_bytes(browser.picture())
-            (folder / "page.pdf").write_bytes(browser.printed())
-            user.enter(CAMERA)
-            user.frame("night_view")
-            user.room(8, "A")
-            browser.hover(user.place_of(22, 12, "A"))
-            (folder / "page-place.png").write_bytes(browser.picture())
-            user.view("files")
-            user.rests()
-            (folder / "page-files.png").write_bytes(browser.picture())
+        with started(place) as (_, _, port):
+            for look_as, window in (integrators, {}), (suppliers, {}), (phones, {"width": 390, "height": 844, "touch": True}):
+                with Browser(**window) as browser:
+                    user = User(browser, f"http://{HERE}:{port}/")
+
+                    def shown(name, user=user, browser=browser):
+                        user.rests()
+                        (folder / f"page-{name}.png").write_bytes(browser.picture())
+
+                    look_as(user, folder, shown)
     print(f"{folder / 'page.png'}: the planners' page")
 
 

@@ -61,18 +61,12 @@ class Files(FileCase):
         self.carried("2 rows of week 48.csv imported under the label week_48.")
         self.see("the register has them", True, "FRAME glare front_camera\nAT 0017 A 01 04\n" in self.frames())
         # The label is kept with that file now.
+        other = self.api.ask(CAMERA, "POST", "variants/my29/imports/week_48", HEADER)
+        self.see("another file under it", '{"no":9,"refused":"LabelUsed"}', other)
         self.file("week 48.csv", HEADER + "dusk,front_camera,17,A,3,4\n")
         self.fates(1)
         self.carried("LabelUsed (9)")
         self.see("nothing has changed", False, "dusk" in self.frames())
-
-    def test_replacement(self):
-        self.file("walk.csv", HEADER + "walkers,front_camera,17,AB,1,2\n")
-        self.fates(1)
-        self.browser.click("input[value=replace]")
-        self.rests()
-        self.carried("1 row of walk.csv took the place")
-        self.see("the register has it", True, "FRAME walkers front_camera\nAT 0017 AB 01 02\n" in self.frames())
 
     def test_drop(self):
         """A file is dropped from a window of the desk."""
@@ -83,6 +77,18 @@ class Files(FileCase):
         self.fates(2)
         self.see("it would be carried out", True, WOULD in self.told())
 
+    def test_a_colleague(self):
+        """What a colleague did to a frame of the file before it was sent is said; what the file did is not."""
+        self.file("more.csv", HEADER + "walkers,front_camera,17,A,1,4\n" + ROWS.splitlines(True)[1])
+        self.fates(2)
+        place = {"do": "place", "variant": "my29", "frame": "walkers", "slot": 12, "channels": "A", "base": 2, "repetition": 8}
+        self.see("a colleague places it too", {"ok": "done"}, self.api.command(CAMERA, **place))
+        told = self.carried("2 rows of more.csv imported under the label more.")
+        self.see(f"{told!r} has the colleague's", True, "Somebody else changed 1 frame (walkers) meanwhile" in told)
+        self.file("most.csv", HEADER + "walkers,front_camera,17,B,3,4\ndusk,front_camera,17,A,3,4\n")
+        self.fates(2)
+        self.see("nobody else", False, "Somebody" in self.carried("2 rows of most.csv imported under the label most."))
+
     def test_drop_elsewhere(self):
         """A file that is dropped beside the place for it is taken too, and not opened by the browser."""
         self.view("plan")
@@ -91,6 +97,90 @@ class Files(FileCase):
         self.browser.drop((640, 400), path)
         self.fates(2)
         self.see("it would be carried out", True, WOULD in self.told())
+        self.browser.choose("#variant", "my28")
+        self.browser.wait("my28", "return document.getElementById('variant-state').textContent === 'released'")
+        self.rests()
+        self.view("plan")
+        self.browser.drop((640, 400), path)
+        self.browser.wait("why not", "return document.getElementById('view-files').textContent.includes('The variant is released')")
+        self.see("nothing can be sent", 0, self.browser.run("return document.querySelectorAll('#carry-out').length"))
+
+
+class Replacements(FileCase):
+    """A file takes the place of what its frames had. What would be gone is shown and asked for first, and read once more before it is sent."""
+
+    WALK = "FRAME walkers front_camera\nAT 0017 AB {}\n"
+    DIALOG = "return document.getElementById('dialog').open && document.getElementById('dialog').textContent"
+
+    def replacement(self, name, content, rows):
+        """A file is to take the place of what was there."""
+        self.file(name, content)
+        self.fates(rows)
+        self.browser.click("input[value=replace]")
+        self.browser.wait("what would be gone", "return document.getElementById('gone')")
+        self.rests()
+        return self.seen("#gone")
+
+    def gone(self):
+        return set(self.browser.run("return [...document.querySelectorAll('#gone li')].map(it => it.textContent)"))
+
+    def asked(self):
+        """What the page asks when the file is to be sent."""
+        self.browser.click("#carry-out")
+        return self.browser.wait("a question", self.DIALOG)
+
+    def test_placements(self):
+        would = self.replacement("walk.csv", HEADER + "walkers,front_camera,17,AB,1,2\n", 1)
+        self.see("what would be gone", "1 placement would be gone:walkers in slot 17 AB, base 0, repetition 2", would)
+        asked = self.asked()
+        self.see(f"it is asked for in {asked!r}", True, "1 placement would be gone" in asked and "walkers in slot 17 AB, base 0, repetition 2" in asked)
+        self.browser.press("Cancel", "#dialog")
+        self.rests()
+        self.see("nothing is sent where it is not wanted", True, self.WALK.format("00 02") in self.frames())
+        self.asked()
+        self.browser.press("Replace", "#dialog")
+        self.says("1 row of walk.csv took the place")
+        self.see("the register has it", True, self.WALK.format("01 02") in self.frames())
+
+    def test_signals(self):
+        # signs has kind, limit and distance; a start is written with zeros before it too.
+        rows = "signs,kind,00,6,little\nsigns,limit,8,7,little\n"
+        layout = self.api.get(CAMERA, "variants/my29/frames/signs/layout")
+        self.see("what is there", "0000 06 little kind\n0008 08 little limit\n0016 10 little distance\n", layout)
+        would = self.replacement("signs.csv", SIGNALS + rows, 2)
+        self.see("what would be gone", "2 signals would be gone:", would[:24])
+        self.see("these", {"signs, limit: 8 bits from bit 8, little", "signs, distance: 10 bits from bit 16, little"}, self.gone())
+        self.asked()
+        self.browser.press("Replace", "#dialog")
+        self.says("2 rows of signs.csv took the place")
+        layout = self.api.get(CAMERA, "variants/my29/frames/signs/layout")
+        self.see("the register has them", "0000 06 little kind\n0008 07 little limit\n", layout)
+
+    def test_nothing_would_be_gone(self):
+        """Where a file has all that its frames have it is not asked, and of the frames that it does not name nothing is said."""
+        rows = "walkers,front_camera,17,AB,0,2\nwalkers,front_camera,12,A,2,8\n"
+        would = self.replacement("more.csv", HEADER + rows, 2)
+        self.see("what would be gone", "Nothing would be gone.", would)
+        self.carried("2 rows of more.csv took the place")
+        self.see("the register has both", True, "FRAME walkers front_camera\nAT 0012 A 02 08\nAT 0017 AB 00 02\n" in self.frames())
+
+    def test_a_colleague(self):
+        """What a colleague added meanwhile is not taken away unseen: nothing is sent, and what would be gone is shown anew."""
+        self.replacement("walk.csv", HEADER + "walkers,front_camera,17,AB,1,2\n", 1)
+        self.asked()
+        place = {"do": "place", "variant": "my29", "frame": "walkers", "slot": 12, "channels": "A", "base": 2, "repetition": 8}
+        self.see("a colleague places it too", {"ok": "done"}, self.api.command(CAMERA, **place))
+        frames = self.frames()
+        self.browser.press("Replace", "#dialog")
+        told = self.says("Nothing was sent: what would be gone has changed meanwhile.")
+        self.see(f"{told!r} says whose it is", True, "Somebody else changed 1 frame (walkers) meanwhile" in told)
+        self.see("all is there still", frames, self.frames())
+        gone = {"walkers in slot 12 A, base 2, repetition 8", "walkers in slot 17 AB, base 0, repetition 2"}
+        self.see("what would be gone now", gone, self.gone())
+        self.asked()
+        self.browser.press("Replace", "#dialog")
+        self.says("1 row of walk.csv took the place")
+        self.see("the register has it", True, self.WALK.format("01 02") in self.frames())
 
 
 class OfSpreadsheets(FileCase):
@@ -120,9 +210,10 @@ class OfSpreadsheets(FileCase):
         self.see("none of them was sent", False, "glare" in self.frames())
 
     def test_more_of_excel(self):
-        """Text in UTF-16, a first line for spreadsheets alone, blank rows, empty columns behind the others, and a workbook."""
+        """Text in UTF-16, first lines for spreadsheets alone, blank rows, empty columns behind the others, and a workbook."""
         self.tells("unicode.txt", (HEADER + ROWS).replace(",", "\t").encode("utf-16"), "UTF-16", mend="Turn")
         self.tells("hint.csv", "sep=;\r\n" + (HEADER + ROWS).replace(",", ";"), "separated by semicolons", mend="Turn")
+        self.tells("loaded.csv", "Spalte1;Spalte2;Spalte3;Spalte4;Spalte5;Spalte6\r\n" + (HEADER + ROWS).replace(",", ";"), "numbered names", mend="Turn")
         self.tells("blank.csv", HEADER + ROWS.replace("\n", "\n,,,,,\n", 1), "nothing in it", mend="Mend")
         self.tells("wide.csv", (HEADER + ROWS).replace("\n", ",,\n"), "Empty columns", mend="Mend")
         book = workbook([line.split(",") for line in (HEADER + ROWS).splitlines()])

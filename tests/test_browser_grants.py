@@ -229,6 +229,9 @@ class ClusterView(GrantCase):
         self.see("the old key is good still", True, "supplier camtech" in self.api.get(CAMERA, "cluster"))
         browser.click("form:has(#form-Changeasupplierskey-key) button[type=submit]")
         browser.press("Change it", "#dialog")
-        self.says("camtech has the key")
+        self.says(f"camtech has the key {key}. It is not shown again.")
+        # It is not lost where another view is looked at.
+        self.view("plan")
+        self.says("It is not shown again.")
         self.see("the new key is the supplier's", True, "supplier camtech" in self.api.get(key, "cluster"))
         self.see("the old one is nobody's", '{"no":2,"refused":"UnknownKey"}', self.api.get(CAMERA, "cluster"))

@@ -88,6 +88,20 @@ class Hostile(HostileCase):
                 self.is_clean(what, listed=0)
                 self.see(f"{what}: the page says something", True, bool(self.browser.run(TOLD)))
 
+    def test_names(self):
+        """Texts that are no names, told alike by all reports, so that these fit together."""
+        for name in "<b>x</b>", "f-1", "1f", "f\u0430", "f" * 33, "f1\u202e", "__proto__":
+            frames, gaps = f"FRAME {name} n1\nAT 0001 A 00 02\n", f"GAP     200 {name}\n"
+            self.answer(frames=frames, gaps=gaps)
+            self.is_clean(f"the frame {name!r}", listed=0)
+            grants, frames = f"0001 A {name}\n", f"FRAME f1 {name}\nAT 0001 A 00 02\n"
+            self.answer(nodes=f"{name}\n", grants=grants, frames=frames)
+            self.is_clean(f"the node {name!r}", listed=0)
+            self.see(f"{name!r}: the page says something", True, bool(self.browser.run(TOLD)))
+        longest = "f" * 32
+        self.answer(frames=f"FRAME {longest} n1\nAT 0001 A 00 02\n", gaps=f"GAP     200 {longest}\n")
+        self.see("the longest name is one", 1, self.plan_of_one())
+
     def test_answers(self):
         for body in ANSWERS:
             for status in 409, 200:

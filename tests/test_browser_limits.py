@@ -9,8 +9,8 @@ FIGURES = {
     "macroticks_per_cycle": 16_000, "payload_words": 127, "cycles": CYCLES,
 }
 NAMES = [f"s{number:02}" for number in range(1, SUPPLIERS + 1)]
-# For how many seconds of the processor the page may work: a few times as many as it takes, whatever else the machine does.
-OPENED, STEP, ACTED = 4, 0.2, 2
+# For how many seconds of the processor the page may work, whatever else the machine does. It takes about a third of them.
+OPENED, STEP, ACTED = 1, 0.05, 1
 # Scrolls the plan by a window's width and draws it, so often.
 STEPS = 20
 SCROLLING = """

@@ -2,8 +2,10 @@
 import time
 
 from tests.lib.answering import Answering, serving
+from tests.lib.browser import ESCAPE
 from tests.lib.planner import PlannerCase
-from tests.lib.years import BOSS, CAMERA, CLUSTER, REQUESTS
+from tests.lib.workbook import workbook
+from tests.lib.years import BOSS, CAMERA, CLUSTER, COLOURS, REQUESTS, SUPPLIERS
 
 # So many seconds a connection may take.
 CONNECTION = 10
@@ -20,6 +22,15 @@ PLACES = """
         title: document.title,
         requests: performance.getEntriesByType('resource').map(it => it.name).join(' '),
     };"""
+
+# The colours of the points of drawings.
+COLOURED = """
+    const found = new Set();
+    for (const canvas of document.querySelectorAll(arguments[0])) {
+        const {data} = canvas.getContext('2d').getImageData(0, 0, canvas.width, canvas.height);
+        for (let at = 0; at < data.length; at += 4) found.add(data[at] << 16 | data[at + 1] << 8 | data[at + 2]);
+    }
+    return [...found].map(colour => '#' + colour.toString(16).padStart(6, '0').toUpperCase());"""
 
 
 class Key(PlannerCase):
@@ -188,28 +199,71 @@ class Policy(PlannerCase):
 
 
 class Names(PlannerCase):
-    """Each control has a name for those who hear the page, in each view."""
+    """Each control has a name for those who hear the page, in each view, and in what opens within one."""
 
-    def nameless(self):
+    def setUp(self):
+        super().setUp()
+        self.plan(CLUSTER, REQUESTS)
+
+    def named(self, what, least):
+        """There are so many controls at least, and none without a name."""
+        self.rests()
         nodes = self.browser.devtools("Accessibility.getFullAXTree")["nodes"]
         controls = [it for it in nodes if not it.get("ignored") and it["role"]["value"] in CONTROLS]
-        return len(controls), [it["role"]["value"] for it in controls if not it.get("name", {}).get("value", "").strip()]
+        self.see(f"controls of {what}: {len(controls)}", True, len(controls) >= least)
+        self.see(f"nameless in {what}", [], [it["role"]["value"] for it in controls if not it.get("name", {}).get("value", "").strip()])
 
-    def test_names(self):
-        self.plan(CLUSTER, REQUESTS)
+    def dialog(self, button, least, within="body"):
+        """What opens by a button has names too."""
+        self.browser.press(button, within)
+        self.browser.wait("the dialog", "return document.getElementById('dialog').open")
+        self.named(f"the dialog {button}", least)
+        self.browser.keys(ESCAPE)
+        self.browser.wait("its end", "return !document.getElementById('dialog').open")
+
+    def test_views(self):
         self.open()
-        count, nameless = self.nameless()
-        self.see("controls before the key is shown", True, count >= 3)
-        self.see("nameless before the key is shown", [], nameless)
+        self.named("the page before the key is shown", 3)
         for key in CAMERA, BOSS:
             self.enter(key)
             self.frame("signs")
             for view in VIEWS:
                 self.view(view)
-                self.rests()
-                count, nameless = self.nameless()
-                self.see(f"controls of {view}", True, count > 15)
-                self.see(f"nameless in {view} of {key}", [], nameless)
+                self.named(f"{view} of {key}", 16)
+
+    def test_what_a_supplier_opens(self):
+        browser = self.enter(CAMERA)
+        self.frame("signs")
+        self.dialog("New frame", 4)
+        self.dialog("Help", 1)
+        self.dialog("Drop the frame", 2)
+        self.room(8, "A")
+        self.named("placing", 30)
+        self.view("files")
+        self.file("book.xlsx", workbook([["frame", "node"], ["glare", "front_camera"]]))
+        self.see("a sheet can be chosen", True, browser.run("return document.getElementById('sheet').checkVisibility()"))
+        self.named("a workbook", 20)
+        self.file("walk.csv", "frame,node,slot,channels,base,repetition\nwalkers,front_camera,17,AB,1,2\n")
+        browser.click("input[value=replace]")
+        self.named("a file", 22)
+        self.dialog("Replace by 1 row", 2)
+        self.view("diff")
+        browser.choose("#from", "my28")
+        browser.press("Compare")
+        self.named("a difference", 25)
+
+    def test_what_the_integrator_opens(self):
+        browser = self.enter(BOSS)
+        browser.click("#grant-mode")
+        browser.click("#fit")
+        browser.drag(self.place_of(20, 18, "A"), self.place_of(20, 20, "B"))
+        self.named("lanes that are drawn over", 30)
+        self.view("manage")
+        self.dialog("Release it", 3)
+        browser.run("document.getElementById('grants-text').value = 'slot,channel,supplier,node\\n18,A,camtech,front_camera'")
+        browser.click("#grants-look")
+        browser.wait("what would change", "return document.getElementById('grants-send')")
+        self.named("a table of grants", 30)
 
 
 class Sizes(PlannerCase):
@@ -240,11 +294,19 @@ class Sizes(PlannerCase):
         self.browser.resize(1280, 800)
 
     def test_print(self):
+        """All lanes are printed, of which the window shows the first ones alone."""
         self.plan(CLUSTER, REQUESTS)
         browser = self.enter(BOSS)
-        made = browser.printed()
-        self.see("a drawing is printed", True, b"/Subtype /Image" in made)
+        for _ in range(8):
+            browser.click("#wider")
+        self.rests()
+        colours = set(COLOURS[: len(SUPPLIERS)])
+        self.see("colours in the window", True, len(colours & set(browser.run(COLOURED, "#grid"))) < 3)
+        browser.run("window.dispatchEvent(new Event('beforeprint'))")
+        self.see("colours on paper", colours, colours & set(browser.run(COLOURED, "#print canvas")))
+        browser.run("window.dispatchEvent(new Event('afterprint'))")
         self.see("what was made for print is gone", 0, browser.run("return document.querySelectorAll('#print canvas').length"))
+        self.see("the browser prints drawings", True, b"/Subtype /Image" in browser.printed())
 
 
 class SilentConnections(PlannerCase):

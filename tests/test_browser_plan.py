@@ -69,6 +69,21 @@ class Shown(PlannerCase):
         self.see("cells that were looked at", 22 * 64, len(told))
         self.see("cells of another colour", [], wrong[:5])
 
+    def test_frames_of_a_supplier(self):
+        """A supplier's plan is all its own, so each frame has a colour, in the order of the list; in tall rows each has its name."""
+        browser = self.enter(CAMERA)
+        browser.press("Fit")
+        frames = browser.run("return [...document.querySelectorAll('#frames b')].map(it => it.textContent)")
+        cells = {"lane_left": (0, 11, "A"), "lane_right": (1, 11, "A"), "object_1": (0, 11, "B"), "object_4": (3, 11, "B")}
+        places = [self.place_of(*cell, words=frame) for frame, cell in cells.items()]
+        painted = browser.run(PAINTED, places)
+        wrong = [(frame, got) for frame, got in zip(cells, painted) if not is_shade(got, COLOURS[frames.index(frame)])]
+        self.see("frames of another colour", [], wrong)
+        tall = "return document.getElementById('scroller').scrollHeight >= 64 * 16"
+        self.see("all cycles are in the window", False, browser.run(tall))
+        browser.click("#tall")
+        self.see("rows are tall", True, browser.run(tall))
+
     def test_cells_by_keys(self):
         browser = self.enter(CAMERA)
         browser.click("#fit")
@@ -185,9 +200,14 @@ class Placing(PlannerCase):
         self.frame("night_view")
         self.room(16, "AB")
         browser.run("document.getElementById('grid').focus()")
-        browser.keys("n", "n")
-        told = re.search(r"slot (\d+) A: place night_view with base (\d+) of repetition 16, on AB", browser.text("#cell"))
-        self.see("the keys lead to a place", True, bool(told))
+        found = [browser.text("#cell")]
+        for _ in range(2):
+            browser.keys("n")
+            found.append(browser.text("#cell"))
+        self.see("places", 3, len(set(found)))
+        place = re.compile(r"Cycle \d+, slot (\d+) A: place night_view with base (\d+) of repetition 16, on AB")
+        self.see("the keys lead to places", [], [it for it in found if not place.match(it)])
+        told = place.match(found[-1])
         browser.keys(ENTER)
         self.says("night_view is placed in slot")
         self.see("the register has it", [f"AT {int(told[1]):04} AB {int(told[2]):02} 16"], self.placements("night_view"))
@@ -196,6 +216,23 @@ class Placing(PlannerCase):
         browser.keys("z", holding=CONTROL)
         self.says("night_view is no longer sent")
         self.see("the register has it no more", [], self.placements("night_view"))
+
+    def test_a_new_frame(self):
+        """What is no name is asked for again, as it was typed; a frame that was added can be undone."""
+        browser = self.enter(CAMERA)
+        browser.press("New frame")
+        for typed in "", "my frame":
+            browser.type("#frame-name", typed)
+            browser.press("Add it", "#dialog")
+            browser.wait("why not", "return document.querySelector('#dialog .fault')?.textContent.includes(arguments[0])", "is no name")
+            self.see("what was typed is there still", typed, browser.run("return document.getElementById('frame-name').value"))
+        browser.type("#frame-name", "glare")
+        browser.keys(ENTER)
+        self.says("glare is added. It is not placed yet.")
+        self.see("the register has it", [], self.placements("glare"))
+        browser.press("Undo", "#message")
+        self.says("glare is dropped.")
+        self.see("it is gone", False, "glare" in self.api.get(CAMERA, "variants/my29/frames"))
 
     def test_a_placement_is_taken_back(self):
         browser = self.enter(CAMERA)
@@ -284,11 +321,15 @@ class OthersAtWork(PlannerCase):
         """Reload tells what somebody else changed, and that nothing was where nothing was."""
         browser = self.enter(CAMERA)
         browser.click("#reload")
-        self.says("No frame and no lane has changed.")
+        self.says("No frame, no lane and no variant has changed.")
         self.done(CAMERA, do="drop_frame", frame="signs")
         browser.click("#reload")
         self.says("Somebody else changed 1 frame (signs) meanwhile")
         self.see("the page shows it no more", False, self.listed("signs"))
+        self.done(BOSS, do="release")
+        browser.click("#reload")
+        self.says("Somebody else changed 1 variant (my29 is released) meanwhile")
+        self.see("the page shows that it is", "released", self.seen("#variant-state"))
 
     def test_the_frame_is_gone(self):
         browser = self.enter(CAMERA)
@@ -299,6 +340,23 @@ class OthersAtWork(PlannerCase):
         browser.press("Add it", "#detail")
         self.says("NoFrame (16)")
         self.see("the page has read again", False, self.listed("night_view"))
+
+    def test_a_signal(self):
+        """A colleague's signal of the same frame is told beside one's own."""
+        browser = self.enter(CAMERA)
+        self.frame("night_view")
+        self.done(CAMERA, do="add_signal", frame="night_view", signal="quicker", start=64, length=8, order="little")
+        browser.type("#signal-name", "contrast")
+        browser.type("#signal-start", "20")
+        browser.press("Add it", "#detail")
+        told = self.says("contrast is added to night_view.")
+        self.see(f"{told!r} has the colleague's", True, "Somebody else changed 1 signal (quicker of night_view) meanwhile" in told)
+        self.see("the page shows it", True, "quicker" in self.seen("#detail"))
+        self.done(CAMERA, do="drop_signal", frame="night_view", signal="quicker")
+        browser.click("#reload")
+        self.says("Somebody else changed 1 signal (quicker of night_view) meanwhile")
+        browser.click("#reload")
+        self.says("No frame, no lane and no variant has changed, nor a signal of night_view.")
 
     def test_the_grant_is_gone(self):
         browser = self.enter(CAMERA)

@@ -1,6 +1,6 @@
-"""The weeks of docs/TUTORIAL.md in the planners' page, in a browser: a supplier's by mouse and by keyboard alone, and an integrator's. The register
-has afterwards what the tutorial's reader sees."""
-from tests.lib.browser import ENTER, RIGHT
+"""The weeks of docs/TUTORIAL.md in the planners' page, in a browser: a supplier's and an integrator's, each by mouse and by keyboard alone. The
+register has afterwards what the tutorial's reader sees."""
+from tests.lib.browser import ENTER, ESCAPE, HOME, LEFT, RIGHT
 from tests.lib.planner import PlannerCase
 from tests.lib.tutorial import BOSS, BRAKES, LIGHTS, STEERING, printed, requests, saved
 
@@ -61,6 +61,8 @@ class SuppliersWeek(PlannerCase):
         browser.click("input[value=replace]")
         self.rests()
         browser.press("Replace by 3 rows", "#view-files")
+        browser.wait("what would be gone", "return document.getElementById('dialog').textContent.includes('slot 4 A, base 3, repetition 8')")
+        browser.press("Replace", "#dialog")
         self.says("3 rows of placements.csv took the place")
 
     def friday(self, browser):
@@ -144,10 +146,31 @@ class IntegratorsWeek(PlannerCase):
             self.browser.click_at(self.place_of(9, slot, channel, "granted to nobody"))
             self.says(f"Slot {slot} {channel} is granted to {to}.")
 
-    def test_by_mouse(self):
+    def setUp(self):
+        super().setUp()
         self.plan(saved("cluster.toml"), "")
+
+    def suppliers_plan(self):
+        """The suppliers plan, each with its own key."""
+        lines = [line.partition(" ") for line in requests("7. Release the variant, and open the next").splitlines()]
+        for key, _, text in lines:
+            if key in (BRAKES, STEERING):
+                self.api.ask(key, "POST", "commands", text)
+
+    def is_planned(self):
+        """The load of saloon is what the tutorial prints."""
+        loads = self.api.get(BOSS, "variants/saloon/load").splitlines(True)
+        self.see("the load", printed("call integrator1 variants/saloon/load"), "".join(loads[:7]))
+
+    def has_joined(self):
+        self.see("the variants", printed("call lightsKey1 variants\n".strip()), self.api.get(LIGHTS, "variants"))
+        self.see("what is granted to lights", printed("call lightsKey1 variants/sport/load"), self.api.get(LIGHTS, "variants/sport/load"))
+
+    def test_by_mouse(self):
         browser = self.enter(BOSS, frames=False)
         self.says("There is no variant yet. Open one.")
+        usable = "return [...document.querySelectorAll('#tabs button')].filter(it => !it.disabled).map(it => it.textContent)"
+        self.see("what can be looked at", ["Cluster"], browser.run(usable))
         self.form("Openavariant", name="saloon")
         self.says("saloon is open.")
         for supplier, node in ("brakes", "brake_unit"), ("steering", "rack_unit"):
@@ -160,15 +183,10 @@ class IntegratorsWeek(PlannerCase):
         browser.choose("#grant-to", "brake_unit of brakes")
         browser.click_at(self.place_of(9, 3, "A", "granted to rack_unit of steering"))
         self.says("Slot 3 A is held by rack_unit of steering.")
-        # The suppliers plan, each with its own key.
-        lines = [line.partition(" ") for line in requests("7. Release the variant, and open the next").splitlines()]
-        for key, _, text in lines:
-            if key in (BRAKES, STEERING):
-                self.api.ask(key, "POST", "commands", text)
+        self.suppliers_plan()
         browser.click("#reload")
         self.says("read again")
-        loads = self.api.get(BOSS, "variants/saloon/load").splitlines(True)
-        self.see("the load", printed("call integrator1 variants/saloon/load"), "".join(loads[:7]))
+        self.is_planned()
         self.releases("saloon")
         self.form("Openavariant", name="sport", **{"from": "with the rows of saloon"})
         self.says("sport is open.")
@@ -179,8 +197,7 @@ class IntegratorsWeek(PlannerCase):
         self.says("lamp_unit is a node of lights")
         self.view("plan")
         self.grants("lamp_unit of lights", (4, "A"))
-        self.see("the variants", printed("call lightsKey1 variants\n".strip()), self.api.get(LIGHTS, "variants"))
-        self.see("what is granted to lights", printed("call lightsKey1 variants/sport/load"), self.api.get(LIGHTS, "variants/sport/load"))
+        self.has_joined()
 
     def releases(self, variant):
         """A release wants the variant's name typed, letter by letter."""
@@ -195,3 +212,59 @@ class IntegratorsWeek(PlannerCase):
         browser.type("#dialog input", variant)
         browser.press("Release it", "#dialog")
         self.says(f"{variant} is released.")
+
+    def written(self, title, words, **fields):
+        """Fills a form by keys, from its first field on; in a list the keys are letters that lead to the option."""
+        for name, value in fields.items():
+            self.write(f"#form-{title}-{name}", value)
+        self.enter_on(f"form:has(#form-{title}-{name}) button[type=submit]")
+        self.says(words)
+
+    def to_tab(self, *ways):
+        """Goes to the tabs, and from the chosen one to another by arrows."""
+        self.reach("#tabs [aria-selected=true]")
+        self.browser.keys(*ways)
+        self.rests()
+
+    def granted(self, to, *lanes):
+        """Grants lanes by keys: those of the grid are walked through from its first one."""
+        browser = self.browser
+        self.write("#grant-to", to)
+        if browser.run("return document.getElementById('grant-mode').ariaPressed") != "true":
+            self.enter_on("#grant-mode")
+        for slot, channel in lanes:
+            self.reach("#grid")
+            browser.keys(HOME)
+            for _ in range(2 * (slot - 1) + "AB".index(channel)):
+                browser.keys(RIGHT)
+            self.see("the lane is reached", True, f"slot {slot} {channel}: granted to nobody" in browser.text("#cell"))
+            browser.keys(ENTER)
+            self.says(f"Slot {slot} {channel} is granted to {to}")
+
+    def test_by_keys(self):
+        browser = self.open()
+        browser.keys(*BOSS, ENTER)
+        self.is_in(frames=False)
+        self.written("Openavariant", "saloon is open.", name="saloon")
+        for supplier, node in ("brakes", "brake_unit"), ("steering", "rack_unit"):
+            self.written("Addanode", f"{node} is a node of {supplier}", supplier=supplier, node=node)
+        self.to_tab(RIGHT)
+        self.granted("brake_unit", (1, "A"), (1, "B"), (2, "A"))
+        self.granted("rack_unit", (3, "A"))
+        browser.keys(ESCAPE)
+        self.suppliers_plan()
+        self.enter_on("#reload")
+        self.says("read again")
+        self.is_planned()
+        self.to_tab(LEFT)
+        self.enter_on("#release")
+        browser.wait("the dialog", "return document.getElementById('dialog').open")
+        self.write("#dialog input", "saloon")
+        self.enter_on("#dialog .main")
+        self.says("saloon is released.")
+        self.written("Openavariant", "sport is open.", name="sport", **{"from": "with"})
+        self.written("Addasupplier", "lights has joined", supplier="lights", key=LIGHTS)
+        self.written("Addanode", "lamp_unit is a node of lights", supplier="lights", node="lamp_unit")
+        self.to_tab(RIGHT)
+        self.granted("lamp_unit", (4, "A"))
+        self.has_joined()

@@ -1,5 +1,5 @@
-"""docs/SUPPLIER.md tells a supplier each refusal that it can meet, by the number and name that docs/FORMATS.md has, and no other. It needs nothing
-built."""
+"""docs/SUPPLIER.md tells a supplier each refusal that it can meet, by the number and name that docs/FORMATS.md has, and no other; the planners' page
+has words for all refusals. It needs nothing built."""
 import re
 
 from tests.lib.case import Case
@@ -9,6 +9,8 @@ ROW = re.compile(r"^\| (\d+) \| `(\w+)` \|", re.M)
 ANSWER = re.compile(r'"no":(\d+),"refused":"(\w+)"')
 ASKED = re.compile(r"^\| ((?:`\w+`(?:, )?)+) \| ([\d ]+|none) \|$", re.M)
 BY_WHOM = re.compile(r"^\| `(\w+)` \| [^|]* \| (integrator|supplier|both) \|", re.M)
+# A refusal in the page's program: its number, its name, and what it means.
+ON_PAGE = re.compile(r'^  (\d+): \["(\w+)", "([^"]+)"', re.M)
 # Of all requests: a request's own text, its key, and a fault of the register.
 ALWAYS = {1, 2, 28}
 
@@ -20,12 +22,23 @@ def section(page, heading):
     return text[begin : text.find("\n## ", begin + 1)]
 
 
+def named():
+    """The names of all refusals, by their numbers."""
+    text = section("FORMATS", "Refusals") + section("FORMATS", "Imports")
+    return {int(number): name for number, name in ROW.findall(text) + ANSWER.findall(section("FORMATS", "Answers"))}
+
+
 class RefusalsOfSuppliers(Case):
     """A supplier meets the refusals of its requests, and of the rows of its files."""
 
+    def test_the_page_has_words_for_all(self):
+        told = ON_PAGE.findall((TOP / "page/script/refusals.js").read_text())
+        self.see("the numbers are 1 to 31", list(range(1, 32)), [int(number) for number, _, _ in told])
+        self.see("their names", named(), {int(number): name for number, name, _ in told})
+        self.see("meanings that are those of another one", len(told), len({meaning for _, _, meaning in told}))
+
     def test_all_are_told(self):
-        text = section("FORMATS", "Refusals") + section("FORMATS", "Imports")
-        names = {int(number): name for number, name in ROW.findall(text) + ANSWER.findall(section("FORMATS", "Answers"))}
+        names = named()
         who = dict(BY_WHOM.findall(section("FORMATS", "Requests")))
         met = set(ALWAYS)
         for requests, numbers in ASKED.findall(section("FORMATS", "Refusals")):

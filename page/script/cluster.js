@@ -61,13 +61,13 @@ function releaseCard(desk) {
     variant && open ? button("Release it ...", release, {class: "bad", id: "release"}) : "");
 }
 
-// Carries out a command on the cluster, and reads what it changed.
+// Carries out a command on the cluster, and reads what it changed. What is said of a key stays until it is closed.
 const change = (desk, request, text, then) => attempt(desk, async () => {
   await desk.register.command(request);
   await readRegister(desk);
   if (then) await then();
   else if (desk.plan) desk.tell("plan");
-  done(desk, text, null);
+  done(desk, text, null, request.key ? "warn" : "good");
   return true;
 });
 

@@ -13,7 +13,7 @@ export class Desk {
     this.listeners = [];
     this.turn = 0;
     this.times = new Times();
-    this.look = {channels: "", colourBy: "supplier", folds: true, marks: true, width: 18};
+    this.look = {channels: "", colourBy: "supplier", isTall: false, folds: true, marks: true, width: 18};
     this.clear();
   }
 

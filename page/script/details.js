@@ -29,9 +29,21 @@ function variantDetails(desk) {
     pairs([["frames", grouped(plan.frames.length)], ["not placed", never.length ? grouped(never.length) : "none"],
       ["lanes", `${grouped(held)} granted`], ["cells", `${grouped(plan.cellsSent())} of ${grouped(held * plan.cycles)} used`]]),
     desk.isOpen() ? "" : make("p", {}, "The variant is released: it never changes again."),
-    note("Choose a frame in the list, or a cell of the plan."),
+    note(plan.frames.length ? "Choose a frame in the list, or a cell of the plan." : ""), lacking(desk, held),
     never.length ? [make("h3", {}, "Not placed yet"),
       make("ul", {}, never.slice(0, 30).map(frame => make("li", {}, link(frame.name, () => desk.choose({frame})))))] : ""];
+}
+
+// What has to be done first in a plan that is empty yet.
+function lacking(desk, held) {
+  const {isIntegrator, nodes, plan} = desk, said = (toIntegrator, toSupplier) => note(isIntegrator ? toIntegrator : toSupplier);
+  if (!desk.isOpen()) return "";
+  if (!nodes.length) return said("No supplier has a node yet. Add one, under Cluster.", "You have no node yet. The integrator adds nodes.");
+  if (!held) {
+    return said("No lane is granted yet. Choose a node above the plan, and press Grant by click.",
+      "No lane is granted to you yet. The integrator grants lanes.");
+  }
+  return plan.frames.length ? "" : said("There is no frame yet.", "You have no frame yet. Press New frame, or drop a file under Files.");
 }
 
 function laneDetails(desk, lane) {

@@ -1,6 +1,7 @@
 // The view of files: one is dropped or chosen, its rows' fates are told, and it is carried out; and the plan is taken as files.
 import {button, byId, card, longTable, make, note, options, refill, row, save, tableRow, textField} from "./dom.js";
 import {HEADERS} from "./csv.js";
+import {goneCount, goneList} from "./gone.js";
 import {mended, takeSheet} from "./looking.js";
 import {attempt} from "./messages.js";
 import {explained} from "./refusals.js";
@@ -90,9 +91,15 @@ function fateBox(desk, file) {
   const all = refused.length ? `${plural(refused.length, "row")} of ${grouped(fates.length)} would be refused, so none is carried out.`
     : `All ${rows} would be carried out.`;
   return [row(make("strong", {class: refused.length ? "fault" : ""}, all)),
+    WAYS[file.way].replaces ? goneBox(file) : "",
     row(file.way === "import" ? [make("label", {for: "label"}, "Label"), label] : "", go),
     refused.length && refused.length < fates.length ? make("label", {class: "check"}, only, "only refused rows") : "",
     longTable([["line", "num"], ...file.shown[0], "what would become of it"], file.onlyRefused ? refused : fates, fate => fateRow(desk, file, fate))];
+}
+
+function goneBox(file) {
+  return make("div", {id: "gone"}, file.gone.length ? [make("strong", {}, `${goneCount(file)} would be gone:`), goneList(file)]
+    : "Nothing would be gone.");
 }
 
 function fateRow(desk, file, fate) {

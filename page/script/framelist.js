@@ -24,7 +24,14 @@ export class FrameList {
     listen("side-open", "click", () => this.open(!byId("side").classList.contains("open")));
     desk.on("plan", () => this.search());
     desk.on("choice look", () => { if (desk.plan) this.show(); });
-    desk.on("left", () => { byId("search").value = ""; byId("frames").replaceChildren(); byId("frames-note").textContent = ""; this.plan = null; });
+    desk.on("left", () => this.clear());
+  }
+
+  clear() {
+    for (const id of ["frames", "frames-note"]) byId(id).replaceChildren();
+    byId("search").value = "";
+    byId("add-frame").hidden = true;
+    this.plan = null;
   }
 
   // On a narrow screen the list stands behind a button.
@@ -80,12 +87,16 @@ export class FrameList {
   }
 }
 
-async function askFrame(desk) {
-  const name = textField({id: "frame-name"}), node = make("select", {id: "frame-node"});
+// What was typed and is no name is asked for again.
+async function askFrame(desk, typed = null) {
+  if (!desk.nodes.length) { say("warn", "You have no node yet, and each frame is sent by one. The integrator adds nodes."); return; }
+  const name = textField({id: "frame-name", value: typed ?? ""}), node = make("select", {id: "frame-node"});
   options(node, desk.nodes.map(one => [one.node, one.node]));
   const form = make("form", {class: "form", onsubmit: event => { event.preventDefault(); byId("dialog").close("yes"); }},
     make("label", {for: "frame-name"}, "Name"), name, make("label", {for: "frame-node"}, "Node"), node);
-  if (!await confirmed("New frame", form, "Add it")) return;
+  const fault = typed !== null && make("p", {class: "fault", role: "alert"},
+    `${typed || "An empty text"} is no name. A name has 1 to 32 letters, digits and underscores, a letter first.`);
+  if (!await confirmed("New frame", [form, fault || ""], "Add it")) return;
   if (isName(name.value)) addFrame(desk, name.value, node.value);
-  else say("bad", `${name.value || "An empty text"} is no name. A name has 1 to 32 letters, digits and underscores, a letter first.`);
+  else askFrame(desk, name.value);
 }

@@ -9,15 +9,17 @@ import {paintColumns} from "./painting.js";
 import {laneOf} from "./plan.js";
 import {GUTTER, HEAD, Sheet} from "./sheet.js";
 
+const READABLE = 14;
 const WIDTHS = [1, 2, 3, 4, 6, 8, 11, 14, 18, 24, 32, 44, 60, 84, 116];
-// The least height of a cycle and the width of a lane to begin with, for a mouse and for a finger.
+// The least height of a cycle and the width of a lane to begin with, for a mouse and for a finger; and the height in which a name has room.
 const FOR_MOUSE = {row: 7, lane: 18};
 const FOR_FINGER = {row: 18, lane: 32};
+const TALL_ROW = 16;
 const sizes = () => window.matchMedia("(pointer: coarse)").matches ? FOR_FINGER : FOR_MOUSE;
 
 export class Grid {
   constructor(desk, palette) {
-    Object.assign(this, {desk, palette, sheet: null, variant: null, waiting: 0});
+    Object.assign(this, {desk, palette, sheet: null, variant: null, isGranting: false, waiting: 0});
     this.canvas = byId("grid");
     this.scroller = byId("scroller");
     this.cursor = {column: 0, side: 0, cycle: 0, hover: null};
@@ -34,6 +36,8 @@ export class Grid {
     const {desk, scroller} = this;
     if (!desk.hasView("plan") || !scroller.clientWidth) return;
     if (this.variant !== desk.variant) this.begin();
+    if (desk.granting && !this.isGranting) this.narrow();
+    this.isGranting = Boolean(desk.granting);
     this.sheet = this.sheetOf(desk.look.width);
     // A finger that draws over lanes does not scroll.
     scroller.classList.toggle("draws", Boolean(desk.granting));
@@ -51,7 +55,7 @@ export class Grid {
 
   sheetOf(width) {
     const {desk} = this, {plan, look} = desk, channels = look.channels || plan.cluster.channels;
-    const rowHeight = Math.max(sizes().row, Math.min(24, (this.scroller.clientHeight - HEAD - 2) / plan.cycles));
+    const rowHeight = Math.max(sizes().row, look.isTall ? TALL_ROW : 0, Math.min(24, (this.scroller.clientHeight - HEAD - 2) / plan.cycles));
     const isHeld = slot => plan.grants[laneOf(slot, "A")] || plan.grants[laneOf(slot, "B")] || this.isChanged(slot);
     return new Sheet(plan, {channels, width, rowHeight, isShown: slot => !look.folds || desk.granting || isHeld(slot)});
   }
@@ -144,11 +148,17 @@ export class Grid {
     return WIDTHS.findLast(width => this.sheetOf(width).wide <= wide) ?? WIDTHS[0];
   }
 
+  // Where lanes are granted none is folded: they are narrower then, if they can still be read.
+  narrow() {
+    const widest = this.widest();
+    if (widest >= READABLE) this.desk.look.width = Math.min(this.desk.look.width, widest);
+  }
+
   // A variant is first shown with all its slots, where their lanes are wide enough to be read then.
   begin() {
     this.variant = this.desk.variant;
     const widest = this.widest();
-    this.desk.look.width = widest < 14 ? sizes().lane : Math.max(widest, sizes().lane);
+    this.desk.look.width = widest < READABLE ? sizes().lane : Math.max(widest, sizes().lane);
     this.scroller.scrollLeft = 0;
   }
 }

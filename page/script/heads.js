@@ -42,7 +42,7 @@ function paintHolder(ink, view, {channel, lane, x}) {
 function paintHeld(ink, {sheet: {width}, desk, palette}, channel, lane, grant, x) {
   const colour = palette.ofLane(grant), letter = palette.letter(grant), share = desk.plan.load[lane] / desk.plan.cycles, edge = width > 3 ? 0.5 : 0;
   fillBox(ink, colour, x + edge, 16, width - edge, 15);
-  if (width >= 8) write(ink, width >= 24 ? `${channel} ${letter}` : letter, x + width / 2, 24, inkOn(colour), 10, "center", "bold");
+  if (width >= 8) write(ink, width >= 24 ? `${channel} ${letter}`.trim() : letter || channel, x + width / 2, 24, inkOn(colour), 10, "center", "bold");
   fillBox(ink, "#fff", x + 0.5, 33, width - 0.5, 12);
   fillBox(ink, share === 1 ? "#14181f" : "#5d6b7c", x + 0.5, 33 + 12 * (1 - share), Math.max(0.5, width - 1), 12 * share);
 }

@@ -35,6 +35,8 @@ async function begin(desk, key, isKept) {
   byId("login-fault").textContent = "";
   try {
     await enter(desk, key);
+    // A supplier's plan is all its own: its frames are told apart.
+    desk.look.colourBy = desk.isIntegrator ? "supplier" : "frame";
     if (isKept) stored(storage => storage.setItem(STORED, key));
     byId("login").hidden = true;
     byId("app").hidden = false;

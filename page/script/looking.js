@@ -32,7 +32,7 @@ async function lookIntoWorkbook(file) {
     file.fault += ` It cannot be read: ${fault.message}${byHand}`;
     return;
   }
-  const known = file.sheets.filter(({records}) => kindOf(records.find(isFilled)));
+  const known = file.sheets.filter(({records}) => kindOf(withoutHint(records.filter(isFilled))[0]));
   if (known.length) takeSheet(file, known[0]);
   else file.fault += ` No sheet of it begins with a header that the register knows. ${unknown(file.sheets[0].records.filter(isFilled))}`;
 }
@@ -40,7 +40,7 @@ async function lookIntoWorkbook(file) {
 // Takes a sheet of a workbook as the file's rows.
 export function takeSheet(file, sheet) {
   file.sheet = sheet;
-  const {records, changes} = cleaned(sheet.records.filter(record => record.length));
+  const {records, changes} = cleaned(withoutHint(sheet.records.filter(record => record.length)));
   file.fault = `This is a workbook (.xlsx), not a CSV file. Its sheet ${short(sheet.name)} has rows that the register reads.`
     + (changes.length ? ` ${changes.join(" ")}` : "");
   file.mend = kindOf(records[0]) ? {text: `Take the sheet ${short(sheet.name)}`, records} : null;
@@ -55,7 +55,7 @@ function lookIntoText(file) {
     return;
   }
   const {records, changes} = cleaned(withoutHint(recordsOf(text, comma)));
-  const faults = [coding && UTF_16, SEPARATED[comma], ...changes].filter(Boolean);
+  const faults = [coding && UTF_16, SEPARATED[comma], isNumbered(recordsOf(text, comma)[0]) && NUMBERED, ...changes].filter(Boolean);
   file.kind = HEADERS[file.records[0]?.join(",")] ?? null;
   if (!faults.length && file.kind) return;
   file.fault = faults.join(" ");
@@ -70,6 +70,7 @@ function unknown([header]) {
 }
 
 const UTF_16 = "This is text in UTF-16, which spreadsheets call Unicode text. The register reads UTF-8.";
+const NUMBERED = "A line of numbered names stands above the header, as Excel writes it where a file was loaded without its data types.";
 const SEPARATED = {
   ";": "The fields are separated by semicolons, as spreadsheets do where a comma stands in decimal numbers. The register reads commas.",
   "\t": "The fields are separated by tabs. The register reads commas.",
@@ -92,8 +93,16 @@ function decoded(file, coding) {
   }
 }
 
-// Without a first line as `sep=;`, which is for spreadsheets alone.
-const withoutHint = records => /^sep=/i.test(records[0]?.[0] ?? "") && records[0].join("").length <= 5 ? records.slice(1) : records;
+// Without a first line as `sep=;` or `Column1,Column2`, which is for spreadsheets alone.
+const isHint = record => /^sep=/i.test(record?.[0] ?? "") && record.join("").length <= 5;
+const withoutHint = records => isHint(records[0]) || isNumbered(records[0]) ? records.slice(1) : records;
+
+// Whether these are names that differ in their numbers alone, from 1 on.
+function isNumbered(record) {
+  const word = /^(\D+)1$/.exec(record?.[0] ?? "")?.[1];
+  return word !== undefined && record.length > 1 && record.every((field, at) => field === word + (at + 1));
+}
+
 const isFilled = record => record.some(field => field.trim() !== "");
 
 // The records as the register wants them, and what had to be changed.

@@ -1,6 +1,6 @@
-// What somebody else changed between two readings of a plan, in words.
+// What somebody else changed between two readings, in words.
 import {keyOf, laneText} from "./plan.js";
-import {firstOf, plural, shortPlaceText} from "./words.js";
+import {bitsText, firstOf, plural, shortPlaceText} from "./words.js";
 
 export const placementsText = placements => placements.map(shortPlaceText).sort().join(", ");
 const isSamePlace = (one, other) => ["slot", "channels", "base", "repetition"].every(field => one[field] === other[field]);
@@ -18,15 +18,39 @@ function changesBetween(before, after) {
   return {frames: [...gone, ...frames], lanes};
 }
 
+// The signals that differ, of frames whose signals were read both times.
+function signalsBetween(before, after, isOwn) {
+  const found = [], texts = signals => new Map(signals.map(one => [one.name, bitsText(one)]));
+  for (const frame of after.frames) {
+    if (!before.signalsOf(frame) || !after.signalsOf(frame)) continue;
+    const old = texts(before.signalsOf(frame)), now = texts(after.signalsOf(frame));
+    for (const name of new Set([...old.keys(), ...now.keys()])) {
+      if (old.get(name) !== now.get(name) && !isOwn(frame, name)) found.push(`${name} of ${frame.name}`);
+    }
+  }
+  return found;
+}
+
+const told = (texts, one) => texts.length ? `${plural(texts.length, one)} (${firstOf(texts, 5)})` : "";
+
 // What differs, but for what the user did, in words; empty where nothing does. `isOwn` tells of a frame or a lane whether it is as the user
-// wanted it.
-export function meanwhile(before, after, isOwn = () => false) {
+// wanted it, `isOwnSignal` of a frame and a signal's name.
+export function meanwhile(before, after, isOwn = () => false, isOwnSignal = () => false) {
   const {frames, lanes} = changesBetween(before, after);
   const others = frames.filter(frame => !isOwn(frame)), held = lanes.filter(lane => !isOwn(lane));
-  const parts = [];
-  if (others.length) parts.push(`${plural(others.length, "frame")} (${firstOf(others.map(frame => frame.name), 5)})`);
-  if (held.length) parts.push(`${plural(held.length, "lane")} (${firstOf(held.map(laneText), 5)})`);
-  return parts.join(" and ");
+  return joined([told(others.map(frame => frame.name), "frame"), told(held.map(laneText), "lane"),
+    told(signalsBetween(before, after, isOwnSignal), "signal")]);
 }
+
+// The variants that were opened or released, and the nodes that are new.
+export function meanwhileInAll(before, after) {
+  const old = new Map(before.variants.map(({name, isReleased}) => [name, isReleased])), known = new Set(before.nodes.map(keyOfNode));
+  const variants = after.variants.filter(({name, isReleased}) => old.get(name) !== isReleased)
+    .map(({name, isReleased}) => `${name} is ${isReleased ? "released" : "open"}`);
+  return joined([told(variants, "variant"), told(after.nodes.filter(one => !known.has(keyOfNode(one))).map(({node}) => node), "node")]);
+}
+
+const keyOfNode = ({supplier, node}) => `${supplier} ${node}`;
+export const joined = parts => parts.filter(Boolean).join(" and ");
 
 export const bySomebody = changed => changed ? ` Somebody else changed ${changed} meanwhile; you see it now.` : "";

@@ -17,6 +17,9 @@ export function say(kind, text, ...buttons) {
 
 export const quiet = () => { byId("message").hidden = true; };
 
+// What was done is no longer said where something else is looked at.
+export const quietGood = () => { if (byId("message").classList.contains("good")) quiet(); };
+
 // Does what asks the register, and says how it failed.
 export async function attempt(desk, action) {
   desk.busy += 1;
@@ -46,9 +49,12 @@ async function readAgain(desk, {isChange, isOwn}) {
   try {
     const changed = await refresh(desk, isOwn);
     if (!isChange) return bySomebody(changed);
-    return changed ? ` What has changed: ${changed}.` : " No frame and no lane has changed.";
+    return changed ? ` What has changed: ${changed}.` : nothingChanged(desk);
   } catch { return " It could not be read again."; }
 }
+
+// What is said where nothing has changed that was read again.
+export const nothingChanged = ({frame}) => ` No frame, no lane and no variant has changed${frame ? `, nor a signal of ${frame.name}` : ""}.`;
 
 // Asks in a window. What `content` gives stands between the title and the buttons; with a word, that has to be typed.
 export function confirmed(title, content, yes, word = null) {

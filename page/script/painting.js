@@ -86,7 +86,9 @@ function paintMarks(ink, {sheet, desk}, {lane, x}, rows) {
 export const isChanged = ({now, then}) => Boolean(now || then) && !(now && then && now.frame === then.frame && now.supplier === then.supplier);
 
 function paintMark(ink, sheet, x, cycle, isNew, isEmpty) {
-  const y = sheet.y(cycle), tall = sheet.height(cycle), {width} = sheet, middle = [x + width / 2, y + tall / 2];
+  const y = sheet.y(cycle), tall = sheet.height(cycle), {width} = sheet;
+  // In a wide lane the sign stands right of the name.
+  const middle = [width >= 44 ? x + width - 8 : x + width / 2, y + tall / 2];
   if (isEmpty) fillBox(ink, "#fff", x + 1, y + 1, width - 1, tall - 1);
   strokeChange(ink, isNew, x + 1.5, y + 1.5, Math.max(1, width - 2), tall - 2);
   if (width < 9 || tall < 6) return;

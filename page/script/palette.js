@@ -61,7 +61,7 @@ export class Palette {
   }
 
   ofLane(grant) { return this.desk.look.colourBy === "frame" ? PLAIN : colourOf(this.number(grant, null)); }
-  letter(grant) { return letterOf(this.number(grant, null)); }
+  letter(grant) { return this.desk.look.colourBy === "frame" ? "" : letterOf(this.number(grant, null)); }
 
   ofPlacement({frame, shade}) {
     const colour = colourOf(this.number(frame, frame));

@@ -7,7 +7,7 @@ import {colourOf, softened} from "./palette.js";
 import {keyOf} from "./plan.js";
 import {signalsOf} from "./reading.js";
 import {addSignal, dropSignal} from "./steps.js";
-import {bitsText, plural} from "./words.js";
+import {bitsText, grouped, plural} from "./words.js";
 
 // Fills a box with the payload of a frame once its signals are read, if it is still wanted then.
 export async function showPayload(desk, frame, box, isWanted) {
@@ -22,7 +22,7 @@ export async function showPayload(desk, frame, box, isWanted) {
   } finally { box.removeAttribute("aria-busy"); }
   if (!isWanted()) return;
   const matrix = make("div", {class: "scroll", tabindex: "0", role: "group", "aria-label": `Payload of ${frame.name}`});
-  box.replaceChildren(note(`${plural(signals.length, "signal")}, ${usedBits(signals)} of ${bitCount(desk.cluster)} bits. `
+  box.replaceChildren(note(`${plural(signals.length, "signal")}, ${usedBits(signals)} of ${grouped(bitCount(desk.cluster))} bits. `
     + "The most significant bit of a byte stands left."), matrix);
   if (signals.length) box.append(signalTable(desk, frame, signals, isOpen));
   if (isOpen) box.append(signalForm(desk, frame, signals, matrix));

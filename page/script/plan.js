@@ -96,5 +96,4 @@ export class Plan {
   // The signals of a frame, where they were read.
   signalsOf(frame) { return this.signals.get(keyOf(frame)); }
   keepSignals(frame, signals) { this.signals.set(keyOf(frame), signals); }
-  forgetSignals(frame) { this.signals.delete(keyOf(frame)); }
 }

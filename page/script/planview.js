@@ -18,6 +18,7 @@ function listenToTools(desk, grid) {
   const looks = (id, take) => listen(id, "change", ({target}) => { take(target); desk.tell("look"); });
   looks("shown", ({value}) => { desk.look.channels = value; });
   looks("colour-by", ({value}) => { desk.look.colourBy = value; });
+  looks("tall", ({checked}) => { desk.look.isTall = checked; });
   looks("fold", ({checked}) => { desk.look.folds = checked; });
   looks("mark", ({checked}) => { desk.look.marks = checked; });
   listen("narrower", "click", () => grid.zoom(-1));
@@ -33,6 +34,7 @@ function showTools(desk) {
   const {channels} = desk.cluster;
   options(byId("shown"), channels === "AB" ? [["AB", "A and B"], ["A", "A"], ["B", "B"]] : [[channels, channels]], byId("shown").value || channels);
   byId("fold-text").textContent = desk.isIntegrator ? "fold slots that nobody holds" : "fold slots that are not yours";
+  byId("colour-by").value = desk.look.colourBy;
   byId("mark-label").hidden = !desk.difference;
   byId("grant-tools").hidden = !desk.mayGrant();
   options(byId("grant-to"), desk.nodes.map(({node, supplier}, at) => [String(at), `${node} of ${supplier}`]), byId("grant-to").value);
@@ -58,7 +60,7 @@ function showGranting(desk, box) {
   const end = button("Done", () => endMode(desk));
   if (!to || lanes.length < 2) {
     box.replaceChildren(make("strong", {}, "Grant lanes"),
-      make("span", {}, "Click a lane to grant or to revoke it; draw over several (or Shift and arrows)."), end);
+      make("span", {}, "Click a lane to grant or to revoke it, or draw over several. By keys: Enter, or Shift and arrows."), end);
     return;
   }
   const {grants, revokes, others} = wantedOf(desk, lanes);

@@ -15,13 +15,16 @@ export function printing(desk, grid) {
   window.addEventListener("afterprint", () => byId("print").replaceChildren());
 }
 
+// What the user is about is not printed: where a frame fits, what was searched.
+const atRest = desk => Object.assign(Object.create(desk), {room: null, found: null});
+
 function pages(desk, {sheet: {width, channels}, palette, sheet: shown}) {
   const sheet = new Sheet(desk.plan, {channels: channels.join(""), width, rowHeight: ROW, isShown: slot => shown.columnOf(slot) !== null});
   const {columns} = sheet, found = [];
   if (sheet.wide > PAPER * MOST_PAGES) return [make("p", {}, "The plan is too wide to be printed here. The picture, under Files, prints it.")];
   for (let first = 0, last; first < columns.length; first = last + 1) {
     for (last = first; columns[last + 1] && columns[last + 1].x + columns[last + 1].width - columns[first].x <= PAPER - GUTTER;) last += 1;
-    found.push(page({desk, palette, sheet}, first, last));
+    found.push(page({desk: atRest(desk), palette, sheet}, first, last));
   }
   return found;
 }

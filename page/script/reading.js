@@ -1,6 +1,6 @@
 // What is read of the register: the cluster, a variant's plan, the room for a frame, differences and signals.
 import {Refused, Strange, Torn} from "./faults.js";
-import {meanwhile} from "./meanwhile.js";
+import {joined, meanwhile, meanwhileInAll} from "./meanwhile.js";
 import {channelsIn, laneOf, Plan} from "./plan.js";
 import {Register} from "./register.js";
 import {linesOf, readCluster, readDifference, readExport, readFrames, readGaps, readGrants, readNodes, readRoom, readSignals,
@@ -46,11 +46,12 @@ async function readPlan(desk, variant, known) {
   }
 }
 
-// Shows a plan that was read; what was chosen stays chosen, if it is there.
-async function take(desk, {plan, texts}, signals) {
+// Shows a plan that was read; what was chosen stays chosen, if it is there. Signals that were read are read again, or are kept.
+async function take(desk, {plan, texts}, before, keepsSignals) {
   const {frame, room, difference} = desk;
-  if (signals) plan.signals = signals;
+  if (keepsSignals) plan.signals = before.signals;
   Object.assign(desk, {plan, texts, placement: null, frame: frame && plan.frameNamed(frame.supplier, frame.name)});
+  if (desk.frame && before?.signalsOf(desk.frame)) await signalsOf(desk, desk.frame);
   if (difference) await compare(desk, difference.from);
   if (room) await findRoom(desk, room.repetition, room.channels);
   desk.tell("plan");
@@ -62,22 +63,24 @@ export async function choose(desk, variant) {
   if (variant !== desk.variant) Object.assign(desk, {difference: null, granting: null, room: null, lane: null, file: null});
   desk.variant = variant;
   desk.canUndo();
-  await take(desk, read, null);
+  await take(desk, read, null, false);
 }
 
-// Reads the plan again after a change, but for the reports of `known`, and says what somebody else changed; `isOwn` is that of `meanwhile`.
-export async function reread(desk, {known = [], keepsSignals = false, isOwn} = {}) {
+// Reads the plan again after a change, but for the reports of `known`, and says what somebody else changed; `isOwn` and `isOwnSignal` are those of
+// `meanwhile`.
+export async function reread(desk, {known = [], keepsSignals = false, isOwn, isOwnSignal} = {}) {
   const {plan: before, turn, texts, variant} = desk;
   const read = await readPlan(desk, variant, Object.fromEntries(known.map(report => [report, texts[report]])));
   if (desk.turn !== turn || desk.variant !== variant) return "";
-  await take(desk, read, keepsSignals ? before.signals : null);
-  return meanwhile(before, desk.plan, isOwn);
+  await take(desk, read, before, keepsSignals);
+  return meanwhile(before, desk.plan, isOwn, isOwnSignal);
 }
 
 // Reads everything that is shown again, and says what was changed.
 export async function refresh(desk, isOwn) {
+  const {variants, nodes} = desk;
   await readRegister(desk);
-  return desk.variant ? reread(desk, {isOwn}) : "";
+  return joined([desk.variant ? await reread(desk, {isOwn}) : "", meanwhileInAll({variants, nodes}, desk)]);
 }
 
 // Where the chosen frame fits with a repetition on these channels.
@@ -120,12 +123,16 @@ export async function signalsOf(desk, frame) {
   return plan.signalsOf(frame);
 }
 
+// More parts than the largest plan has.
+const MOST_PARTS = 4096;
+
 // All parts of an export, joined below one header.
 export async function exported(desk, kind) {
   const records = [];
   for (let part = 0, header; ; part += 1) {
     const read = readExport(kind, await desk.register.read(desk.path(`exports/${kind}/${part}`)));
     header ??= read.header;
+    if (part === MOST_PARTS) throw new Strange("The server sent an export without an end.");
     if (!read.records.length) return {records, parts: part, text: [header, ...records].join("\n") + "\n"};
     for (const record of read.records) records.push(record);
   }

@@ -1,8 +1,9 @@
 // A file on its way to the register: it is looked at, tried row by row, and carried out, in parts where it is too large for one.
 import {fileOf, MOST_BYTES, MOST_ROWS, partsOf, recordsOf} from "./csv.js";
+import {goneCount, goneList, isSameGone, rowsGone} from "./gone.js";
 import {looked} from "./looking.js";
-import {bySomebody} from "./meanwhile.js";
-import {attempt, say} from "./messages.js";
+import {bySomebody, placementsText} from "./meanwhile.js";
+import {attempt, confirmed, say} from "./messages.js";
 import {reread} from "./reading.js";
 import {isName, readFates} from "./reports.js";
 import {done} from "./steps.js";
@@ -26,8 +27,9 @@ export const WAYS = {
 const LARGEST = 4_000_000;
 
 export async function takeFile(desk, blob) {
-  if (!desk.mayPlan()) return;
   if (desk.view !== "files") desk.show("files");
+  // The view says why.
+  if (!desk.mayPlan()) return;
   if (blob.size > LARGEST) {
     takeLooked(desk, null);
     say("bad", `${blob.name} has ${grouped(blob.size)} bytes. That is no plan.`);
@@ -40,7 +42,7 @@ export async function takeFile(desk, blob) {
 
 // Takes a file that was looked at or mended, and tries it.
 export async function takeLooked(desk, file) {
-  desk.file = file && Object.assign(file, {way: "import", parts: null, part: 0, fates: null, shown: [], onlyRefused: false});
+  desk.file = file && Object.assign(file, {way: "import", parts: null, part: 0, fates: null, gone: [], shown: [], onlyRefused: false});
   if (file) {
     divide(file);
     file.label = suggestedLabel(file);
@@ -56,19 +58,50 @@ function divide(file) {
 
 const bodyOf = file => file.parts ? file.parts[file.part] : file.bytes;
 
-// Asks what would become of each row of the file, or of its part that comes next.
+// Asks what would become of each row of the file, or of its part that comes next, and what it would take away.
 export async function tryFile(desk) {
   const {file} = desk;
   if (!file || file.fault || !desk.mayPlan()) return;
+  const {replaces} = WAYS[file.way];
   file.fates = null;
   file.shown = file.parts ? recordsOf(new TextDecoder().decode(bodyOf(file))) : file.records;
-  await attempt(desk, async () => { file.fates = readFates(await desk.register.tried(desk.variant, bodyOf(file), WAYS[file.way].replaces)); });
+  await attempt(desk, async () => {
+    const gone = replaces ? await rowsGone(desk, file) : [], fates = readFates(await desk.register.tried(desk.variant, bodyOf(file), replaces));
+    Object.assign(file, {gone, fates});
+  });
   if (desk.file === file) desk.tell("file");
 }
 
 function suggestedLabel({name, parts, part}) {
   const plain = name.replace(/\.[^.]*$/, "").replace(/[^A-Za-z0-9_]/g, "_").replace(/^[^A-Za-z]+/, "") || "file";
   return plain.slice(0, 26) + (parts ? `_${part + 1}` : "");
+}
+
+// Asks before rows go that the file does not have. They are read once more then: what a colleague added meanwhile is not taken away unseen.
+async function mayTakeAway(desk, file) {
+  if (!WAYS[file.way].replaces) return true;
+  if (file.gone.length && !await confirmed(`${goneCount(file)} would be gone`, goneList(file), "Replace")) return false;
+  const isSame = await attempt(desk, async () => isSameGone(file.gone, await rowsGone(desk, file)));
+  if (isSame !== false || desk.file !== file) return isSame && desk.file === file;
+  const others = await attempt(desk, () => reread(desk, {known: ["grants"]}));
+  await tryFile(desk);
+  say("warn", `Nothing was sent: what would be gone has changed meanwhile. Look at it again.${bySomebody(others)}`);
+  return false;
+}
+
+// Tells of a frame whether its placements are those that the file leaves it with, and of a signal whether its frame is one of the file's.
+function filedIn(desk, {kind, shown, way}) {
+  const {plan} = desk, rows = new Map(shown.slice(1).map(([frame]) => [frame, []]));
+  if (kind === "placements") {
+    for (const [frame, , slot, channels, base, repetition] of shown.slice(1)) {
+      rows.get(frame).push({slot: Number(slot), channels, base: Number(base), repetition: Number(repetition)});
+    }
+  }
+  const placed = (plan, {supplier, name}) => plan.frameNamed(supplier, name)?.placements ?? [];
+  const stay = frame => kind === "placements" && WAYS[way].replaces ? [] : placed(plan, frame);
+  const isOwn = frame => rows.has(frame.name)
+    && placementsText([...stay(frame), ...rows.get(frame.name)]) === placementsText(placed(desk.plan, frame));
+  return {isOwn, isOwnSignal: frame => kind === "signals" && rows.has(frame.name)};
 }
 
 export async function carryOut(desk) {
@@ -78,6 +111,8 @@ export async function carryOut(desk) {
     say("bad", "The label is no name. A name has 1 to 32 letters, digits and underscores, a letter first.");
     return;
   }
+  if (!await mayTakeAway(desk, file)) return;
+  const own = filedIn(desk, file);
   const isDone = await attempt(desk, async () => {
     const {rows} = await way.send(desk, file, bodyOf(file));
     let said = `${plural(rows, "row")} of ${file.name} ${way.said(file)}`;
@@ -88,8 +123,7 @@ export async function carryOut(desk) {
       file.label = suggestedLabel(file);
       said += ` Part ${file.part + 1} of ${file.parts.length} comes next.`;
     }
-    const named = new Set(file.shown.map(([frame]) => frame));
-    const others = bySomebody(await reread(desk, {known: ["grants"], isOwn: frame => named.has(frame.name)}));
+    const others = bySomebody(await reread(desk, {known: ["grants"], ...own}));
     if (isLast) desk.tell("file");
     else await tryFile(desk);
     done(desk, said + others, null);

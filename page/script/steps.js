@@ -7,9 +7,9 @@ import {reread} from "./reading.js";
 import {bitsText, placeText} from "./words.js";
 
 // Says what was done; it can be undone by the message, the button of the plan and the keyboard, until something else is done.
-export function done(desk, text, undo) {
+export function done(desk, text, undo, kind = "good") {
   desk.canUndo(text, undo);
-  say("good", text, undo ? button("Undo", () => undoLast(desk)) : "");
+  say(kind, text, undo ? button("Undo", () => undoLast(desk)) : "");
 }
 
 export function undoLast(desk) {
@@ -63,25 +63,21 @@ export const dropFrame = (desk, name) => attempt(desk, async () => {
   done(desk, `${name} is dropped.` + others, null);
 });
 
-// Signals are read again when they are next shown.
+// After a step on a signal the frame's signals are read again.
 async function signalStep(desk, frame, request) {
-  const forget = () => current(desk, frame) && desk.plan.forgetSignals(current(desk, frame));
-  try {
-    await command(desk, {frame: frame.name, ...request});
-    if (request.do === "add_signal") desk.draft = null;
-  } finally {
-    forget();
-    desk.tell("choice");
-  }
+  await command(desk, {frame: frame.name, ...request});
+  if (request.do === "add_signal") desk.draft = null;
+  const isOwnSignal = (one, name) => keyOf(one) === keyOf(frame) && name === request.signal;
+  return bySomebody(await reread(desk, {known: ["grants", "frames", "gaps"], isOwnSignal}));
 }
 
 export const addSignal = (desk, frame, signal) => attempt(desk, async () => {
   const {name, start, length, order} = signal;
-  await signalStep(desk, frame, {do: "add_signal", signal: name, start, length, order});
-  done(desk, `${name} is added to ${frame.name}.`, () => dropSignal(desk, frame, signal));
+  const others = await signalStep(desk, frame, {do: "add_signal", signal: name, start, length, order});
+  done(desk, `${name} is added to ${frame.name}.${others}`, () => dropSignal(desk, frame, signal));
 });
 
 export const dropSignal = (desk, frame, signal) => attempt(desk, async () => {
-  await signalStep(desk, frame, {do: "drop_signal", signal: signal.name});
-  done(desk, `${signal.name} is dropped from ${frame.name}. It was ${bitsText(signal)}.`, () => addSignal(desk, frame, signal));
+  const others = await signalStep(desk, frame, {do: "drop_signal", signal: signal.name});
+  done(desk, `${signal.name} is dropped from ${frame.name}. It was ${bitsText(signal)}.${others}`, () => addSignal(desk, frame, signal));
 });

@@ -3,7 +3,7 @@ import {indented, inTree} from "./cluster.js";
 import {button, byId, listen, options} from "./dom.js";
 import {openHelp} from "./help.js";
 import {bySomebody} from "./meanwhile.js";
-import {attempt, hideTip, quiet, say} from "./messages.js";
+import {attempt, hideTip, nothingChanged, quiet, quietGood, say} from "./messages.js";
 import {choose, refresh} from "./reading.js";
 import {grouped} from "./words.js";
 
@@ -16,7 +16,7 @@ export function topBar(desk) {
   listen("variant", "change", ({target}) => show(desk, target.value));
   listen("reload", "click", () => attempt(desk, async () => {
     const changed = await refresh(desk);
-    say("good", "The plan is read again." + (changed ? bySomebody(changed) : " No frame and no lane has changed."));
+    say("good", "The plan is read again." + (changed ? bySomebody(changed) : nothingChanged(desk)));
   }));
   listen("help-open", "click", () => openHelp(desk));
   listen("leave", "click", () => desk.leave());
@@ -24,7 +24,8 @@ export function topBar(desk) {
   desk.on("register plan", () => showVariants(desk));
   desk.on("register plan look", () => showFigures(desk));
   desk.on("plan", () => history.replaceState(null, "", "#" + desk.variant));
-  desk.on("view", () => showView(desk));
+  desk.on("view plan", () => showView(desk));
+  desk.on("view", quietGood);
   desk.on("left", () => { byId("figures").textContent = ""; });
   window.addEventListener("hashchange", () => {
     const wanted = location.hash.slice(1);
@@ -55,9 +56,9 @@ function addTabs(desk) {
     tabs.append(button(text, () => desk.show(view), {role: "tab", id: `tab-${view}`, "aria-controls": `view-${view}`}));
   }
   tabs.addEventListener("keydown", event => {
-    const step = {ArrowRight: 1, ArrowLeft: -1}[event.key];
+    const step = {ArrowRight: 1, ArrowLeft: -1}[event.key], there = VIEWS.filter(([view]) => !byId(`tab-${view}`).disabled);
     if (!step) return;
-    const at = VIEWS.findIndex(([view]) => view === desk.view), [to] = VIEWS[(at + step + VIEWS.length) % VIEWS.length];
+    const at = there.findIndex(([view]) => view === desk.view), [to] = there[(at + step + there.length) % there.length];
     desk.show(to);
     byId(`tab-${to}`).focus();
   });
@@ -69,6 +70,7 @@ function showView(desk) {
     const tab = byId(`tab-${name}`);
     tab.setAttribute("aria-selected", String(name === desk.view));
     tab.tabIndex = name === desk.view ? 0 : -1;
+    tab.disabled = name !== "manage" && !desk.plan;
   }
   hideTip();
   byId("detail").hidden = WIDE.includes(desk.view);
@@ -77,7 +79,8 @@ function showView(desk) {
 
 function showVariants(desk) {
   const entry = desk.entry(), tag = byId("variant-state");
-  options(byId("variant"), inTree(desk).map(variant => [variant.name, `${indented(variant)}${variant.isReleased ? "" : " (open)"}`]), desk.variant);
+  const values = inTree(desk).map(variant => [variant.name, `${indented(variant)}${variant.isReleased ? "" : " (open)"}`]);
+  options(byId("variant"), values.length ? values : [["", "none"]], desk.variant);
   tag.className = entry?.isReleased ? "tag released" : "tag";
   tag.textContent = !entry ? "" : entry.isReleased ? "released" : "open";
   tag.title = !entry ? "" : entry.isReleased ? "It never changes again." : "It may be changed.";
@@ -88,7 +91,7 @@ function showVariants(desk) {
 function showFigures(desk) {
   const {cluster, times} = desk, entry = desk.entry();
   byId("figures").textContent = `Channels ${cluster.channels}. ${cluster.cycles} cycles of ${times.text(cluster.macroticks_per_cycle)}. `
-    + `${cluster.static_slots} static slots of ${times.number(cluster.slot_macroticks)}; `
+    + `${grouped(cluster.static_slots)} static slots of ${times.number(cluster.slot_macroticks)}; `
     + `dynamic segment ${times.number(cluster.dynamic_macroticks)}, symbol window ${times.number(cluster.symbol_macroticks)}, `
     + `idle time ${times.number(cluster.idle_macroticks)}. Payload ${grouped(cluster.payload_words * 2)} bytes.`
     + (entry ? ` ${entry.name}: depth ${entry.depth}, ${entry.parent ? "opened from " + entry.parent : "opened empty"}.` : "");

@@ -8,7 +8,7 @@ export const cyclesText = ({base, repetition}) => `${base}/${repetition}`;
 export const shortPlaceText = ({slot, channels, base, repetition}) => `${slot} ${channels} ${base}/${repetition}`;
 export const placeText = placement => "slot " + shortPlaceText(placement);
 export const longPlaceText = ({slot, channels, base, repetition}) => `slot ${slot} ${channels}, base ${base}, repetition ${repetition}`;
-export const bitsText = ({name, start, length, order}) => `${name}: ${length} bits from bit ${start}, ${order}`;
+export const bitsText = ({name, start, length, order}) => `${name}: ${plural(length, "bit")} from bit ${start}, ${order}`;
 
 // The first texts of a list, and how many more there are.
 export const firstOf = (texts, most) => texts.slice(0, most).join(", ") + (texts.length > most ? ` and ${grouped(texts.length - most)} more` : "");

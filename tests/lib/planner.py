@@ -1,14 +1,21 @@
-"""Tests of the planners' page: in a browser, before a register of the test's own."""
+"""Tests of the planners' page: in a browser, before a register of the test's own. The page is that of the program, or with PAGE=sources what page/
+gives, so that a change of it is tried before anything is compiled."""
 import http.client
 import json
+import os
 import re
+import sys
 
+from .answering import serving
 from .browser import LACKS, Browser
 from .case import Case
 from .plans import Register
-from .program import SECONDS
+from .program import SECONDS, TOP
 from .server import HERE, started
 from .user import User
+
+sys.path.insert(0, str(TOP / "page"))
+import serve  # noqa: E402
 
 # What is told of a cell: `Cycle 15, slot 18 A: ...`.
 CELL = re.compile(r"Cycle (\d+), slot (\d+) ([AB]): (.*)", re.DOTALL)
@@ -67,6 +74,8 @@ class PlannerCase(User, Case):
         _, line, port = self.enterContext(started(self.folder))
         self.see("the server listens", f"listening on {HERE}:{port}\n".encode(), line)
         self.api = Api(port)
+        if os.environ.get("PAGE") == "sources":
+            port = self.enterContext(serving(type("Sources", (serve.Handler,), {"register": port})))
         self.url = f"http://{HERE}:{port}/"
         return register
 

@@ -93,6 +93,8 @@ class User:
 
     def middles(self):
         """Where the lanes and the cycles stand in the window: places across by slot and channel, places down by cycle."""
+        # What was changed just now has its place once the window was drawn.
+        self.browser.run("return new Promise(done => requestAnimationFrame(() => requestAnimationFrame(() => done())))")
         lanes, cycles = self.browser.run(POINTING + MIDDLES)
         return {(int(name.split()[0]), name.split()[1]): x for name, x in lanes.items()}, {int(name): y for name, y in cycles.items()}
 

@@ -13,7 +13,7 @@ pub const PAGE: &str = "<!doctype html>
 [hidden]{display:none!important}
 :root{--line:#c9ced6;--soft:#f3f5f8;--ink:#14181f;--quiet:#566070;--accent:#0b5cad;--bad:#a3161b;--good:#0a6b3d}
 html,body{height:100%}
-body{margin:0;font:14px/1.4 system-ui,\"Segoe UI\",\"DejaVu Sans\",sans-serif;color:var(--ink);background:#fff}
+body{display:flow-root;margin:0;font:14px/1.4 system-ui,\"Segoe UI\",\"DejaVu Sans\",sans-serif;color:var(--ink);background:#fff}
 h1{font-size:1.5rem;margin:0 0 .5rem}
 h2{font-size:1.05rem;margin:0 0 .4rem}
 h3{font-size:.95rem;margin:1rem 0 .3rem}
@@ -50,6 +50,7 @@ label.check{display:inline-flex;gap:.35rem;align-items:center}
 .top select,.top button{background:#2b3848;color:#fff;border-color:#55657a}
 .top button:hover{background:#3a4b60}
 .tag{border-radius:10px;padding:.05rem .55rem;font-size:.8rem;background:#2f6f4f}
+.tag:empty{display:none}
 .tag.released{background:#6b4a10}
 .who{font-weight:600}
 .tabs{display:flex;gap:2px;margin-left:.5rem}
@@ -85,8 +86,8 @@ label.check{display:inline-flex;gap:.35rem;align-items:center}
 .view{padding-bottom:6rem}
 #view-plan{overflow:hidden;padding:.4rem .5rem}
 .tools{display:flex;flex-wrap:wrap;gap:.3rem .7rem;align-items:center;font-size:.85rem;margin-bottom:.35rem}
-.mode{display:flex;gap:.3rem .8rem;align-items:center;padding:.15rem .6rem;margin-bottom:.35rem;background:#e8f1fb;border:1px solid #9fc2e6;border-radius:4px;font-size:.9rem}
-.mode span{flex:1;overflow:hidden;text-overflow:ellipsis;white-space:nowrap}
+.mode{display:flex;gap:.3rem .6rem;align-items:center;min-height:42px;padding:.15rem .6rem;margin-bottom:.35rem;background:#e8f1fb;border:1px solid #9fc2e6;border-radius:4px;font-size:.85rem;line-height:1.2}
+.mode span{flex:1}
 .mode button{flex:none}
 .overview{display:block;width:100%;height:26px;margin-bottom:3px;border:1px solid var(--line);cursor:pointer;touch-action:none}
 #view-plan>.scroller{flex:1 1 0;min-height:160px;overflow:auto;border:1px solid #8f99a8}
@@ -153,18 +154,19 @@ kbd{border:1px solid #9aa3b0;border-radius:3px;padding:0 .3em;background:var(--s
 .top .grow{display:none}
 .top select{flex:1;min-width:7rem}
 .tabs{order:9;width:100%;overflow-x:auto}
-.tabs button{flex:none}
+.tabs{gap:0}
+.tabs button{flex:none;font-size:.9rem;padding:.35rem .32rem}
 .columns,.columns.wide{display:flex;flex-direction:column}
 .side{border:0;border-bottom:1px solid var(--line)}
 .side-open{display:block}
 .side:not(.open)>:not(.side-open){display:none}
 .frames{max-height:50vh}
 .view{overflow-x:auto}
-#view-plan>.scroller{flex:none;height:58vh}
+#view-plan>.scroller{flex:none;height:58vh;scroll-margin-top:9rem}
 .tools{flex-wrap:nowrap;overflow-x:auto}
 .tools>*{flex:none}
 .mode{flex-wrap:wrap}
-.mode span{flex:1 0 100%;white-space:normal}
+.mode span{flex:1 0 100%}
 .detail{border:0;border-top:1px solid var(--line)}
 .scroll{max-height:none}
 .words{min-width:12rem}
@@ -185,6 +187,7 @@ html,body,.app{height:auto;display:block}
 .top button,.tabs,.side,.facts label,.tools,.mode,#overview,#view-plan>.scroller,.cell,.message,.tip,.detail:empty,.detail button:not(.link),.detail form{display:none!important}
 button.link{color:#000;text-decoration:none}
 .top{background:none;color:#000;padding:0}
+.quiet{color:#000}
 .top select{background:none;color:#000;border:0;appearance:none;font-weight:700}
 .columns{display:block}
 .view,#view-plan{overflow:visible;padding:0;display:block}
@@ -243,7 +246,7 @@ tr{break-inside:avoid}
 <option value=\"gap\">largest gap</option>
 <option value=\"node\">node</option>
 </select>
-<button id=\"add-frame\" type=\"button\">New frame</button>
+<button id=\"add-frame\" type=\"button\" hidden>New frame</button>
 </div>
 <ul id=\"frames\" class=\"frames\" tabindex=\"-1\"></ul>
 <p id=\"frames-note\" class=\"note\"></p>
@@ -262,6 +265,7 @@ tr{break-inside:avoid}
 <option value=\"node\">node</option>
 <option value=\"frame\">frame</option>
 </select></label>
+<label class=\"check\"><input id=\"tall\" type=\"checkbox\"> tall rows</label>
 <label class=\"check\"><input id=\"fold\" type=\"checkbox\" checked> <span id=\"fold-text\">fold slots that nobody holds</span></label>
 <label class=\"check\" id=\"mark-label\" hidden><input id=\"mark\" type=\"checkbox\" checked> mark differences</label>
 <span id=\"grant-tools\" class=\"set\" hidden>
@@ -570,7 +574,6 @@ lanesHeld(){return this.grants.reduce((sum,grant)=>sum+(grant?1:0),0);}
 cellsSent(){return this.load.reduce((sum,used)=>sum+used,0);}
 signalsOf(frame){return this.signals.get(keyOf(frame));}
 keepSignals(frame,signals){this.signals.set(keyOf(frame),signals);}
-forgetSignals(frame){this.signals.delete(keyOf(frame));}
 }
 const grouped=number=>String(number).replace(/\\B(?=(\\d{3})+$)/g,\",\");
 const plural=(number,one,many=one+\"s\")=>`${grouped(number)} ${number === 1 ? one : many}`;
@@ -579,7 +582,7 @@ const cyclesText=({base,repetition})=>`${base}/${repetition}`;
 const shortPlaceText=({slot,channels,base,repetition})=>`${slot} ${channels} ${base}/${repetition}`;
 const placeText=placement=>\"slot \"+shortPlaceText(placement);
 const longPlaceText=({slot,channels,base,repetition})=>`slot ${slot} ${channels}, base ${base}, repetition ${repetition}`;
-const bitsText=({name,start,length,order})=>`${name}: ${length} bits from bit ${start}, ${order}`;
+const bitsText=({name,start,length,order})=>`${name}: ${plural(length, \"bit\")} from bit ${start}, ${order}`;
 const firstOf=(texts,most)=>texts.slice(0,most).join(\", \")+(texts.length>most?` and ${grouped(texts.length - most)} more`:\"\");
 const byText=(one,other)=>one<other?-1:one>other?1:0;
 const placementsText=placements=>placements.map(shortPlaceText).sort().join(\", \");
@@ -595,14 +598,32 @@ if(old?.node!==grant?.node||old?.supplier!==grant?.supplier)lanes.push(lane);
 });
 return{frames:[...gone,...frames],lanes};
 }
-function meanwhile(before,after,isOwn=()=>false){
+function signalsBetween(before,after,isOwn){
+const found=[],texts=signals=>new Map(signals.map(one=>[one.name,bitsText(one)]));
+for(const frame of after.frames){
+if(!before.signalsOf(frame)||!after.signalsOf(frame))continue;
+const old=texts(before.signalsOf(frame)),now=texts(after.signalsOf(frame));
+for(const name of new Set([...old.keys(),...now.keys()])){
+if(old.get(name)!==now.get(name)&&!isOwn(frame,name))found.push(`${name} of ${frame.name}`);
+}
+}
+return found;
+}
+const told=(texts,one)=>texts.length?`${plural(texts.length, one)} (${firstOf(texts, 5)})`:\"\";
+function meanwhile(before,after,isOwn=()=>false,isOwnSignal=()=>false){
 const{frames,lanes}=changesBetween(before,after);
 const others=frames.filter(frame=>!isOwn(frame)),held=lanes.filter(lane=>!isOwn(lane));
-const parts=[];
-if(others.length)parts.push(`${plural(others.length, \"frame\")} (${firstOf(others.map(frame => frame.name), 5)})`);
-if(held.length)parts.push(`${plural(held.length, \"lane\")} (${firstOf(held.map(laneText), 5)})`);
-return parts.join(\" and \");
+return joined([told(others.map(frame=>frame.name),\"frame\"),told(held.map(laneText),\"lane\"),
+told(signalsBetween(before,after,isOwnSignal),\"signal\")]);
 }
+function meanwhileInAll(before,after){
+const old=new Map(before.variants.map(({name,isReleased})=>[name,isReleased])),known=new Set(before.nodes.map(keyOfNode));
+const variants=after.variants.filter(({name,isReleased})=>old.get(name)!==isReleased)
+.map(({name,isReleased})=>`${name} is ${isReleased ? \"released\" : \"open\"}`);
+return joined([told(variants,\"variant\"),told(after.nodes.filter(one=>!known.has(keyOfNode(one))).map(({node})=>node),\"node\")]);
+}
+const keyOfNode=({supplier,node})=>`${supplier} ${node}`;
+const joined=parts=>parts.filter(Boolean).join(\" and \");
 const bySomebody=changed=>changed?` Somebody else changed ${changed} meanwhile; you see it now.`:\"\";
 const SECONDS=60;
 class Register{
@@ -796,10 +817,11 @@ if(!(fault instanceof Torn)||!isFirst)throw fault;
 }
 }
 }
-async function take(desk,{plan,texts},signals){
+async function take(desk,{plan,texts},before,keepsSignals){
 const{frame,room,difference}=desk;
-if(signals)plan.signals=signals;
+if(keepsSignals)plan.signals=before.signals;
 Object.assign(desk,{plan,texts,placement:null,frame:frame&&plan.frameNamed(frame.supplier,frame.name)});
+if(desk.frame&&before?.signalsOf(desk.frame))await signalsOf(desk,desk.frame);
 if(difference)await compare(desk,difference.from);
 if(room)await findRoom(desk,room.repetition,room.channels);
 desk.tell(\"plan\");
@@ -810,18 +832,19 @@ if(desk.turn!==turn)return;
 if(variant!==desk.variant)Object.assign(desk,{difference:null,granting:null,room:null,lane:null,file:null});
 desk.variant=variant;
 desk.canUndo();
-await take(desk,read,null);
+await take(desk,read,null,false);
 }
-async function reread(desk,{known=[],keepsSignals=false,isOwn}={}){
+async function reread(desk,{known=[],keepsSignals=false,isOwn,isOwnSignal}={}){
 const{plan:before,turn,texts,variant}=desk;
 const read=await readPlan(desk,variant,Object.fromEntries(known.map(report=>[report,texts[report]])));
 if(desk.turn!==turn||desk.variant!==variant)return\"\";
-await take(desk,read,keepsSignals?before.signals:null);
-return meanwhile(before,desk.plan,isOwn);
+await take(desk,read,before,keepsSignals);
+return meanwhile(before,desk.plan,isOwn,isOwnSignal);
 }
 async function refresh(desk,isOwn){
+const{variants,nodes}=desk;
 await readRegister(desk);
-return desk.variant?reread(desk,{isOwn}):\"\";
+return joined([desk.variant?await reread(desk,{isOwn}):\"\",meanwhileInAll({variants,nodes},desk)]);
 }
 async function findRoom(desk,repetition,channels){
 const{frame,turn}=desk;
@@ -858,11 +881,13 @@ const signals=readSignals(await desk.register.read(desk.path(`frames/${frame.nam
 plan.keepSignals(frame,signals.filter(({supplier})=>supplier===frame.supplier));
 return plan.signalsOf(frame);
 }
+const MOST_PARTS=4096;
 async function exported(desk,kind){
 const records=[];
 for(let part=0,header;;part+=1){
 const read=readExport(kind,await desk.register.read(desk.path(`exports/${kind}/${part}`)));
 header??=read.header;
+if(part===MOST_PARTS)throw new Strange(\"The server sent an export without an end.\");
 if(!read.records.length)return{records,parts:part,text:[header,...records].join(\"\\n\")+\"\\n\"};
 for(const record of read.records)records.push(record);
 }
@@ -884,6 +909,7 @@ box.replaceChildren(make(\"div\",{},text),...buttons,button(\"Close\",quiet));
 box.hidden=false;
 }
 const quiet=()=>{byId(\"message\").hidden=true;};
+const quietGood=()=>{if(byId(\"message\").classList.contains(\"good\"))quiet();};
 async function attempt(desk,action){
 desk.busy+=1;
 document.body.setAttribute(\"aria-busy\",\"true\");
@@ -909,9 +935,10 @@ async function readAgain(desk,{isChange,isOwn}){
 try{
 const changed=await refresh(desk,isOwn);
 if(!isChange)return bySomebody(changed);
-return changed?` What has changed: ${changed}.`:\" No frame and no lane has changed.\";
+return changed?` What has changed: ${changed}.`:nothingChanged(desk);
 }catch{return\" It could not be read again.\";}
 }
+const nothingChanged=({frame})=>` No frame, no lane and no variant has changed${frame ? `, nor a signal of ${frame.name}` : \"\"}.`;
 function confirmed(title,content,yes,word=null){
 return new Promise(done=>{
 const dialog=byId(\"dialog\");
@@ -938,9 +965,9 @@ tip.style.left=`${Math.max(4, Math.min(x + 14, window.innerWidth - wide - 8))}px
 tip.style.top=`${y + 18 + tall > window.innerHeight ? y - tall - 10 : y + 18}px`;
 }
 const hideTip=()=>{byId(\"tip\").hidden=true;};
-function done(desk,text,undo){
+function done(desk,text,undo,kind=\"good\"){
 desk.canUndo(text,undo);
-say(\"good\",text,undo?button(\"Undo\",()=>undoLast(desk)):\"\");
+say(kind,text,undo?button(\"Undo\",()=>undoLast(desk)):\"\");
 }
 function undoLast(desk){
 const{undo}=desk;
@@ -984,23 +1011,19 @@ const others=await rereadNamed(desk,name);
 done(desk,`${name} is dropped.`+others,null);
 });
 async function signalStep(desk,frame,request){
-const forget=()=>current(desk,frame)&&desk.plan.forgetSignals(current(desk,frame));
-try{
 await command(desk,{frame:frame.name,...request});
 if(request.do===\"add_signal\")desk.draft=null;
-}finally{
-forget();
-desk.tell(\"choice\");
-}
+const isOwnSignal=(one,name)=>keyOf(one)===keyOf(frame)&&name===request.signal;
+return bySomebody(await reread(desk,{known:[\"grants\",\"frames\",\"gaps\"],isOwnSignal}));
 }
 const addSignal=(desk,frame,signal)=>attempt(desk,async()=>{
 const{name,start,length,order}=signal;
-await signalStep(desk,frame,{do:\"add_signal\",signal:name,start,length,order});
-done(desk,`${name} is added to ${frame.name}.`,()=>dropSignal(desk,frame,signal));
+const others=await signalStep(desk,frame,{do:\"add_signal\",signal:name,start,length,order});
+done(desk,`${name} is added to ${frame.name}.${others}`,()=>dropSignal(desk,frame,signal));
 });
 const dropSignal=(desk,frame,signal)=>attempt(desk,async()=>{
-await signalStep(desk,frame,{do:\"drop_signal\",signal:signal.name});
-done(desk,`${signal.name} is dropped from ${frame.name}. It was ${bitsText(signal)}.`,()=>addSignal(desk,frame,signal));
+const others=await signalStep(desk,frame,{do:\"drop_signal\",signal:signal.name});
+done(desk,`${signal.name} is dropped from ${frame.name}. It was ${bitsText(signal)}.${others}`,()=>addSignal(desk,frame,signal));
 });
 function setGranting(desk,isOn){
 desk.granting=isOn?{lanes:[]}:null;
@@ -1252,7 +1275,7 @@ this.numbers=new Map(nodes.map(({node,supplier},at)=>[`${supplier} ${node}`,at])
 return this.numbers;
 }
 ofLane(grant){return this.desk.look.colourBy===\"frame\"?PLAIN:colourOf(this.number(grant,null));}
-letter(grant){return letterOf(this.number(grant,null));}
+letter(grant){return this.desk.look.colourBy===\"frame\"?\"\":letterOf(this.number(grant,null));}
 ofPlacement({frame,shade}){
 const colour=colourOf(this.number(frame,frame));
 return shade===1?shaded(colour):colour;
@@ -1320,7 +1343,7 @@ await desk.register.command(request);
 await readRegister(desk);
 if(then)await then();
 else if(desk.plan)desk.tell(\"plan\");
-done(desk,text,null);
+done(desk,text,null,request.key?\"warn\":\"good\");
 return true;
 });
 function formCard(title,fields,yes,act,more=\"\"){
@@ -1393,7 +1416,7 @@ constructor(){
 this.listeners=[];
 this.turn=0;
 this.times=new Times();
-this.look={channels:\"\",colourBy:\"supplier\",folds:true,marks:true,width:18};
+this.look={channels:\"\",colourBy:\"supplier\",isTall:false,folds:true,marks:true,width:18};
 this.clear();
 }
 clear(){
@@ -1459,7 +1482,7 @@ return;
 }finally{box.removeAttribute(\"aria-busy\");}
 if(!isWanted())return;
 const matrix=make(\"div\",{class:\"scroll\",tabindex:\"0\",role:\"group\",\"aria-label\":`Payload of ${frame.name}`});
-box.replaceChildren(note(`${plural(signals.length, \"signal\")}, ${usedBits(signals)} of ${bitCount(desk.cluster)} bits. `
+box.replaceChildren(note(`${plural(signals.length, \"signal\")}, ${usedBits(signals)} of ${grouped(bitCount(desk.cluster))} bits. `
 +\"The most significant bit of a byte stands left.\"),matrix);
 if(signals.length)box.append(signalTable(desk,frame,signals,isOpen));
 if(isOpen)box.append(signalForm(desk,frame,signals,matrix));
@@ -1538,9 +1561,19 @@ return[make(\"h2\",{},`Variant ${desk.variant}`),
 pairs([[\"frames\",grouped(plan.frames.length)],[\"not placed\",never.length?grouped(never.length):\"none\"],
 [\"lanes\",`${grouped(held)} granted`],[\"cells\",`${grouped(plan.cellsSent())} of ${grouped(held * plan.cycles)} used`]]),
 desk.isOpen()?\"\":make(\"p\",{},\"The variant is released: it never changes again.\"),
-note(\"Choose a frame in the list, or a cell of the plan.\"),
+note(plan.frames.length?\"Choose a frame in the list, or a cell of the plan.\":\"\"),lacking(desk,held),
 never.length?[make(\"h3\",{},\"Not placed yet\"),
 make(\"ul\",{},never.slice(0,30).map(frame=>make(\"li\",{},link(frame.name,()=>desk.choose({frame})))))]:\"\"];
+}
+function lacking(desk,held){
+const{isIntegrator,nodes,plan}=desk,said=(toIntegrator,toSupplier)=>note(isIntegrator?toIntegrator:toSupplier);
+if(!desk.isOpen())return\"\";
+if(!nodes.length)return said(\"No supplier has a node yet. Add one, under Cluster.\",\"You have no node yet. The integrator adds nodes.\");
+if(!held){
+return said(\"No lane is granted yet. Choose a node above the plan, and press Grant by click.\",
+\"No lane is granted to you yet. The integrator grants lanes.\");
+}
+return plan.frames.length?\"\":said(\"There is no frame yet.\",\"You have no frame yet. Press New frame, or drop a file under Files.\");
 }
 function laneDetails(desk,lane){
 const{plan}=desk,grant=plan.grants[lane],sent=plan.sentIn(lane);
@@ -1645,6 +1678,27 @@ if(row.kind===\"placement\")return longPlaceText(row);
 if(row.kind===\"signal\")return bitsText(row);
 return row.gap===Infinity?\"never sent\":desk.times.text(row.gap);
 }
+const ROW_FORMS={
+placements:{
+plain:([frame,,slot,channels,base,repetition])=>
+({frame,slot:Number(slot),channels,base:Number(base),repetition:Number(repetition)}),
+text:row=>`${row.frame} in ${longPlaceText(row)}`,
+},
+signals:{
+plain:([frame,name,start,length,order])=>({frame,name,start:Number(start),length:Number(length),order}),
+text:row=>`${row.frame}, ${bitsText(row)}`,
+},
+};
+async function rowsGone(desk,{kind,shown}){
+if(!ROW_FORMS[kind])return[];
+const{plain,text}=ROW_FORMS[kind],rows=shown.slice(1).map(plain);
+const stay=new Set(rows.map(text)),named=new Set(rows.map(({frame})=>frame));
+const{records}=await exported(desk,kind);
+return records.map(record=>plain(record.split(\",\"))).filter(({frame})=>named.has(frame)).map(text).filter(row=>!stay.has(row));
+}
+const isSameGone=(one,other)=>one.length===other.length&&one.every((row,at)=>row===other[at]);
+const goneCount=({kind,gone})=>plural(gone.length,kind.slice(0,-1));
+const goneList=({gone})=>make(\"ul\",{class:\"scroll\"},gone.map(row=>make(\"li\",{},row)));
 class NoWorkbook extends Error{}
 const isWorkbook=([p,k,three,four])=>p===0x50&&k===0x4b&&three===3&&four===4;
 const canUnpack=()=>{
@@ -1758,13 +1812,13 @@ if(!(fault instanceof NoWorkbook))throw fault;
 file.fault+=` It cannot be read: ${fault.message}${byHand}`;
 return;
 }
-const known=file.sheets.filter(({records})=>kindOf(records.find(isFilled)));
+const known=file.sheets.filter(({records})=>kindOf(withoutHint(records.filter(isFilled))[0]));
 if(known.length)takeSheet(file,known[0]);
 else file.fault+=` No sheet of it begins with a header that the register knows. ${unknown(file.sheets[0].records.filter(isFilled))}`;
 }
 function takeSheet(file,sheet){
 file.sheet=sheet;
-const{records,changes}=cleaned(sheet.records.filter(record=>record.length));
+const{records,changes}=cleaned(withoutHint(sheet.records.filter(record=>record.length)));
 file.fault=`This is a workbook (.xlsx), not a CSV file. Its sheet ${short(sheet.name)} has rows that the register reads.`
 +(changes.length?` ${changes.join(\" \")}`:\"\");
 file.mend=kindOf(records[0])?{text:`Take the sheet ${short(sheet.name)}`,records}:null;
@@ -1778,7 +1832,7 @@ file.fault=unknown(file.records)+(coding?\" \"+UTF_16:\"\");
 return;
 }
 const{records,changes}=cleaned(withoutHint(recordsOf(text,comma)));
-const faults=[coding&&UTF_16,SEPARATED[comma],...changes].filter(Boolean);
+const faults=[coding&&UTF_16,SEPARATED[comma],isNumbered(recordsOf(text,comma)[0])&&NUMBERED,...changes].filter(Boolean);
 file.kind=HEADERS[file.records[0]?.join(\",\")]??null;
 if(!faults.length&&file.kind)return;
 file.fault=faults.join(\" \");
@@ -1791,6 +1845,7 @@ return isIntegrators?\"This is a file of the integrator's, which has the supplie
 :`The first line is no header that the register knows: ${short(header.join(\",\"))}`;
 }
 const UTF_16=\"This is text in UTF-16, which spreadsheets call Unicode text. The register reads UTF-8.\";
+const NUMBERED=\"A line of numbered names stands above the header, as Excel writes it where a file was loaded without its data types.\";
 const SEPARATED={
 \";\":\"The fields are separated by semicolons, as spreadsheets do where a comma stands in decimal numbers. The register reads commas.\",
 \"\\t\":\"The fields are separated by tabs. The register reads commas.\",
@@ -1810,7 +1865,12 @@ file.notes.push(\"The file is not UTF-8 throughout. Rows with such bytes are ref
 return new TextDecoder().decode(file.bytes);
 }
 }
-const withoutHint=records=>/^sep=/i.test(records[0]?.[0]??\"\")&&records[0].join(\"\").length<=5?records.slice(1):records;
+const isHint=record=>/^sep=/i.test(record?.[0]??\"\")&&record.join(\"\").length<=5;
+const withoutHint=records=>isHint(records[0])||isNumbered(records[0])?records.slice(1):records;
+function isNumbered(record){
+const word=/^(\\D+)1$/.exec(record?.[0]??\"\")?.[1];
+return word!==undefined&&record.length>1&&record.every((field,at)=>field===word+(at+1));
+}
 const isFilled=record=>record.some(field=>field.trim()!==\"\");
 function cleaned(records){
 const filled=records.filter(isFilled),changes=[],blank=records.length-filled.length;
@@ -1841,8 +1901,8 @@ said:()=>\"took the place of the earlier ones.\",
 };
 const LARGEST=4_000_000;
 async function takeFile(desk,blob){
-if(!desk.mayPlan())return;
 if(desk.view!==\"files\")desk.show(\"files\");
+if(!desk.mayPlan())return;
 if(blob.size>LARGEST){
 takeLooked(desk,null);
 say(\"bad\",`${blob.name} has ${grouped(blob.size)} bytes. That is no plan.`);
@@ -1853,7 +1913,7 @@ if(bytes)await takeLooked(desk,await looked(blob.name,new Uint8Array(bytes)));
 else say(\"bad\",`${blob.name} cannot be read. If another program has it open, close it there, and choose it again.`);
 }
 async function takeLooked(desk,file){
-desk.file=file&&Object.assign(file,{way:\"import\",parts:null,part:0,fates:null,shown:[],onlyRefused:false});
+desk.file=file&&Object.assign(file,{way:\"import\",parts:null,part:0,fates:null,gone:[],shown:[],onlyRefused:false});
 if(file){
 divide(file);
 file.label=suggestedLabel(file);
@@ -1869,14 +1929,41 @@ const bodyOf=file=>file.parts?file.parts[file.part]:file.bytes;
 async function tryFile(desk){
 const{file}=desk;
 if(!file||file.fault||!desk.mayPlan())return;
+const{replaces}=WAYS[file.way];
 file.fates=null;
 file.shown=file.parts?recordsOf(new TextDecoder().decode(bodyOf(file))):file.records;
-await attempt(desk,async()=>{file.fates=readFates(await desk.register.tried(desk.variant,bodyOf(file),WAYS[file.way].replaces));});
+await attempt(desk,async()=>{
+const gone=replaces?await rowsGone(desk,file):[],fates=readFates(await desk.register.tried(desk.variant,bodyOf(file),replaces));
+Object.assign(file,{gone,fates});
+});
 if(desk.file===file)desk.tell(\"file\");
 }
 function suggestedLabel({name,parts,part}){
 const plain=name.replace(/\\.[^.]*$/,\"\").replace(/[^A-Za-z0-9_]/g,\"_\").replace(/^[^A-Za-z]+/,\"\")||\"file\";
 return plain.slice(0,26)+(parts?`_${part + 1}`:\"\");
+}
+async function mayTakeAway(desk,file){
+if(!WAYS[file.way].replaces)return true;
+if(file.gone.length&&!await confirmed(`${goneCount(file)} would be gone`,goneList(file),\"Replace\"))return false;
+const isSame=await attempt(desk,async()=>isSameGone(file.gone,await rowsGone(desk,file)));
+if(isSame!==false||desk.file!==file)return isSame&&desk.file===file;
+const others=await attempt(desk,()=>reread(desk,{known:[\"grants\"]}));
+await tryFile(desk);
+say(\"warn\",`Nothing was sent: what would be gone has changed meanwhile. Look at it again.${bySomebody(others)}`);
+return false;
+}
+function filedIn(desk,{kind,shown,way}){
+const{plan}=desk,rows=new Map(shown.slice(1).map(([frame])=>[frame,[]]));
+if(kind===\"placements\"){
+for(const[frame,,slot,channels,base,repetition]of shown.slice(1)){
+rows.get(frame).push({slot:Number(slot),channels,base:Number(base),repetition:Number(repetition)});
+}
+}
+const placed=(plan,{supplier,name})=>plan.frameNamed(supplier,name)?.placements??[];
+const stay=frame=>kind===\"placements\"&&WAYS[way].replaces?[]:placed(plan,frame);
+const isOwn=frame=>rows.has(frame.name)
+&&placementsText([...stay(frame),...rows.get(frame.name)])===placementsText(placed(desk.plan,frame));
+return{isOwn,isOwnSignal:frame=>kind===\"signals\"&&rows.has(frame.name)};
 }
 async function carryOut(desk){
 const{file}=desk,way=WAYS[file.way];
@@ -1885,6 +1972,8 @@ if(file.way===\"import\"&&!isName(file.label)){
 say(\"bad\",\"The label is no name. A name has 1 to 32 letters, digits and underscores, a letter first.\");
 return;
 }
+if(!await mayTakeAway(desk,file))return;
+const own=filedIn(desk,file);
 const isDone=await attempt(desk,async()=>{
 const{rows}=await way.send(desk,file,bodyOf(file));
 let said=`${plural(rows, \"row\")} of ${file.name} ${way.said(file)}`;
@@ -1895,8 +1984,7 @@ file.part+=1;
 file.label=suggestedLabel(file);
 said+=` Part ${file.part + 1} of ${file.parts.length} comes next.`;
 }
-const named=new Set(file.shown.map(([frame])=>frame));
-const others=bySomebody(await reread(desk,{known:[\"grants\"],isOwn:frame=>named.has(frame.name)}));
+const others=bySomebody(await reread(desk,{known:[\"grants\"],...own}));
 if(isLast)desk.tell(\"file\");
 else await tryFile(desk);
 done(desk,said+others,null);
@@ -1978,9 +2066,14 @@ const only=make(\"input\",{type:\"checkbox\",id:\"only-bad\",checked:file.onlyRe
 const all=refused.length?`${plural(refused.length, \"row\")} of ${grouped(fates.length)} would be refused, so none is carried out.`
 :`All ${rows} would be carried out.`;
 return[row(make(\"strong\",{class:refused.length?\"fault\":\"\"},all)),
+WAYS[file.way].replaces?goneBox(file):\"\",
 row(file.way===\"import\"?[make(\"label\",{for:\"label\"},\"Label\"),label]:\"\",go),
 refused.length&&refused.length<fates.length?make(\"label\",{class:\"check\"},only,\"only refused rows\"):\"\",
 longTable([[\"line\",\"num\"],...file.shown[0],\"what would become of it\"],file.onlyRefused?refused:fates,fate=>fateRow(desk,file,fate))];
+}
+function goneBox(file){
+return make(\"div\",{id:\"gone\"},file.gone.length?[make(\"strong\",{},`${goneCount(file)} would be gone:`),goneList(file)]
+:\"Nothing would be gone.\");
 }
 function fateRow(desk,file,fate){
 const[heads,record]=[file.shown[0],file.shown[fate.record-1]??[]];
@@ -2006,7 +2099,13 @@ listen(\"add-frame\",\"click\",()=>askFrame(desk));
 listen(\"side-open\",\"click\",()=>this.open(!byId(\"side\").classList.contains(\"open\")));
 desk.on(\"plan\",()=>this.search());
 desk.on(\"choice look\",()=>{if(desk.plan)this.show();});
-desk.on(\"left\",()=>{byId(\"search\").value=\"\";byId(\"frames\").replaceChildren();byId(\"frames-note\").textContent=\"\";this.plan=null;});
+desk.on(\"left\",()=>this.clear());
+}
+clear(){
+for(const id of[\"frames\",\"frames-note\"])byId(id).replaceChildren();
+byId(\"search\").value=\"\";
+byId(\"add-frame\").hidden=true;
+this.plan=null;
 }
 open(isOpen){
 byId(\"side\").classList.toggle(\"open\",isOpen);
@@ -2053,14 +2152,17 @@ if(first&&desk.view===\"plan\")desk.reveal(first.slot,first.channels[0],first.ba
 byId(\"detail\").scrollIntoView({block:\"nearest\"});
 }
 }
-async function askFrame(desk){
-const name=textField({id:\"frame-name\"}),node=make(\"select\",{id:\"frame-node\"});
+async function askFrame(desk,typed=null){
+if(!desk.nodes.length){say(\"warn\",\"You have no node yet, and each frame is sent by one. The integrator adds nodes.\");return;}
+const name=textField({id:\"frame-name\",value:typed??\"\"}),node=make(\"select\",{id:\"frame-node\"});
 options(node,desk.nodes.map(one=>[one.node,one.node]));
 const form=make(\"form\",{class:\"form\",onsubmit:event=>{event.preventDefault();byId(\"dialog\").close(\"yes\");}},
 make(\"label\",{for:\"frame-name\"},\"Name\"),name,make(\"label\",{for:\"frame-node\"},\"Node\"),node);
-if(!await confirmed(\"New frame\",form,\"Add it\"))return;
+const fault=typed!==null&&make(\"p\",{class:\"fault\",role:\"alert\"},
+`${typed || \"An empty text\"} is no name. A name has 1 to 32 letters, digits and underscores, a letter first.`);
+if(!await confirmed(\"New frame\",[form,fault||\"\"],\"Add it\"))return;
 if(isName(name.value))addFrame(desk,name.value,node.value);
-else say(\"bad\",`${name.value || \"An empty text\"} is no name. A name has 1 to 32 letters, digits and underscores, a letter first.`);
+else askFrame(desk,name.value);
 }
 function paintColumns(ink,view,{from,until,rows,top}){
 for(let at=from;at<=until;at+=1){
@@ -2130,7 +2232,8 @@ if(isChanged(cells[cycle]))paintMark(ink,sheet,x,cycle,Boolean(cells[cycle].now)
 }
 const isChanged=({now,then})=>Boolean(now||then)&&!(now&&then&&now.frame===then.frame&&now.supplier===then.supplier);
 function paintMark(ink,sheet,x,cycle,isNew,isEmpty){
-const y=sheet.y(cycle),tall=sheet.height(cycle),{width}=sheet,middle=[x+width/2,y+tall/2];
+const y=sheet.y(cycle),tall=sheet.height(cycle),{width}=sheet;
+const middle=[width>=44?x+width-8:x+width/2,y+tall/2];
 if(isEmpty)fillBox(ink,\"#fff\",x+1,y+1,width-1,tall-1);
 strokeChange(ink,isNew,x+1.5,y+1.5,Math.max(1,width-2),tall-2);
 if(width<9||tall<6)return;
@@ -2252,7 +2355,7 @@ if(desk.lane===lane)strokeBox(ink,\"#000\",3,x+1,15.5,width-1,29);
 function paintHeld(ink,{sheet:{width},desk,palette},channel,lane,grant,x){
 const colour=palette.ofLane(grant),letter=palette.letter(grant),share=desk.plan.load[lane]/desk.plan.cycles,edge=width>3?0.5:0;
 fillBox(ink,colour,x+edge,16,width-edge,15);
-if(width>=8)write(ink,width>=24?`${channel} ${letter}`:letter,x+width/2,24,inkOn(colour),10,\"center\",\"bold\");
+if(width>=8)write(ink,width>=24?`${channel} ${letter}`.trim():letter||channel,x+width/2,24,inkOn(colour),10,\"center\",\"bold\");
 fillBox(ink,\"#fff\",x+0.5,33,width-0.5,12);
 fillBox(ink,share===1?\"#14181f\":\"#5d6b7c\",x+0.5,33+12*(1-share),Math.max(0.5,width-1),12*share);
 }
@@ -2350,13 +2453,15 @@ fillBox(ink,softened(colour),x,side*high,wide,high);
 fillBox(ink,colour,x,(side+1)*high-part,wide,part);
 }
 }
+const READABLE=14;
 const WIDTHS=[1,2,3,4,6,8,11,14,18,24,32,44,60,84,116];
 const FOR_MOUSE={row:7,lane:18};
 const FOR_FINGER={row:18,lane:32};
+const TALL_ROW=16;
 const sizes=()=>window.matchMedia(\"(pointer: coarse)\").matches?FOR_FINGER:FOR_MOUSE;
 class Grid{
 constructor(desk,palette){
-Object.assign(this,{desk,palette,sheet:null,variant:null,waiting:0});
+Object.assign(this,{desk,palette,sheet:null,variant:null,isGranting:false,waiting:0});
 this.canvas=byId(\"grid\");
 this.scroller=byId(\"scroller\");
 this.cursor={column:0,side:0,cycle:0,hover:null};
@@ -2372,6 +2477,8 @@ layOut(){
 const{desk,scroller}=this;
 if(!desk.hasView(\"plan\")||!scroller.clientWidth)return;
 if(this.variant!==desk.variant)this.begin();
+if(desk.granting&&!this.isGranting)this.narrow();
+this.isGranting=Boolean(desk.granting);
 this.sheet=this.sheetOf(desk.look.width);
 scroller.classList.toggle(\"draws\",Boolean(desk.granting));
 const spacer=byId(\"spacer\");
@@ -2386,7 +2493,7 @@ this.draw();
 wide(){return Math.min(this.scroller.clientWidth,GUTTER+this.sheet.wide);}
 sheetOf(width){
 const{desk}=this,{plan,look}=desk,channels=look.channels||plan.cluster.channels;
-const rowHeight=Math.max(sizes().row,Math.min(24,(this.scroller.clientHeight-HEAD-2)/plan.cycles));
+const rowHeight=Math.max(sizes().row,look.isTall?TALL_ROW:0,Math.min(24,(this.scroller.clientHeight-HEAD-2)/plan.cycles));
 const isHeld=slot=>plan.grants[laneOf(slot,\"A\")]||plan.grants[laneOf(slot,\"B\")]||this.isChanged(slot);
 return new Sheet(plan,{channels,width,rowHeight,isShown:slot=>!look.folds||desk.granting||isHeld(slot)});
 }
@@ -2462,10 +2569,14 @@ widest(){
 const wide=this.scroller.clientWidth-GUTTER-2;
 return WIDTHS.findLast(width=>this.sheetOf(width).wide<=wide)??WIDTHS[0];
 }
+narrow(){
+const widest=this.widest();
+if(widest>=READABLE)this.desk.look.width=Math.min(this.desk.look.width,widest);
+}
 begin(){
 this.variant=this.desk.variant;
 const widest=this.widest();
-this.desk.look.width=widest<14?sizes().lane:Math.max(widest,sizes().lane);
+this.desk.look.width=widest<READABLE?sizes().lane:Math.max(widest,sizes().lane);
 this.scroller.scrollLeft=0;
 }
 }
@@ -2480,6 +2591,7 @@ function listenToTools(desk,grid){
 const looks=(id,take)=>listen(id,\"change\",({target})=>{take(target);desk.tell(\"look\");});
 looks(\"shown\",({value})=>{desk.look.channels=value;});
 looks(\"colour-by\",({value})=>{desk.look.colourBy=value;});
+looks(\"tall\",({checked})=>{desk.look.isTall=checked;});
 looks(\"fold\",({checked})=>{desk.look.folds=checked;});
 looks(\"mark\",({checked})=>{desk.look.marks=checked;});
 listen(\"narrower\",\"click\",()=>grid.zoom(-1));
@@ -2494,6 +2606,7 @@ function showTools(desk){
 const{channels}=desk.cluster;
 options(byId(\"shown\"),channels===\"AB\"?[[\"AB\",\"A and B\"],[\"A\",\"A\"],[\"B\",\"B\"]]:[[channels,channels]],byId(\"shown\").value||channels);
 byId(\"fold-text\").textContent=desk.isIntegrator?\"fold slots that nobody holds\":\"fold slots that are not yours\";
+byId(\"colour-by\").value=desk.look.colourBy;
 byId(\"mark-label\").hidden=!desk.difference;
 byId(\"grant-tools\").hidden=!desk.mayGrant();
 options(byId(\"grant-to\"),desk.nodes.map(({node,supplier},at)=>[String(at),`${node} of ${supplier}`]),byId(\"grant-to\").value);
@@ -2517,7 +2630,7 @@ const to=granted(desk),{lanes}=desk.granting;
 const end=button(\"Done\",()=>endMode(desk));
 if(!to||lanes.length<2){
 box.replaceChildren(make(\"strong\",{},\"Grant lanes\"),
-make(\"span\",{},\"Click a lane to grant or to revoke it; draw over several (or Shift and arrows).\"),end);
+make(\"span\",{},\"Click a lane to grant or to revoke it, or draw over several. By keys: Enter, or Shift and arrows.\"),end);
 return;
 }
 const{grants,revokes,others}=wantedOf(desk,lanes);
@@ -2588,6 +2701,7 @@ async function begin(desk,key,isKept){
 byId(\"login-fault\").textContent=\"\";
 try{
 await enter(desk,key);
+desk.look.colourBy=desk.isIntegrator?\"supplier\":\"frame\";
 if(isKept)stored(storage=>storage.setItem(STORED,key));
 byId(\"login\").hidden=true;
 byId(\"app\").hidden=false;
@@ -2699,13 +2813,14 @@ function printing(desk,grid){
 window.addEventListener(\"beforeprint\",()=>{if(desk.hasView(\"plan\")&&grid.sheet)byId(\"print\").replaceChildren(...pages(desk,grid));});
 window.addEventListener(\"afterprint\",()=>byId(\"print\").replaceChildren());
 }
+const atRest=desk=>Object.assign(Object.create(desk),{room:null,found:null});
 function pages(desk,{sheet:{width,channels},palette,sheet:shown}){
 const sheet=new Sheet(desk.plan,{channels:channels.join(\"\"),width,rowHeight:ROW,isShown:slot=>shown.columnOf(slot)!==null});
 const{columns}=sheet,found=[];
 if(sheet.wide>PAPER*MOST_PAGES)return[make(\"p\",{},\"The plan is too wide to be printed here. The picture, under Files, prints it.\")];
 for(let first=0,last;first<columns.length;first=last+1){
 for(last=first;columns[last+1]&&columns[last+1].x+columns[last+1].width-columns[first].x<=PAPER-GUTTER;)last+=1;
-found.push(page({desk,palette,sheet},first,last));
+found.push(page({desk:atRest(desk),palette,sheet},first,last));
 }
 return found;
 }
@@ -2783,7 +2898,7 @@ addTabs(desk);
 listen(\"variant\",\"change\",({target})=>show(desk,target.value));
 listen(\"reload\",\"click\",()=>attempt(desk,async()=>{
 const changed=await refresh(desk);
-say(\"good\",\"The plan is read again.\"+(changed?bySomebody(changed):\" No frame and no lane has changed.\"));
+say(\"good\",\"The plan is read again.\"+(changed?bySomebody(changed):nothingChanged(desk)));
 }));
 listen(\"help-open\",\"click\",()=>openHelp(desk));
 listen(\"leave\",\"click\",()=>desk.leave());
@@ -2791,7 +2906,8 @@ listenToTimes(desk);
 desk.on(\"register plan\",()=>showVariants(desk));
 desk.on(\"register plan look\",()=>showFigures(desk));
 desk.on(\"plan\",()=>history.replaceState(null,\"\",\"#\"+desk.variant));
-desk.on(\"view\",()=>showView(desk));
+desk.on(\"view plan\",()=>showView(desk));
+desk.on(\"view\",quietGood);
 desk.on(\"left\",()=>{byId(\"figures\").textContent=\"\";});
 window.addEventListener(\"hashchange\",()=>{
 const wanted=location.hash.slice(1);
@@ -2819,9 +2935,9 @@ for(const[view,text]of VIEWS){
 tabs.append(button(text,()=>desk.show(view),{role:\"tab\",id:`tab-${view}`,\"aria-controls\":`view-${view}`}));
 }
 tabs.addEventListener(\"keydown\",event=>{
-const step={ArrowRight:1,ArrowLeft:-1}[event.key];
+const step={ArrowRight:1,ArrowLeft:-1}[event.key],there=VIEWS.filter(([view])=>!byId(`tab-${view}`).disabled);
 if(!step)return;
-const at=VIEWS.findIndex(([view])=>view===desk.view),[to]=VIEWS[(at+step+VIEWS.length)%VIEWS.length];
+const at=there.findIndex(([view])=>view===desk.view),[to]=there[(at+step+there.length)%there.length];
 desk.show(to);
 byId(`tab-${to}`).focus();
 });
@@ -2832,6 +2948,7 @@ byId(`view-${name}`).hidden=name!==desk.view;
 const tab=byId(`tab-${name}`);
 tab.setAttribute(\"aria-selected\",String(name===desk.view));
 tab.tabIndex=name===desk.view?0:-1;
+tab.disabled=name!==\"manage\"&&!desk.plan;
 }
 hideTip();
 byId(\"detail\").hidden=WIDE.includes(desk.view);
@@ -2839,7 +2956,8 @@ byId(\"columns\").classList.toggle(\"wide\",byId(\"detail\").hidden);
 }
 function showVariants(desk){
 const entry=desk.entry(),tag=byId(\"variant-state\");
-options(byId(\"variant\"),inTree(desk).map(variant=>[variant.name,`${indented(variant)}${variant.isReleased ? \"\" : \" (open)\"}`]),desk.variant);
+const values=inTree(desk).map(variant=>[variant.name,`${indented(variant)}${variant.isReleased ? \"\" : \" (open)\"}`]);
+options(byId(\"variant\"),values.length?values:[[\"\",\"none\"]],desk.variant);
 tag.className=entry?.isReleased?\"tag released\":\"tag\";
 tag.textContent=!entry?\"\":entry.isReleased?\"released\":\"open\";
 tag.title=!entry?\"\":entry.isReleased?\"It never changes again.\":\"It may be changed.\";
@@ -2849,7 +2967,7 @@ document.title=`${desk.variant ?? \"no variant\"} - slotplan`;
 function showFigures(desk){
 const{cluster,times}=desk,entry=desk.entry();
 byId(\"figures\").textContent=`Channels ${cluster.channels}. ${cluster.cycles} cycles of ${times.text(cluster.macroticks_per_cycle)}. `
-+`${cluster.static_slots} static slots of ${times.number(cluster.slot_macroticks)}; `
++`${grouped(cluster.static_slots)} static slots of ${times.number(cluster.slot_macroticks)}; `
 +`dynamic segment ${times.number(cluster.dynamic_macroticks)}, symbol window ${times.number(cluster.symbol_macroticks)}, `
 +`idle time ${times.number(cluster.idle_macroticks)}. Payload ${grouped(cluster.payload_words * 2)} bytes.`
 +(entry?` ${entry.name}: depth ${entry.depth}, ${entry.parent ? \"opened from \" + entry.parent : \"opened empty\"}.`:\"\");
@@ -2944,4 +3062,4 @@ window.addEventListener(\"unhandledrejection\",({reason})=>say(\"bad\",`The page
 
 /// What a browser may do with it: run its script, show its style, and ask the server that it came from.
 pub const POLICY: &str =
-    "default-src 'none'; script-src 'sha256-tboDTVpGIgaRDbmKRTg56FGIfGTrUdPKqYc2rdIOc1o='; style-src 'sha256-cofPVVpLoIMb3Nq53Cr2s9UXXJl7gDSFxga5o/OsuCY='; connect-src 'self'; img-src data:; base-uri 'none'; form-action 'none'; frame-ancestors 'none'; require-trusted-types-for 'script'; trusted-types 'none'";
+    "default-src 'none'; script-src 'sha256-pUrUejfIiXDWrNYx81q5CIRXmme90ILvbuKAIOAgEVo='; style-src 'sha256-ggMUxh90Pb4PMhlCfRdHgPBqYnDDES0J6XrvVPOqk4k='; connect-src 'self'; img-src data:; base-uri 'none'; form-action 'none'; frame-ancestors 'none'; require-trusted-types-for 'script'; trusted-types 'none'";
