@@ -154,6 +154,9 @@ class Import(CommandCase):
         self.stops(f"the table of suppliers lacks {missing}; {why}", "import", "new", "foreign.arxml", program=False)
         said = "table.csv: the first line does not name the columns ecu, supplier"
         self.stops(said, "import", "new", "foreign.arxml", "--suppliers", "table.csv", program=False)
+        self.has("table.csv", "ecu,supplier\nDSC,brakes\nEGS,gears\nDSC,\n")
+        said = "table.csv: line 4: 'DSC' stands above with another supplier"
+        self.stops(said, "import", "new", "foreign.arxml", "--suppliers", "table.csv", program=False)
         self.stops("none.arxml: No such file or directory", "import", "new", "none.arxml", program=False)
         self.stops("there is no FlexRay cluster Other", "import", "new", "foreign.arxml", "--cluster", "Other", program=False)
         self.see("no folder", False, (self.folder / "new").exists())
