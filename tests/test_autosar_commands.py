@@ -92,6 +92,8 @@ class Export(CommandCase):
         self.stops("--cluster: 'my car' is no short name of AUTOSAR", "export", "car.db", "my26", "x.arxml", "--cluster", "my car")
         self.stops("nowhere/x.arxml: No such file or directory", "export", "car.db", "my26", "nowhere/x.arxml")
         self.see("files", [], [it.name for it in self.folder.glob("*.arxml*")])
+        self.stops("car.db: it is a database, which may be a register; nothing is written", "export", "car.db", "my26", "car.db")
+        self.see("the register", True, (self.folder / "car.db").read_bytes() == powertrain())
 
 
 class Import(CommandCase):

@@ -1,5 +1,6 @@
 """Registers as scripts, by `slotplan-plans dump`: one typed by hand, and others that are dumped, made anew, and tell all actors the same."""
 import json
+import os
 import random
 import signal
 import sqlite3
@@ -317,7 +318,14 @@ class Faults(Dumps):
         self.made_of(FIRST.decode())
         self.none("none/a.script: No such file or directory", "car.db", "none/a.script")
         (self.folder / "taken").mkdir()
-        self.none("taken: Is a directory", "car.db", "taken")
+        (self.folder / "link").symlink_to("/dev/stdout")
+        os.mkfifo(self.folder / "pipe")
+        for name in "taken", "link", "pipe":
+            self.none(f"{name}: it is there, and is no regular file; nothing is written", "car.db", name)
+        before = (self.folder / "car.db").read_bytes()
+        self.none("car.db: it is a database, which may be a register; nothing is written", "car.db", "car.db")
+        self.see("the register's bytes", True, before == (self.folder / "car.db").read_bytes())
+        self.see("the link", True, (self.folder / "link").is_symlink())
 
     def test_locked(self):
         """Another program has the file."""

@@ -222,6 +222,9 @@ class Commands(RegisterCase):
         words = "capture", self.folder / "car.db", "v1", self.folder / "bus.pcap", "--program", self.program
         self.see("a capture", (0, "packets: 1\n", ""), self.client(*words))
         self.see("a capture of 65 cycles", (0, "packets: 2\n", ""), self.client(*words, "--cycles", "65"))
+        register = self.folder / "car.db"
+        said = f"python3 -m clients.wireshark: {register}: it is a database, which may be a register; nothing is written\n"
+        self.see("no capture in place of the register", (1, "", said), self.client(*words[:3], register, *words[4:]))
 
 
 class Page(Case):

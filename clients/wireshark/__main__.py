@@ -4,6 +4,7 @@ import sys
 from pathlib import Path
 
 from ..slotplan_plans.faults import Fault
+from ..slotplan_plans.files import replaceable
 from ..slotplan_plans.words import add_source, source_of
 from . import capture, tables
 from .plan import read
@@ -37,7 +38,7 @@ def make_tables(plan, given):
 
 def make_capture(plan, given):
     """Writes a capture of the variant's bus to FILE, with values by chance."""
-    packets = capture.write(given.target, plan, given.cycles or plan.cycles, given.seed)
+    packets = capture.write(replaceable(given.target), plan, given.cycles or plan.cycles, given.seed)
     print(f"packets: {len(packets)}")
 
 
