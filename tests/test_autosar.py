@@ -28,6 +28,11 @@ SHAPES = {
     "5 suppliers": Shape(slots=60, frames=30, suppliers=5),
 }
 KINDS = "ECU-INSTANCE", "FLEXRAY-FRAME", "I-SIGNAL-I-PDU", "I-SIGNAL", "SYSTEM-SIGNAL"
+# What AUTOSAR takes as the text of these leaves.
+WORDS = {
+    "CYCLE-REPETITION": "CYCLE-REPETITION-(1|2|4|5|8|10|16|20|32|40|50|64)", "CHANNEL-NAME": "CHANNEL-[AB]", "SYSTEM-VERSION": r"\d+\.\d+\.\d+",
+    "PACKING-BYTE-ORDER": "MOST-SIGNIFICANT-BYTE-(FIRST|LAST)", "COMMUNICATION-DIRECTION": "IN|OUT",
+}
 # Those of which a second plan has a triggering for each timing.
 EACH = "64 cycles", "50 cycles"
 
@@ -44,8 +49,9 @@ class ComesBack(Case):
         return self.folder / "plan.arxml"
 
     def is_sound(self, what, file):
-        """Short names are AUTOSAR's, and of these kinds each is alone in the cluster, whatever its case. References lead to elements of their kind."""
-        paths, names, refs = {}, Counter(), []
+        """Short names are AUTOSAR's, and of these kinds each is alone in the cluster, whatever its case. References lead to elements of their kind. Words
+        are AUTOSAR's."""
+        paths, names, refs, texts = {}, Counter(), [], set()
 
         def walk(element, path):
             tag, name = element.tag.rpartition("}")[2], element.find("{*}SHORT-NAME")
@@ -56,11 +62,14 @@ class ComesBack(Case):
                 self.see(f"{what}: {path}", True, re.fullmatch("[A-Za-z][A-Za-z0-9_]{0,127}", name.text) is not None)
             if tag.endswith("-REF"):
                 refs.append((element.text, element.get("DEST")))
+            if tag in WORDS and len(element) == 0:
+                texts.add((tag, element.text))
             for child in element:
                 walk(child, path)
 
         walk(ET.parse(file).getroot(), "")
         self.see(f"{what}: short names that are there twice", [], [name for name, count in names.items() if count > 1])
+        self.see(f"{what}: words that are none", [], [it for it in texts if not re.fullmatch(WORDS[it[0]], it[1])])
         self.see(f"{what}: references", True, len(refs) > 10)
         self.see(f"{what}: references that lead elsewhere", [], [(path, kind) for path, kind in refs if paths.get(path) != kind])
 
