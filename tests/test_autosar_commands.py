@@ -60,6 +60,7 @@ class Export(CommandCase):
             "NUMBER-OF-STATIC-SLOTS": "40", "PAYLOAD-LENGTH-STATIC": "8", "STATIC-SLOT-DURATION": "60", "SYMBOL-WINDOW": "40",
         }.items():
             self.see(tag, [value], re.findall(f"<{tag}>(.*)</{tag}>", text))
+        self.see("no word on minislots, whose lengths the register has not", 0, text.count("MINISLOT"))
         self.see("the channels", ["CHANNEL-A", "CHANNEL-B"], re.findall("<CHANNEL-NAME>(.*)<", text))
         frames = ["engine_speed", "exhaust_heat", "soot_level", "gear_state"]
         self.see("the frames", frames, re.findall(r"<FLEXRAY-FRAME>\s*<SHORT-NAME>(\w+)<", text))
