@@ -280,6 +280,12 @@ class OtherWords(FileCase):
             self.see(f"the plan with other {name}", first.plan, proposal.plan)
             self.see(f"what other {name} leave out", [], [note for note in proposal.notes if note.kind != "not kept"])
 
+    def test_text_beside(self):
+        """Text between elements says nothing in AUTOSAR. It is noted, wherever it stands."""
+        for text in TYPED.replace("<ECU-INSTANCE>", "<ECU-INSTANCE>a remark"), TYPED.replace("</ECU-INSTANCE>", "a remark</ECU-INSTANCE>"):
+            _, proposal = self.read(text, {})
+            self.see("a note", True, ("not kept", "text beside the elements of ECU-INSTANCE", "1 in the file") in proposal.notes)
+
     def test_apart(self):
         """Special data may say that a frame is placed apart on A and on B. Of one that is sent on A alone that is noted."""
         apart = '<SHORT-NAME>f</SHORT-NAME><ADMIN-DATA><SDGS><SDG GID="slotplan"><SD GID="apart">2 1 4</SD></SDG></SDGS></ADMIN-DATA>'

@@ -160,9 +160,11 @@ def pages():
     with HTTPServer(("127.0.0.1", 0), Pages) as server:
         thread = Thread(target=server.serve_forever, kwargs={"poll_interval": 0.01})
         thread.start()
-        yield server.server_port
-        server.shutdown()
-        thread.join()
+        try:
+            yield server.server_port
+        finally:
+            server.shutdown()
+            thread.join()
 
 
 class Ends(ClientCase):

@@ -9,6 +9,8 @@ from contextlib import closing
 from unittest.mock import patch
 
 from bench.scripts import Plan, cluster_file
+from clients.slotplan_plans.dumping import blocks
+from clients.slotplan_plans.sources import Server
 from tests.lib import schema1
 from tests.lib.case import WHOLE
 from tests.lib.each import each
@@ -326,6 +328,21 @@ class Faults(Dumps):
         self.none("car.db: it is a database, which may be a register; nothing is written", "car.db", "car.db")
         self.see("the register's bytes", True, before == (self.folder / "car.db").read_bytes())
         self.see("the link", True, (self.folder / "link").is_symlink())
+
+    def test_changed(self):
+        """A server's nodes or variants may change while it is read. Then there is no script."""
+        self.made_of(FIRST.decode())
+        self.has("integrator.key", "integrator1\n")
+
+        def between(*given):
+            with Server(url, "integrator1").asked() as ask:
+                self.see("a node comes", {"ok": "done"}, ask({"do": "add_node", "supplier": "s2", "node": "late"}))
+            yield from blocks(*given)
+
+        with self.served() as (_, port), patch("clients.slotplan_plans.dumping.blocks", between):
+            url = f"http://127.0.0.1:{port}"
+            self.stops(f"{url} was changed while it was read; dump it again", "dump", url, "a.script", "--new-keys", "--key", "integrator.key")
+        self.see("no script", False, (self.folder / "a.script").exists())
 
     def test_locked(self):
         """Another program has the file."""
