@@ -51,8 +51,8 @@ class ComesBack(Case):
         return self.folder / "plan.arxml"
 
     def is_sound(self, what, file):
-        """Short names are AUTOSAR's, and of these kinds each is alone in the cluster, whatever its case. References lead to elements of their kind. Words
-        are AUTOSAR's."""
+        """Short names and words are AUTOSAR's, and of these kinds each name is alone in the cluster, whatever its case. References lead to elements
+        of their kind."""
         paths, names, refs, texts = {}, Counter(), [], set()
 
         def walk(element, path):
