@@ -28,6 +28,13 @@ SHAPES = {
     "5 suppliers": Shape(slots=60, frames=30, suppliers=5),
 }
 KINDS = "ECU-INSTANCE", "FLEXRAY-FRAME", "I-SIGNAL-I-PDU", "I-SIGNAL", "SYSTEM-SIGNAL"
+MEMBERS = "FLEXRAY-CLUSTER", *KINDS[:4]
+SPACE = "{http://autosar.org/schema/r4.0}"
+# What AUTOSAR takes as the text of these leaves.
+WORDS = {
+    "CYCLE-REPETITION": "CYCLE-REPETITION-(1|2|4|5|8|10|16|20|32|40|50|64)", "CHANNEL-NAME": "CHANNEL-[AB]", "SYSTEM-VERSION": r"\d+\.\d+\.\d+",
+    "PACKING-BYTE-ORDER": "MOST-SIGNIFICANT-BYTE-(FIRST|LAST)", "COMMUNICATION-DIRECTION": "IN|OUT",
+}
 # Those of which a second plan has a triggering for each timing.
 EACH = "64 cycles", "50 cycles"
 
@@ -44,8 +51,9 @@ class ComesBack(Case):
         return self.folder / "plan.arxml"
 
     def is_sound(self, what, file):
-        """Short names are AUTOSAR's, and of these kinds each is alone in the cluster, whatever its case. References lead to elements of their kind."""
-        paths, names, refs = {}, Counter(), []
+        """Short names and words are AUTOSAR's, and of these kinds each name is alone in the cluster, whatever its case. References lead to elements
+        of their kind."""
+        paths, names, refs, texts = {}, Counter(), [], set()
 
         def walk(element, path):
             tag, name = element.tag.rpartition("}")[2], element.find("{*}SHORT-NAME")
@@ -56,18 +64,40 @@ class ComesBack(Case):
                 self.see(f"{what}: {path}", True, re.fullmatch("[A-Za-z][A-Za-z0-9_]{0,127}", name.text) is not None)
             if tag.endswith("-REF"):
                 refs.append((element.text, element.get("DEST")))
+            if tag in WORDS and len(element) == 0:
+                texts.add((tag, element.text))
             for child in element:
                 walk(child, path)
 
-        walk(ET.parse(file).getroot(), "")
+        root = ET.parse(file).getroot()
+        walk(root, "")
+        self.are_members(what, root, [(path, tag) for path, tag in paths.items() if tag in MEMBERS])
+        self.are_typed(what, root)
         self.see(f"{what}: short names that are there twice", [], [name for name, count in names.items() if count > 1])
+        self.see(f"{what}: words that are none", [], [it for it in texts if not re.fullmatch(WORDS[it[0]], it[1])])
         self.see(f"{what}: references", True, len(refs) > 10)
         self.see(f"{what}: references that lead elsewhere", [], [(path, kind) for path, kind in refs if paths.get(path) != kind])
+
+    def are_members(self, what, root, wanted):
+        """The system names each element of these kinds once."""
+        got = [(it.text, it.get("DEST")) for it in root.iter(f"{SPACE}FIBEX-ELEMENT-REF")]
+        self.see(f"{what}: members of the system", sorted(wanted), sorted(got))
+
+    def are_typed(self, what, root):
+        """Each signal's type is the narrowest that has room for it."""
+        of = lambda signal, tag: signal.find(f".//{SPACE}{tag}").text
+        signals = [(int(of(it, "LENGTH")), of(it, "BASE-TYPE-REF")) for it in root.iter(f"{SPACE}I-SIGNAL")]
+        wrong = [it for it in signals if it[1] != f"/Types/uint{next(width for width in (8, 16, 32, 64) if it[0] <= width)}"]
+        self.see(f"{what}: signals of another type", [], wrong)
 
     def comes_back(self, what, told, variant, frames, **options):
         """The variant as a description, and that as a register: all its reports are those of the first."""
         plan = read(Told(told), variant)
-        self.is_sound(what, self.described(plan, **options))
+        file = self.described(plan, **options)
+        self.is_sound(what, file)
+        # (how long a minislot is the register does not know: it knows where there are none)
+        none = plan.cluster.figures["dynamic_macroticks"] == 0
+        self.see(f"{what}: minislots", ["0"] if none else [], re.findall("<NUMBER-OF-MINISLOTS>(.*)<", file.read_text()))
         proposal = Proposal(reading.read([self.folder / "plan.arxml"]), {})
         self.see(f"{what}: the plan", replace(plan, variant=Variant(variant, None, 1, False)), proposal.plan)
         self.see(f"{what}: notes of rows", [], [note for note in proposal.notes if note.kind != "not kept"])

@@ -60,6 +60,7 @@ class Export(CommandCase):
             "NUMBER-OF-STATIC-SLOTS": "40", "PAYLOAD-LENGTH-STATIC": "8", "STATIC-SLOT-DURATION": "60", "SYMBOL-WINDOW": "40",
         }.items():
             self.see(tag, [value], re.findall(f"<{tag}>(.*)</{tag}>", text))
+        self.see("no word on minislots, whose lengths the register has not", 0, text.count("MINISLOT"))
         self.see("the channels", ["CHANNEL-A", "CHANNEL-B"], re.findall("<CHANNEL-NAME>(.*)<", text))
         frames = ["engine_speed", "exhaust_heat", "soot_level", "gear_state"]
         self.see("the frames", frames, re.findall(r"<FLEXRAY-FRAME>\s*<SHORT-NAME>(\w+)<", text))
@@ -92,6 +93,8 @@ class Export(CommandCase):
         self.stops("--cluster: 'my car' is no short name of AUTOSAR", "export", "car.db", "my26", "x.arxml", "--cluster", "my car")
         self.stops("nowhere/x.arxml: No such file or directory", "export", "car.db", "my26", "nowhere/x.arxml")
         self.see("files", [], [it.name for it in self.folder.glob("*.arxml*")])
+        self.stops("car.db: it is a database, which may be a register; nothing is written", "export", "car.db", "my26", "car.db")
+        self.see("the register", True, (self.folder / "car.db").read_bytes() == powertrain())
 
 
 class Import(CommandCase):
@@ -153,6 +156,9 @@ class Import(CommandCase):
         why = "`ecus` prints a table to fill in, and an empty supplier leaves an ECU out"
         self.stops(f"the table of suppliers lacks {missing}; {why}", "import", "new", "foreign.arxml", program=False)
         said = "table.csv: the first line does not name the columns ecu, supplier"
+        self.stops(said, "import", "new", "foreign.arxml", "--suppliers", "table.csv", program=False)
+        self.has("table.csv", "ecu,supplier\nDSC,brakes\nEGS,gears\nDSC,\n")
+        said = "table.csv: line 4: 'DSC' stands above with another supplier"
         self.stops(said, "import", "new", "foreign.arxml", "--suppliers", "table.csv", program=False)
         self.stops("none.arxml: No such file or directory", "import", "new", "none.arxml", program=False)
         self.stops("there is no FlexRay cluster Other", "import", "new", "foreign.arxml", "--cluster", "Other", program=False)

@@ -1,4 +1,5 @@
 """Descriptions that are damaged, or none: each is read or refused in one line, and what is proposed keeps the register's rules and loses no row."""
+import json
 import random
 
 from clients.slotplan_plans.autosar import folder
@@ -148,3 +149,7 @@ class Limits(FileCase):
         wanted = [(f"/Frame/{name}: signal S64, start 64, length 1, little", "the frame has 64 signals already") for name in names[:256]]
         got = [(it.what, it.why) for it in proposal.notes if it.kind == "left out"]
         self.see("left out", sorted([("/Frame/F256", "s1 has 256 frames already"), *wanted]), sorted(got))
+        folder.write(self.folder / "made", proposal.plan, proposal.notes, "")
+        answers, _ = reports((self.folder / "made/cluster.toml").read_text(), requests_of(self.folder / "made"), [])
+        rows = [answer["rows"] for answer in map(json.loads, answers) if answer["ok"] == "imported"]
+        self.see("rows of its files: frames, placements, and signals of 8 frames in each", [256, 256, *[512] * 32], rows)

@@ -238,6 +238,89 @@ class Bits(FileCase):
             self.see(f"{signals} with 171", wanted, payload.to_bytes(2, "little").hex())
 
 
+def between(first, last):
+    """The typed file's text from one text up to another."""
+    return TYPED[TYPED.index(first) : TYPED.index(last)]
+
+
+PORT_REFS = '<FRAME-PORT-REFS><FRAME-PORT-REF DEST="FRAME-PORT">/P/n1/K/Out</FRAME-PORT-REF></FRAME-PORT-REFS>'
+REPEATED = """<CYCLE-REPETITION>
+            <BASE-CYCLE>1</BASE-CYCLE><CYCLE-REPETITION>CYCLE-REPETITION-4</CYCLE-REPETITION>
+          </CYCLE-REPETITION>"""
+ABSOLUTELY = between("<FLEXRAY-ABSOLUTELY", "</ABSOLUTELY-SCHEDULED-TIMINGS>")
+COUNTED = [f"<CYCLE-COUNTER><CYCLE-COUNTER>{cycle}</CYCLE-COUNTER></CYCLE-COUNTER>" for cycle in range(1, 64, 4)]
+OF_PDU = '<PDU-TRIGGERING-REF DEST="PDU-TRIGGERING">/P/C/A/OfPdu</PDU-TRIGGERING-REF>'
+PDU_OUT = "<I-PDU-PORT><SHORT-NAME>PduOut</SHORT-NAME><COMMUNICATION-DIRECTION>OUT</COMMUNICATION-DIRECTION></I-PDU-PORT>"
+PDU_PORT = '<I-PDU-PORT-REFS><I-PDU-PORT-REF DEST="I-PDU-PORT">/P/n1/K/PduOut</I-PDU-PORT-REF></I-PDU-PORT-REFS>'
+# The same file in other words: each pair is a text of it, and what stands there instead.
+OTHER_WORDS = {
+    "numbers": [
+        ("CYCLE>100<", "CYCLE>0x64<"), ("IDLE-TIME>10<", "IDLE-TIME>012<"), ("DURATION>10<", "DURATION>1e1<"), ("WINDOW>10<", "WINDOW>0b1010<"),
+    ],
+    "spaces": [("<SLOT-ID>2<", "<SLOT-ID>\n  2 <"), (">/P/f<", "> /P/f\n<")],
+    "no greatest cycle": [("<CYCLE-COUNT-MAX>63</CYCLE-COUNT-MAX>", "")],
+    "single cycles": [(ABSOLUTELY, "".join(ABSOLUTELY.replace(REPEATED, cycle) for cycle in COUNTED))],
+    "a port of the PDU": [
+        (PORT_REFS, ""), ("<ABSOLUTELY-SCHEDULED-TIMINGS>", f"<PDU-TRIGGERINGS>{OF_PDU}</PDU-TRIGGERINGS><ABSOLUTELY-SCHEDULED-TIMINGS>"),
+        ("</FRAME-TRIGGERINGS>", f"</FRAME-TRIGGERINGS><PDU-TRIGGERING><SHORT-NAME>OfPdu</SHORT-NAME>{PDU_PORT}</PDU-TRIGGERING>"),
+        ("</FRAME-PORT>", f"</FRAME-PORT>{PDU_OUT}"),
+    ],
+    "a length of the system's signal": [
+        ("y</SHORT-NAME><LENGTH>8</LENGTH>", 'y</SHORT-NAME><SYSTEM-SIGNAL-REF DEST="SYSTEM-SIGNAL">/P/Y</SYSTEM-SIGNAL-REF>'),
+        ("</ELEMENTS>", "<SYSTEM-SIGNAL><SHORT-NAME>Y</SHORT-NAME><LENGTH>8</LENGTH></SYSTEM-SIGNAL></ELEMENTS>"),
+    ],
+}
+
+
+class OtherWords(FileCase):
+    """What AUTOSAR tells in several ways is read in each; special data that contradicts the file is noted."""
+
+    def test_words(self):
+        _, first = self.read(TYPED, {})
+        for name, changes in OTHER_WORDS.items():
+            text = TYPED
+            for old, new in changes:
+                self.see(f"{name}: {old} is there", 1, text.count(old))
+                text = text.replace(old, new)
+            _, proposal = self.read(text, {})
+            self.see(f"the plan with other {name}", first.plan, proposal.plan)
+            self.see(f"what other {name} leave out", [], [note for note in proposal.notes if note.kind != "not kept"])
+
+    def test_flags(self):
+        """What a triggering says of its payload the register has no word for."""
+        for tag in "PAYLOAD-PREAMBLE-INDICATOR", "ALLOW-DYNAMIC-L-SDU-LENGTH":
+            for text, count in ("true", 1), ("1", 1), ("false", 0), ("0", 0):
+                flag = f"<{tag}>{text}</{tag}></FLEXRAY-FRAME-TRIGGERING>"
+                _, proposal = self.read(TYPED.replace("</FLEXRAY-FRAME-TRIGGERING>", flag), {})
+                notes = [note for note in proposal.notes if tag in note.why and note[:2] == ("not kept", "/P/C/A/T")]
+                self.see(f"notes of {flag}", count, len(notes))
+
+    def test_text_beside(self):
+        """Text between elements says nothing in AUTOSAR. It is noted, wherever it stands."""
+        for text in TYPED.replace("<ECU-INSTANCE>", "<ECU-INSTANCE>a remark"), TYPED.replace("</ECU-INSTANCE>", "a remark</ECU-INSTANCE>"):
+            _, proposal = self.read(text, {})
+            self.see("a note", True, ("not kept", "text beside the elements of ECU-INSTANCE", "1 in the file") in proposal.notes)
+
+    def test_apart(self):
+        """Special data may say that a frame is placed apart on A and on B. Of one that is sent on A alone that is noted."""
+        apart = '<SHORT-NAME>f</SHORT-NAME><ADMIN-DATA><SDGS><SDG GID="slotplan"><SD GID="apart">2 1 4</SD></SDG></SDGS></ADMIN-DATA>'
+        _, proposal = self.read(TYPED.replace("<SHORT-NAME>f</SHORT-NAME>", apart), {})
+        self.see("placements", (Placement(2, "A", 1, 4),), proposal.plan.frames[0].placements)
+        self.see("a note", True, ("not kept", "/P/f: apart 2 1 4", "it is not sent so on A and on B") in proposal.notes)
+
+    def test_idle(self):
+        """Grants that no frame uses: of a slot that is free, of those that the cluster has not, and of one in which another ECU sends."""
+        told = lambda name, *grants: "".join([f'<SD GID="supplier">{name}</SD>', *(f'<SD GID="grant">{grant}</SD>' for grant in grants)])
+        other = between("<ECU-INSTANCE>", "<FLEXRAY-FRAME>").replace(">n1<", ">n2<").replace(told("s1"), told("s2", "2 A", "4 A"))
+        text = TYPED.replace(told("s1"), told("s1", "3 A", "5 A", "0 A", "3 B", "4 A")).replace("<FLEXRAY-FRAME>", f"{other}<FLEXRAY-FRAME>")
+        connector = between("<COMMUNICATION-CONNECTOR-REF-CONDITIONAL>", "</COMM-CONNECTORS>")
+        _, proposal = self.read(text.replace(connector, connector + connector.replace("/n1/", "/n2/")), {})
+        self.see("grants", (Grant(2, "A", "s1", "n1"), Grant(3, "A", "s1", "n1"), Grant(4, "A", "s1", "n1")), proposal.plan.grants)
+        left = [(f"grant of slot {slot} to /P/n1", "the cluster has no such slot") for slot in ("0 on A", "3 on B", "5 on A")]
+        left += [(f"grant of slot {slot} on A to /P/n2", "s1.n1 has it") for slot in (2, 4)]
+        self.see("left out", sorted(left), sorted((note.what, note.why) for note in proposal.notes if note.kind == "left out"))
+
+
 class Foreign(FileCase):
     """A description as another tool writes it becomes these rows, and these notes."""
 

@@ -3,7 +3,9 @@
 Without it these tests are skipped, and that is no failure."""
 import random
 import re
+import xml.etree.ElementTree as ET
 from dataclasses import replace
+from itertools import combinations
 
 from clients.slotplan_plans.autosar import writing
 from clients.slotplan_plans.bits import bits
@@ -125,6 +127,28 @@ class Examples(OutsideCase):
 
     def tried(self, cluster, requests, variant):
         self.agrees(self.plan_of(cluster, requests, variant))
+
+
+class Order(OutsideCase):
+    """Elements stand in the order in which descriptions by other tools have them, which are of CAN and Ethernet.
+
+    What clusters, channels, connectors, frames and triggerings share comes from one class of AUTOSAR, whatever the bus."""
+
+    def pairs(self, path):
+        """Each kind of element with two kinds that it has, the first before the second."""
+        kind = lambda element: re.sub("^(CAN|ETHERNET)-", "FLEXRAY-", element.tag.rpartition("}")[2])
+        for element in ET.parse(path).getroot().iter():
+            yield from ((kind(element), *pair) for pair in combinations(dict.fromkeys(map(kind, element)), 2))
+
+    def test_examples(self):
+        others = {pair for path in canmatrix_there.files() for pair in self.pairs(path)}
+        others -= {(kind, second, first) for kind, first, second in others}
+        ours = set()
+        for name, cluster, requests in examples():
+            for variant in VARIANTS.get(name, ()):
+                ours |= set(self.pairs(self.described(self.plan_of(cluster, requests, variant))))
+        self.see("pairs that others have too", True, len(ours & others) > 70)
+        self.see("pairs that others have the other way round", [], sorted(it for it in ours if (it[0], it[2], it[1]) in others))
 
 
 class Wrong(OutsideCase):

@@ -4,7 +4,10 @@ What is wanted was typed by hand."""
 import os
 import subprocess
 import sys
+from contextlib import contextmanager
 from dataclasses import replace
+from http.server import BaseHTTPRequestHandler, HTTPServer
+from threading import Thread
 
 from clients import archive
 from clients.slotplan_plans.comparing import differences
@@ -136,6 +139,34 @@ class Changing(Case):
             self.see(f"no plan with {changed}", True, True)
 
 
+class Pages(BaseHTTPRequestHandler):
+    """A server that is none of a register: it answers each request with a page on which to log in."""
+
+    TEXT = b"<html>\n<body>Who are you?</body>\n</html>\n"
+
+    def do_GET(self):
+        self.send_response(200)
+        self.send_header("Content-Length", str(len(self.TEXT)))
+        self.end_headers()
+        self.wfile.write(self.TEXT)
+
+    def log_message(self, *words):
+        pass
+
+
+@contextmanager
+def pages():
+    """The port of such a server."""
+    with HTTPServer(("127.0.0.1", 0), Pages) as server:
+        thread = Thread(target=server.serve_forever, kwargs={"poll_interval": 0.01})
+        thread.start()
+        try:
+            yield server.server_port
+        finally:
+            server.shutdown()
+            thread.join()
+
+
 class Ends(ClientCase):
     """What is wrong is told in a line, with status 2; a key is read from a file or standard input, and nothing shows it."""
 
@@ -158,6 +189,19 @@ class Ends(ClientCase):
         self.stops("none.db: there is no such file", "table", "none.db", "v1", "nodes")
         self.stops("the program none cannot be started: No such file or directory; --program names another",
                    "table", "car.db", "v1", "nodes", "--program", "none", program=False)
+
+    def test_no_register(self):
+        """Another server answers, another program, or nobody can be at an address."""
+        no_report = "what SOURCE tells is no report of a register"
+        self.has("integrator.key", "integrator1\n")
+        with pages() as port:
+            for words in ("table", f"http://127.0.0.1:{port}", "v1", "nodes"), ("dump", f"http://127.0.0.1:{port}", "a.script", "--new-keys"):
+                self.stops(no_report, *words, "--key", "integrator.key")
+        self.has("greets", "#!/bin/sh\nread request\necho Good day\n")
+        (self.folder / "greets").chmod(0o700)
+        self.stops(no_report, "table", "car.db", "v1", "nodes", "--program", "./greets", program=False)
+        self.stops("http://[::1: Invalid IPv6 URL", "table", "http://[::1", "v1", "nodes", "--key", "integrator.key")
+        self.see("no script", False, (self.folder / "a.script").exists())
 
     def test_keys(self):
         """Of a server."""

@@ -2,6 +2,7 @@
 
 What is wanted was typed by hand."""
 import random
+import tomllib
 from unittest.mock import patch
 
 from clients.slotplan_plans.arranging import steps_to
@@ -12,7 +13,9 @@ from clients.slotplan_plans.sources import Server
 from clients.slotplan_plans.tables import grants_of, nodes_of
 from tests.lib.case import Case
 from tests.lib.made import CLUSTER, cluster_file
+from tests.lib.plans import examples
 from tests.lib.plans_client import ClientCase, TypedSource, ended
+from tests.lib.program import ran
 
 DONE = '{"ok":"done"}'
 REQUESTS = """\
@@ -39,6 +42,8 @@ PLAN = {
 NODES = "supplier,node\ns1,n1\ns1,n2\ns2,n1\n"
 HELD = "slot,channel,supplier,node\n1,A,s1,n1\n1,B,s1,n1\n2,A,s2,n1\n2,B,s2,n1\n"
 HINT = "; nothing was sent: --do sends it"
+# The request for slot 2 on A, where `n2` of `s1` is to have it.
+GRANT = '{"do":"grant","variant":"v1","slot":2,"channel":"A","supplier":"s1","node":"n2"}'
 
 
 def tables(folder, nodes=None, grants=None):
@@ -210,6 +215,25 @@ class Sending(Arranging):
         self.stops("- GRANT 0002 A n1 s2: 3 NotYours; 0 of 4 were done, and the same call goes on", *words, "s1.key")
         self.see("the grants stay", 4, len(self.held()[1]))
 
+    def test_refused_between(self):
+        """Somebody else takes a slot before its request comes: that is refused, and ends the call. The same call does the rest."""
+        words = "v1", *self.tables(NODES, self.WANTED), "--key", "integrator.key", "--do"
+        theirs, reply = GRANT.replace("n2", "n1").replace("s1", "s2"), Server.reply
+
+        def between(server, method, path, body=None):
+            if body == GRANT:
+                self.see("somebody else is first", DONE, reply(server, "POST", "commands", theirs)[-1].strip())
+            return reply(server, method, path, body)
+
+        with self.served() as (_, port):
+            words = "arrange", f"http://127.0.0.1:{port}", *words
+            with patch.object(Server, "reply", between):
+                done = "- GRANT 0002 A n1 s2\n- GRANT 0002 B n1 s2\n+ NODE n2 s1\n"
+                self.stops("+ GRANT 0002 A n2 s1: 24 Taken; 3 of 5 were done, and the same call goes on", *words, written=done)
+            left = "- GRANT 0002 A n1 s2\n+ GRANT 0002 A n2 s1\n+ GRANT 0003 B n1 s2\nrevocations: 1, nodes: 0, grants: 2, refused: 0\n"
+            self.writes(left, *words)
+            self.is_arranged(words[1], "--key", "integrator.key")
+
     def test_stop_between(self):
         """The server ends behind some of the requests; the same call does the rest."""
         words = *self.tables(NODES, self.WANTED), "--key", "integrator.key", "--do"
@@ -223,6 +247,32 @@ class Sending(Arranging):
         left = "+ NODE n2 s1\n+ GRANT 0002 A n2 s1\n+ GRANT 0003 B n1 s2\nrevocations: 0, nodes: 1, grants: 2, refused: 0\n"
         self.writes(left, "arrange", "car.db", "v1", *words)
         self.is_arranged()
+
+
+class Examples(ClientCase):
+    """The tables of each variant of each example give a register of the same suppliers its nodes and grants."""
+
+    seconds = 10
+
+    def test_examples(self):
+        for name, cluster, requests in examples():
+            key = tomllib.loads(cluster)["integrator"]
+            joined = "".join(f"{line}\n" for line in requests.splitlines() if '"do":"add_supplier"' in line)
+            self.made_of(f"{cluster}---\n{requests}", db=f"{name}.db")
+            self.has("integrator.key", key)
+            for variant, *_ in self.rows("SELECT name FROM variants ORDER BY name", f"{name}.db"):
+                of_variant = f'{joined}{key} {{"do":"open_variant","variant":"{variant}"}}\n'
+                self.made_of(f"{cluster}---\n{of_variant}", db=f"{name}_{variant}.db")
+                self.comes_back(f"{name}.db", f"{name}_{variant}.db", variant)
+
+    def comes_back(self, db, again, variant):
+        told = {kind: self.client("table", db, variant, kind)[1] for kind in ("nodes", "grants")}
+        self.see(f"{db} {variant} has rows", True, all(text.count("\n") > 1 for text in told.values()))
+        words = *tables(self.folder, **told), "--do", "--key", "integrator.key"
+        status, written, said = self.client("arrange", again, variant, *words)
+        self.see(f"{db} {variant} is arranged", (0, "", True), (status, said, written.endswith("refused: 0\n")))
+        for report in ("nodes", again), ("grants", again, variant):
+            self.see(f"{db} {variant}: {report[0]}", *(ran([report[0], file, *report[2:]], self.folder) for file in (db, again)))
 
 
 class Foreseen(Arranging):

@@ -1,5 +1,6 @@
 """Registers as scripts, by `slotplan-plans dump`: one typed by hand, and others that are dumped, made anew, and tell all actors the same."""
 import json
+import os
 import random
 import signal
 import sqlite3
@@ -8,6 +9,8 @@ from contextlib import closing
 from unittest.mock import patch
 
 from bench.scripts import Plan, cluster_file
+from clients.slotplan_plans.dumping import blocks
+from clients.slotplan_plans.sources import Server
 from tests.lib import schema1
 from tests.lib.case import WHOLE
 from tests.lib.each import each
@@ -317,7 +320,29 @@ class Faults(Dumps):
         self.made_of(FIRST.decode())
         self.none("none/a.script: No such file or directory", "car.db", "none/a.script")
         (self.folder / "taken").mkdir()
-        self.none("taken: Is a directory", "car.db", "taken")
+        (self.folder / "link").symlink_to("/dev/stdout")
+        os.mkfifo(self.folder / "pipe")
+        for name in "taken", "link", "pipe":
+            self.none(f"{name}: it is there, and is no regular file; nothing is written", "car.db", name)
+        before = (self.folder / "car.db").read_bytes()
+        self.none("car.db: it is a database, which may be a register; nothing is written", "car.db", "car.db")
+        self.see("the register's bytes", True, before == (self.folder / "car.db").read_bytes())
+        self.see("the link", True, (self.folder / "link").is_symlink())
+
+    def test_changed(self):
+        """A server's nodes or variants may change while it is read. Then there is no script."""
+        self.made_of(FIRST.decode())
+        self.has("integrator.key", "integrator1\n")
+
+        def between(*given):
+            with Server(url, "integrator1").asked() as ask:
+                self.see("a node comes", {"ok": "done"}, ask({"do": "add_node", "supplier": "s2", "node": "late"}))
+            yield from blocks(*given)
+
+        with self.served() as (_, port), patch("clients.slotplan_plans.dumping.blocks", between):
+            url = f"http://127.0.0.1:{port}"
+            self.stops(f"{url} was changed while it was read; dump it again", "dump", url, "a.script", "--new-keys", "--key", "integrator.key")
+        self.see("no script", False, (self.folder / "a.script").exists())
 
     def test_locked(self):
         """Another program has the file."""

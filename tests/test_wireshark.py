@@ -7,21 +7,23 @@ import re
 import subprocess
 import sys
 
+from clients.slotplan_plans.bits import bits
+from clients.slotplan_plans.plan import Signal
+from clients.slotplan_plans.sources import RegisterFile, Server
 from clients.wireshark import capture, tables
-from clients.wireshark.packing import packed, places
-from clients.wireshark.plan import Cell, Frame, Plan, Signal, read
-from clients.wireshark.sources import RegisterFile, Server
+from clients.wireshark.packing import packed
+from clients.wireshark.plan import Cell, Frame, Plan, read
 from tests.lib import tshark
 from tests.lib.case import Case
 from tests.lib.following import THERE, follow
 from tests.lib.made import CLUSTER, DONE, IMPORT_ROWS, LARGE, SIGNALS, cluster_file
 from tests.lib.plans import Register, examples
-from tests.lib.program import SECONDS, TOP, program
+from tests.lib.program import SECONDS, TOP, program, ran
 from tests.lib.registers import RegisterCase
 
 PAGE = "clients/wireshark/README.md"
 FIGURES = {"payload_words": 8, "cycles": 64, "macroticks_per_cycle": 100, "slot_macroticks": 10}
-Y, X = Signal("y", 3, 8, "big"), Signal("x", 4, 8, "little")
+Y, X = Signal(3, 8, "big", "y"), Signal(4, 8, "little", "x")
 
 
 def one_frame(signals):
@@ -56,7 +58,7 @@ class Tables(Case):
     def test_one_bit_back(self):
         """Bit 0 and bit 7 of a byte both begin it. A width of 4294967295 would mean none, so the way back begins with a bit forwards."""
         self.items(
-            [Signal("a", 0, 1, "little"), Signal("b", 7, 1, "big")],
+            [Signal(0, 1, "little", "a"), Signal(7, 1, "big", "b")],
             ("a", "FALSE", 1, "FALSE"),
             ("_1", "FALSE", 1, "TRUE"),
             ("_2", "FALSE", 4294967294, "TRUE"),
@@ -65,8 +67,8 @@ class Tables(Case):
         )
 
     def test_no_way(self):
-        self.items([Signal("a", 0, 5, "little"), Signal("b", 5, 11, "little")], ("a", "FALSE", 5, "FALSE"), ("b", "FALSE", 11, "FALSE"))
-        self.items([Signal("b", 7, 16, "big")], ("b", "TRUE", 16, "FALSE"))
+        self.items([Signal(0, 5, "little", "a"), Signal(5, 11, "little", "b")], ("a", "FALSE", 5, "FALSE"), ("b", "FALSE", 11, "FALSE"))
+        self.items([Signal(7, 16, "big", "b")], ("b", "TRUE", 16, "FALSE"))
         self.items([], ("_0", "FALSE", 16, "TRUE"))
 
     def test_names_and_cells(self):
@@ -120,7 +122,7 @@ supplier02 {"do":"add_signal","variant":"v1","frame":"f","signal":"y","start":0,
         "static_slots": 4, "slot_macroticks": 10, "dynamic_macroticks": 40, "symbol_macroticks": 10, "idle_macroticks": 10,
         "macroticks_per_cycle": 100, "payload_words": 1, "cycles": 64,
     }
-    SIGNALS = {Frame("s1", "f"): [Y, X], Frame("s1", "g"): [], Frame("s2", "f"): [Signal("y", 0, 1, "little")]}
+    SIGNALS = {Frame("s1", "f"): [Y, X], Frame("s1", "g"): [], Frame("s2", "f"): [Signal(0, 1, "little", "y")]}
     CELLS = {**{Cell(cycle, 3, channel): Frame("s1", "f") for cycle in (5, 37) for channel in "AB"}, Cell(63, 4, "B"): Frame("s2", "f")}
 
     def setUp(self):
@@ -137,9 +139,9 @@ supplier02 {"do":"add_signal","variant":"v1","frame":"f","signal":"y","start":0,
 
     def test_file(self):
         file = self.folder / "car.db"
-        self.is_read(RegisterFile(self.program, file), "s1", "s2")
-        self.is_read(RegisterFile(self.program, file, "s1"), "s1")
-        self.is_read(RegisterFile(self.program, file, "s2"), "s2")
+        self.is_read(RegisterFile(file, self.program), "s1", "s2")
+        self.is_read(RegisterFile(file, self.program, "s1"), "s1")
+        self.is_read(RegisterFile(file, self.program, "s2"), "s2")
 
     def test_server(self):
         with self.served() as (_, port):
@@ -147,6 +149,22 @@ supplier02 {"do":"add_signal","variant":"v1","frame":"f","signal":"y","start":0,
             self.is_read(Server(url, "integrator1"), "s1", "s2")
             self.is_read(Server(url, "supplier01"), "s1")
             self.is_read(Server(url + "/", "supplier02"), "s2")
+
+
+class Cells(RegisterCase):
+    """The cells of the examples' plans are those of the register's schedules."""
+
+    in_memory = True
+
+    def test_examples(self):
+        for name, cluster, requests in examples():
+            (self.folder / name).mkdir()
+            register = Register(self.folder / name, cluster, requests)
+            for variant in {request["variant"] for request in register.done("open_variant")}:
+                _, written, _ = ran(["schedule", "car.db", variant], self.folder / name)
+                rows = [line.split(" ") for line in written.decode().splitlines()]
+                wanted = {Cell(int(cycle), int(slot), channel): Frame(supplier, frame) for cycle, slot, channel, frame, _, supplier in rows}
+                self.see(f"{name} {variant}", wanted, read(RegisterFile(self.folder / name / "car.db", self.program), variant).cells)
 
 
 class Commands(RegisterCase):
@@ -185,8 +203,8 @@ class Commands(RegisterCase):
         file = self.folder / "car.db", "--program", self.program
         self.makes(*file)
         self.makes(*file, "--supplier", "s1")
-        self.has_none('{"no":10,"refused":"NoVariant"}', *file, variant="v9")
-        self.has_none('{"no":14,"refused":"NoSupplier"}', *file, "--supplier", "s9")
+        self.has_none("there is no variant v9; there are: v1", *file, variant="v9")
+        self.has_none(f'{file[0]}: {{"no":14,"refused":"NoSupplier"}}', *file, "--supplier", "s9")
 
     def test_server(self):
         for name, line in ("integrator", "integrator1"), ("s1", "X-Office-Key: supplier01"), ("nobody", "nobody123"):
@@ -196,14 +214,17 @@ class Commands(RegisterCase):
             self.makes(url, "--key", self.folder / "integrator.key")
             self.makes(url, "--key", self.folder / "s1.key")
             self.makes(url, "--key", "-", given="supplier01\n")
-            self.has_none('401 Unauthorized {"no":2,"refused":"UnknownKey"}', url, "--key", self.folder / "nobody.key")
-            self.has_none('404 Not Found {"no":10,"refused":"NoVariant"}', url, "--key", self.folder / "s1.key", variant="v9")
+            self.has_none(f'{url}: 401 Unauthorized {{"no":2,"refused":"UnknownKey"}}', url, "--key", self.folder / "nobody.key")
+            self.has_none("there is no variant v9; there are: v1", url, "--key", self.folder / "s1.key", variant="v9")
 
     def test_capture(self):
         """`f1` is sent in the first cycle of 64, so twice in 65."""
         words = "capture", self.folder / "car.db", "v1", self.folder / "bus.pcap", "--program", self.program
         self.see("a capture", (0, "packets: 1\n", ""), self.client(*words))
         self.see("a capture of 65 cycles", (0, "packets: 2\n", ""), self.client(*words, "--cycles", "65"))
+        register = self.folder / "car.db"
+        said = f"python3 -m clients.wireshark: {register}: it is a database, which may be a register; nothing is written\n"
+        self.see("no capture in place of the register", (1, "", said), self.client(*words[:3], register, *words[4:]))
 
 
 class Page(Case):
@@ -229,7 +250,7 @@ class Decoded(Case):
         self.channels = "AB" if tshark.version() >= tshark.BOTH_CHANNELS else "A"
 
     def read(self, register, variant, supplier=None):
-        return read(RegisterFile(program(), register.folder / "car.db", supplier), variant)
+        return read(RegisterFile(register.folder / "car.db", program(), supplier), variant)
 
     def packets(self, plan, *, bus=None, cycles=64):
         """What is sent on a bus, each with what tshark says of it by the tables of this plan; on channel B only where tshark knows of it."""
@@ -276,7 +297,7 @@ class Decoded(Case):
     def test_names(self):
         """Names that are long, that differ in case alone, that Wireshark has itself, and those of its fields of raw values and trees."""
         names = "payload", "unparsed", "name", "x", "X", "x_raw", "x_tree", "raw", "_".join("abcdefghijklmnop") + "q"
-        laid = [Signal(name, 8 * place, 8, "little") for place, name in enumerate(names)]
+        laid = [Signal(8 * place, 8, "little", name) for place, name in enumerate(names)]
         frames = [Frame(supplier, name) for supplier in ("payload", "Payload", "s" * 32) for name in names]
         plan = Plan(FIGURES, {frame: laid for frame in frames}, {Cell(number, 1, "A"): frame for number, frame in enumerate(frames)})
         self.agrees("names", plan)
@@ -292,7 +313,7 @@ class Decoded(Case):
         """The comparison is able to fail: where the table has a signal in the other order, values differ."""
         frame, cells = Frame("s1", "f"), range(64)
         plan = lambda signal: Plan(FIGURES, {frame: [signal]}, {Cell(cycle, 1, "A"): frame for cycle in cells})
-        pairs = self.packets(plan(Signal("x", 0, 16, "little")), bus=plan(Signal("x", 7, 16, "big")))
+        pairs = self.packets(plan(Signal(0, 16, "little", "x")), bus=plan(Signal(7, 16, "big", "x")))
         self.see("values that differ", True, any(fields(it) != packet.fields for it, packet in pairs))
 
 
@@ -301,13 +322,13 @@ def fields(it):
     return {f"signal_pdu.{it.frame}.{name}": str(value) for name, value in it.values.items()}
 
 
-def dense(dice, bits, lengths):
+def dense(dice, width, lengths):
     """Signals in both orders that share no bit, as many as a frame may have or as are met in some tries."""
     used, found = set(), []
-    for number in range(4 * bits):
-        signal = Signal(f"x{number}", dice.randrange(bits), dice.choice(lengths), dice.choice(("little", "big")))
-        taken = set(places(signal))
-        if max(taken) < bits and not taken & used and len(found) < SIGNALS:
+    for number in range(4 * width):
+        signal = Signal(dice.randrange(width), dice.choice(lengths), dice.choice(("little", "big")), f"x{number}")
+        taken = set(bits(signal))
+        if max(taken) < width and not taken & used and len(found) < SIGNALS:
             found.append(signal)
             used |= taken
     return sorted(found, key=lambda signal: signal.start)

@@ -6,6 +6,9 @@ from pathlib import Path
 
 from .faults import Fault
 
+# How a file of SQLite begins.
+DATABASE = b"SQLite format 3\0"
+
 
 def key_in(path):
     """The key in the first line of a file, or of standard input where its name is `-`. The line may be a field for curl, as `X-Office-Key: KEY`."""
@@ -19,10 +22,25 @@ def key_in(path):
     return key
 
 
+def replaceable(path):
+    """The path, where nothing is there that has to stay: a database, which may be a register, a link, a folder, a device."""
+    path = Path(path)
+    try:
+        if path.is_symlink() or path.exists() and not path.is_file():
+            raise Fault(f"{path}: it is there, and is no regular file; nothing is written")
+        if path.exists():
+            with open(path, "rb") as file:
+                if file.read(len(DATABASE)) == DATABASE:
+                    raise Fault(f"{path}: it is a database, which may be a register; nothing is written")
+    except OSError as fault:
+        raise Fault(f"{path}: {fault.strerror}") from fault
+    return path
+
+
 @contextmanager
 def written(path, mode=0o600):
     """A text file that takes its name once it is written whole. With mode 0600 its owner alone may read it."""
-    path = Path(path)
+    path = replaceable(path)
     new = path.with_name(f"{path.name}.{os.getpid()}")
     try:
         with open(os.open(new, os.O_WRONLY | os.O_CREAT | os.O_EXCL, mode), "w", encoding="utf-8", newline="") as file:

@@ -1,6 +1,7 @@
 """Reads a variant from a file or a server: whatever a source tells is made a plan here, and nowhere else."""
 import csv
 from collections import defaultdict
+from contextlib import contextmanager
 from itertools import count
 
 from .faults import Fault
@@ -11,6 +12,16 @@ ROWS = 512
 ROWS_OF_A_FRAME = {"frames": 1, "placements": 8, "signals": 64}
 
 
+@contextmanager
+def understood():
+    """Whatever is told that is no report is a fault: another server may answer at an address, and another program than slotplan be named."""
+    try:
+        yield
+    except (ValueError, LookupError, csv.Error) as fault:
+        raise Fault("what SOURCE tells is no report of a register") from fault
+
+
+@understood()
 def read(source, variant):
     """The plan of a variant. A server tells it by several reports, so an open variant that is changed meanwhile may make none: then it is a fault."""
     with source.opened() as told:
@@ -23,6 +34,7 @@ def read(source, variant):
         return Plan(whole, known[variant], nodes(lines, whole), *rows(told, whole, variant), reader)
 
 
+@understood()
 def cluster(source):
     """The cluster's figures and its suppliers."""
     told = [line.split(" ") for line in source.cluster()]
@@ -30,17 +42,20 @@ def cluster(source):
     return Cluster(values["channels"], {key: int(values[key]) for key in FIGURES}, tuple(value for key, value in told if key == "supplier"))
 
 
+@understood()
 def variants(source):
     """The variants, by name."""
     told = (line.split(" ") for line in source.variants())
     return tuple(Variant(name, None if parent == "-" else parent, int(depth), state == "released") for name, parent, depth, state in told)
 
 
+@understood()
 def nodes(lines, whole):
     """The nodes, by supplier and name."""
     return tuple(Node(holder, name) for name, holder in with_supplier(split(lines), 1, whole))
 
 
+@understood()
 def rows(source, whole, variant):
     """The grants of a variant, and its frames with their rows."""
     records = lambda kind, width: with_supplier(exported(source, variant, kind), width, whole)

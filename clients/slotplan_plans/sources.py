@@ -116,7 +116,11 @@ class Server(Source):
     """A server of the register. It tells what the key's owner sees. The key goes to this host alone: a reply that leads elsewhere is a fault."""
 
     def __init__(self, url, key):
-        self.url, self.parts, self.key = url, urlsplit(url), key
+        self.url, self.key = url, key
+        try:
+            self.parts = urlsplit(url)
+        except ValueError as fault:
+            raise Fault(f"{url}: {fault}") from fault
 
     def reply(self, method, path, body=None):
         """The status of a reply, its reason, and its text."""

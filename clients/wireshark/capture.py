@@ -1,4 +1,6 @@
-"""A capture of a plan's bus: in each cycle the frames that the plan sends there, with values by chance. It is a pcap file of link type 210, that of FlexRay."""
+"""A capture of a plan's bus: in each cycle the frames that the plan sends there, with values by chance.
+
+It is a pcap file of link type 210, that of FlexRay."""
 import random
 import struct
 from itertools import groupby

@@ -1,4 +1,4 @@
-"""canmatrix, an outside reader of AUTOSAR: which python3 has it, and what it reads.
+"""canmatrix, an outside reader of AUTOSAR: which python3 has it, what it reads, and which descriptions by other tools it brings.
 
 The variable CANMATRIX names a python3; else this one is asked, and then the system's."""
 import json
@@ -22,6 +22,13 @@ def python():
         except OSError:
             continue
     return None
+
+
+def files():
+    """The descriptions by other tools that come with it."""
+    said = "import canmatrix, os; print(os.path.dirname(canmatrix.__file__))"
+    place = subprocess.run([python(), "-c", said], capture_output=True, text=True, timeout=SECONDS).stdout.splitlines()[-1]
+    return sorted(Path(place).glob("tests/*.arxml"))
 
 
 def reads(file, given=()):

@@ -98,6 +98,7 @@ def questions(answers_to, keys):
             yield from (ask(do, variant=variant, part=part) for do in EXPORTS for part in range(2))
             yield from (ask("diff", **{"variant": variant, "from": other}) for other in {parent, min(parents)} - {"-"})
             yield from (ask("layout", variant=variant, frame=frame) for _, frame, _, holder in frames[variant] if supplier in ("", holder))
+            yield from (ask("room", variant=variant, frame=frame, repetition=2) for _, frame, _, holder in frames[variant] if supplier == holder)
 
 
 def asked(questions, keys):

@@ -92,9 +92,18 @@ def ecus(given):
     csv.writer(sys.stdout, lineterminator="\n").writerows([TABLE, *((path, ecu.supplier or "") for path, ecu in sorted(found.ecus.items()))])
 
 
+def suppliers_in(path):
+    """The suppliers in a table, by the paths or names of their ECUs."""
+    found = {}
+    for line, (ecu, supplier) in rows_of(path, TABLE):
+        if found.setdefault(ecu, supplier) != supplier:
+            raise Fault(f"{path}: line {line}: {ecu!a:.200} stands above with another supplier")
+    return found
+
+
 def proposed(given, variant=None):
     """What was found in the files, and what is proposed."""
-    table = {path: supplier for _, (path, supplier) in rows_of(given.suppliers, TABLE)} if given.suppliers else {}
+    table = suppliers_in(given.suppliers) if given.suppliers else {}
     found = reading.read(given.files, given.cluster)
     return found, Proposal(found, table, variant)
 

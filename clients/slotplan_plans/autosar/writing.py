@@ -54,7 +54,7 @@ def system(markup, plan, names, options):
             for kind, path in members(plan, names, options):
                 with markup.of("FIBEX-ELEMENT-REF-CONDITIONAL"):
                     markup.ref("FIBEX-ELEMENT-REF", kind, path)
-        markup.leaf("SYSTEM-VERSION", "1.0")
+        markup.leaf("SYSTEM-VERSION", "1.0.0")
 
 
 def members(plan, names, options):
