@@ -22,6 +22,8 @@ POLICY = (
     "default-src 'none'; script-src {script}; style-src {style}; connect-src 'self'; img-src data:; base-uri 'none'; form-action 'none'; "
     "frame-ancestors 'none'; require-trusted-types-for 'script'; trusted-types 'none'"
 )
+# A longer constant cannot be named in a contract.
+MOST_BYTES = 149_500
 HEAD = "//! The planner's page and its content security policy. `make page` makes this file of the sources in page/.\n"
 
 
@@ -100,6 +102,8 @@ def page():
     text = put(put(text, STYLE, f"<style>{style}</style>"), SCRIPT, f"<script>{code}</script>")
     if not text.isascii():
         raise Fault("the page is not ASCII")
+    if len(text) > MOST_BYTES:
+        raise Fault(f"the page has {len(text):,} bytes, more than {MOST_BYTES:,}: the prover takes no longer constant")
     return text, POLICY.format(script=digest(code), style=digest(style))
 
 

@@ -5,6 +5,8 @@ import re
 REGEX = re.compile(r"/(?![*/])(?:[^/\\\[\n]|\\.|\[(?:[^\]\\\n]|\\.)*\])+/[a-z]*")
 TOKEN = re.compile(r"""//[^\n]*|"(?:[^"\\\n]|\\.)*"|'(?:[^'\\\n]|\\.)*'|\s+|[\w$]+|.""")
 VALUE = re.compile(r'''[\w$)\]}"'`]$''')
+# Behind these no end of a line is needed: what follows cannot go on with what came before.
+ENDS = {";", "{", ","}
 BEFORE_REGEX = {"return", "typeof", "case", "of", "in"}
 
 
@@ -66,6 +68,8 @@ def lean_script(code):
         if token.isspace():
             blank = "\n" if "\n" in token + blank else " "
             continue
+        if made and blank == "\n" and made[-1] in ENDS:
+            blank = ""
         if made and (blank == "\n" or blank and is_needed(made[-1], token)):
             made.append(blank)
         blank = ""
