@@ -60,4 +60,4 @@ module _ {S : Type 0} (remaining contents : S → Option (List ℕ)) where
   Goes None None = Unit {0}
   Goes (Some old) None = Unit {0}
   Goes None (Some new) = ⊥
-  Goes (Some old) (Some new) = IsMoved remaining contents old.link new.link × Follows old.stage new.stage
+  Goes (Some old) (Some new) = IsMoved remaining contents old.link new.link new.stage × Follows old.stage new.stage

@@ -14,6 +14,10 @@ abbrev pub known_of : Option ℕ → ℕ
 known_of (Some bytes) = bytes
 known_of None = 0
 
+-- Bytes were read of a stream and let go.
+abbrev pub LetsGo : Option (List ℕ) → Option (List ℕ) → Type 0
+LetsGo input left = (lost : List ℕ) × Consumes input left lost
+
 -- These bytes were read of a stream, and stand behind what had come. Only where gathering failed may the last of them be lost.
 pub record Gathers (input left : Option (List ℕ)) (came now : List ℕ) (heard : Heard) : Type 0 where
   pub kept : List ℕ

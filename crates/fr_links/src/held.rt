@@ -30,6 +30,8 @@ pub struct Held<S> {
 
 impl<S: Wire> Held<S> {
     ghost use Rattle.std.specs.Bool.{OnFalse, OnTrue};
+    ghost use Rattle.fr_links.specs.declared.stage.Ending.TheVariants.{Failed};
+    ghost use Rattle.fr_links.specs.declared.stage.Stage.TheVariants.{Ready};
     ghost use Rattle.fr_links.specs.Connection.{Follows, IsAnswered, IsBegun, IsMoved, IsReady, IsUnanswered, due_of};
 
     /// A connection whose request is awaited until then. What lies there is read at once; where more has to come, the poll tells
@@ -42,7 +44,7 @@ impl<S: Wire> Held<S> {
         registry: &Registry,
         key: usize,
     ) -> Held<S>
-        ensures begun { IsBegun S.remaining S.contents stream result.link }
+        ensures begun { IsBegun S.remaining S.contents stream result.link result.stage }
         ensures stage { IsUnanswered result.stage }
     {
         let mut held = Held {
@@ -66,7 +68,7 @@ impl<S: Wire> Held<S> {
     /// From now on it is to be answered as one whose time is over.
     pub fn give_up(&mut self)
         ensures link { self.new.link ≡ self.old.link }
-        ensures stage { IsReady self.new.stage }
+        ensures stage { self.new.stage ≡ Ready Failed }
     {
         self.stage = Stage::Ready {
             ending: Ending::Failed,
@@ -106,7 +108,7 @@ impl<S: Wire> Held<S> {
 
     /// Reads what lies there. Gives whether its request is to be answered from now on.
     pub fn hear<J: Judge>(&mut self, judge: &J) -> bool
-        ensures moved { IsMoved S.remaining S.contents self.old.link self.new.link }
+        ensures moved { IsMoved S.remaining S.contents self.old.link self.new.link self.new.stage }
         ensures ready { OnTrue result (IsReady self.new.stage) }
         ensures stage { OnFalse result (self.new.stage ≡ self.old.stage) }
     {
@@ -123,7 +125,7 @@ impl<S: Wire> Held<S> {
     /// Sends what is to go out, and then reads what still comes, where its request was answered. Gives whether something is left
     /// to do.
     pub fn move_on(&mut self, now: Instant) -> bool
-        ensures moved { IsMoved S.remaining S.contents self.old.link self.new.link }
+        ensures moved { IsMoved S.remaining S.contents self.old.link self.new.link self.new.stage }
         ensures stage { Follows self.old.stage self.new.stage }
     {
         match self.stage {
@@ -137,7 +139,7 @@ impl<S: Wire> Held<S> {
     // Sends what is to go out, and then reads what still comes.
     fn reply(&mut self, asked: bool, now: Instant) -> bool
         requires { IsAnswered self.old.stage }
-        ensures moved { IsMoved S.remaining S.contents self.old.link self.new.link }
+        ensures moved { IsMoved S.remaining S.contents self.old.link self.new.link self.new.stage }
         ensures stage { IsAnswered self.new.stage }
     {
         match self.link.send() {
@@ -152,7 +154,7 @@ impl<S: Wire> Held<S> {
 
     // Reads what still comes, so many bytes at most.
     fn rest(&mut self, asked: bool, room: usize) -> bool
-        ensures moved { IsMoved S.remaining S.contents self.old.link self.new.link }
+        ensures moved { IsMoved S.remaining S.contents self.old.link self.new.link self.new.stage }
         ensures outbox { self.new.link.outbox ≡ self.old.link.outbox }
         ensures contents { Keeps (S.contents self.old.link.stream)
             (S.contents self.new.link.stream) }

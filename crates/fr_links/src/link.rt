@@ -1,7 +1,7 @@
 //! One connection: its stream, what came in on it, and what is still to go out.
 ghost use Rattle.std.specs.Prelude.{◌≡◌, ◌≤◌, [], length, take, IfOk, MatchResult};
 ghost use Rattle.std.specs.Io.KnownBytes.{Keeps};
-ghost use Rattle.fr_links.specs.Gathering.{Gathers};
+ghost use Rattle.fr_links.specs.Gathering.{Gathers, LetsGo};
 
 use crate::heard::{Heard, Sent};
 use crate::inbox::Inbox;
@@ -24,7 +24,7 @@ pub struct Link<S> {
 }
 
 impl<S: Wire> Link<S> {
-    ghost use Rattle.fr_links.specs.Connection.{IsMoved, Writes, due_of, early_of};
+    ghost use Rattle.fr_links.specs.Connection.{Writes, due_of, early_of};
     ghost use Rattle.fr_links.specs.Sending.{Rests};
 
     /// A connection on which nothing came yet.
@@ -115,7 +115,8 @@ impl<S: Wire> Link<S> {
     /// Reads what still comes, and lets it go: so many bytes at most. Gives how many may still come; none where the input has
     /// ended, or more came.
     pub fn let_go(&mut self, room: usize) -> Option<usize>
-        ensures moved { IsMoved S.remaining S.contents self.old self.new }
+        ensures lost { LetsGo (S.remaining self.old.stream) (S.remaining self.new.stream) }
+        ensures inbox { self.new.inbox ≡ self.old.inbox }
         ensures outbox { self.new.outbox ≡ self.old.outbox }
         ensures contents { Keeps (S.contents self.old.stream) (S.contents self.new.stream) }
     {
