@@ -1,7 +1,7 @@
 //! One connection: its stream, what came in on it, and what is still to go out.
-ghost use Rattle.std.specs.Prelude.{◌≡◌, ◌≤◌, [], length, take, IfOk, MatchResult};
+ghost use Rattle.std.specs.Prelude.{◌≡◌, ◌≤◌, [], length, take, vec_len, IfOk, MatchResult, None};
 ghost use Rattle.std.specs.Io.KnownBytes.{Keeps};
-ghost use Rattle.fr_links.specs.Gathering.{Gathers, LetsGo};
+ghost use Rattle.fr_links.specs.Gathering.{Gathers, Leaves, LetsGo, room_of};
 
 use crate::heard::{Heard, Sent};
 use crate::inbox::Inbox;
@@ -31,6 +31,7 @@ impl<S: Wire> Link<S> {
     pub fn new(alloc: Global, stream: S) -> Link<S>
         ensures stream { result.stream ≡ stream }
         ensures came { result.inbox.came.items ≡ [] }
+        ensures open { result.inbox.need ≡ None }
         ensures due { due_of result.outbox ≡ [] }
         ensures early { early_of result.outbox ≡ [] }
     {
@@ -45,6 +46,7 @@ impl<S: Wire> Link<S> {
     pub fn hear<J: Judge>(&mut self, judge: &J) -> Heard
         ensures gathered { Gathers (S.remaining self.old.stream) (S.remaining self.new.stream)
             self.old.inbox.came.items self.new.inbox.came.items result }
+        ensures room { Leaves result (room_of self.new.inbox.need (vec_len self.new.inbox.came)) }
         ensures written { Writes S.contents self.old self.new [] }
     {
         let heard = self.inbox.hear(&mut self.stream, judge);
