@@ -4,11 +4,13 @@ use Rattle.std.proofs.KnownBytes.{Appends-kept, Consumes-kept, Keeps-refl}
 use Rattle.std.proofs.lemmas.Grind.{common_steps}
 use Rattle.std.specs.Io.KnownBytes.{Appends, Consumes, Keeps}
 use Rattle.fr_links.proofs.Moved.{commute, rests}
-use Rattle.fr_links.specs.Connection.{IsMoved, Writes, due_of, early_of}
+use Rattle.fr_links.specs.Connection.{Follows, IsMoved, LosesNone, Writes, due_of, early_of}
 use Rattle.fr_links.specs.Gathering.{Gathers}
 use Rattle.fr_links.specs.Sending.{GoesOut, Moves}
 use Rattle.fr_links.specs.declared.heard.Heard.{Heard}
 use Rattle.fr_links.specs.declared.link.Link.{Link}
+use Rattle.fr_links.specs.declared.stage.Stage.{Stage}
+use Rattle.fr_links.specs.declared.stage.Stage.TheVariants.{Asking, Ready, Replying, Resting}
 use Rattle.fr_links.specs.declared.outbox.Outbox.{Outbox}
 
 appends_after : (a b c : Option (List ℕ)) (bs : List ℕ) → Keeps a b → Appends b c bs → Appends a c bs
@@ -66,61 +68,85 @@ goes_out held now before due after left g stays both = record {
       ∙ ap (λ t. t ++ after) (sym (append-nil due));
 }
 
+-- none is lost at any stage
+pub loses_nothing : (stage : Stage) (lost : List ℕ) → lost ≡ [] → LosesNone stage lost
+loses_nothing Asking lost none = none
+loses_nothing (Ready ending) lost none = λ _. none
+loses_nothing (Replying asked) lost none = tt
+loses_nothing (Resting asked room) lost none = tt
+
+-- what was lost by a stage is so by one that follows
+pub loses_on : (old new : Stage) (lost : List ℕ) → Follows old new → LosesNone old lost → LosesNone new lost
+loses_on Asking new lost follows none = loses_nothing new lost none
+loses_on (Ready ending) new lost follows none = subst (λ stage. LosesNone stage lost) (sym follows) none
+loses_on (Replying asked) Asking lost follows none = absurd follows
+loses_on (Replying asked) (Ready ending) lost follows none = absurd follows
+loses_on (Replying asked) (Replying again) lost follows none = tt
+loses_on (Replying asked) (Resting again room) lost follows none = tt
+loses_on (Resting asked room) Asking lost follows none = absurd follows
+loses_on (Resting asked room) (Ready ending) lost follows none = absurd follows
+loses_on (Resting asked room) (Replying again) lost follows none = tt
+loses_on (Resting asked room) (Resting again left) lost follows none = tt
+
 module _ {S : Type 0} (remaining contents : S → Option (List ℕ)) where
-  pub moved_gathers : (old new : Link S) (heard : Heard) → Gathers (remaining old.stream) (remaining new.stream) old.inbox.came.items new.inbox.came.items heard
-      → Writes contents old new [] → IsMoved remaining contents old new
-  moved_gathers old new heard g written = record { kept = g.kept; lost = g.lost; consumed = g.consumed; gathered = g.gathered; written = written }
+  pub moved_gathers : (old new : Link S) (stage : Stage) (heard : Heard) (g : Gathers (remaining old.stream) (remaining new.stream) old.inbox.came.items new.inbox.came.items heard)
+      → Writes contents old new [] → LosesNone stage g.lost → IsMoved remaining contents old new stage
+  moved_gathers old new stage heard g written none = record { kept = g.kept; lost = g.lost; consumed = g.consumed; gathered = g.gathered; none = none; written = written }
 
   -- only what is to go out moves
-  pub moved_writes : (old new : Link S) → Keeps (remaining old.stream) (remaining new.stream) → new.inbox ≡ old.inbox → Writes contents old new [] → IsMoved remaining contents old new
-  moved_writes old new keeps same written = record {
+  pub moved_writes : (old new : Link S) (stage : Stage) → Keeps (remaining old.stream) (remaining new.stream) → new.inbox ≡ old.inbox → Writes contents old new [] → IsMoved remaining contents old new stage
+  moved_writes old new stage keeps same written = record {
     kept = [];
     lost = [];
     consumed = consumes_nothing _ _ keeps;
     gathered = grind (arith, common_steps);
+    none = loses_nothing stage [] refl;
     written = written;
   }
 
   -- what comes is let go
-  pub moved_lets_go : (old new : Link S) (lost : List ℕ) → Consumes (remaining old.stream) (remaining new.stream) lost → Keeps (contents old.stream) (contents new.stream)
-      → new.inbox ≡ old.inbox → new.outbox ≡ old.outbox → IsMoved remaining contents old new
-  moved_lets_go old new lost consumed keeps inbox outbox = record {
+  pub moved_lets_go : (old new : Link S) (stage : Stage) (lost : List ℕ) → Consumes (remaining old.stream) (remaining new.stream) lost → Keeps (contents old.stream) (contents new.stream)
+      → new.inbox ≡ old.inbox → new.outbox ≡ old.outbox → LosesNone stage lost → IsMoved remaining contents old new stage
+  moved_lets_go old new stage lost consumed keeps inbox outbox none = record {
     kept = [];
     lost = lost;
     consumed = consumed;
     gathered = grind (arith, common_steps);
+    none = none;
     written = subst (λ box. Moves (contents old.stream) (contents new.stream) (early_of old.outbox) (due_of old.outbox) [] (early_of box) (due_of box)) (sym outbox)
         (box_rests old.outbox _ _ keeps);
   }
 
   -- nothing moves
-  pub unmoved : (old new : Link S) → Keeps (remaining old.stream) (remaining new.stream) → Keeps (contents old.stream) (contents new.stream)
-      → new.inbox ≡ old.inbox → new.outbox ≡ old.outbox → IsMoved remaining contents old new
-  unmoved old new heard sent inbox outbox = moved_lets_go old new [] (consumes_nothing _ _ heard) sent inbox outbox
+  pub unmoved : (old new : Link S) (stage : Stage) → Keeps (remaining old.stream) (remaining new.stream) → Keeps (contents old.stream) (contents new.stream)
+      → new.inbox ≡ old.inbox → new.outbox ≡ old.outbox → IsMoved remaining contents old new stage
+  unmoved old new stage heard sent inbox outbox = moved_lets_go old new stage [] (consumes_nothing _ _ heard) sent inbox outbox (loses_nothing stage [] refl)
 
-  pub same : (link : Link S) → IsMoved remaining contents link link
-  same link = unmoved link link (Keeps-refl _) (Keeps-refl _) refl refl
+  pub same : (link : Link S) (stage : Stage) → IsMoved remaining contents link link stage
+  same link stage = unmoved link link stage (Keeps-refl _) (Keeps-refl _) refl refl
 
   -- it moved, and then rested
-  pub moved_kept : (old mid new : Link S) → IsMoved remaining contents old mid → Keeps (remaining mid.stream) (remaining new.stream) → Keeps (contents mid.stream) (contents new.stream)
-      → new.inbox ≡ mid.inbox → new.outbox ≡ mid.outbox → IsMoved remaining contents old new
-  moved_kept old mid new m heard sent inbox outbox = record {
+  pub moved_kept : (old mid new : Link S) (before stage : Stage) → IsMoved remaining contents old mid before → Follows before stage → Keeps (remaining mid.stream) (remaining new.stream) → Keeps (contents mid.stream) (contents new.stream)
+      → new.inbox ≡ mid.inbox → new.outbox ≡ mid.outbox → IsMoved remaining contents old new stage
+  moved_kept old mid new before stage m follows heard sent inbox outbox = record {
     kept = m.kept;
     lost = m.lost;
     consumed = Consumes-kept _ _ _ _ m.consumed heard;
     gathered = ap (λ box. box.came.items) inbox ∙ m.gathered;
+    none = loses_on before stage m.lost follows m.none;
     written = subst (λ box. Moves (contents old.stream) (contents new.stream) (early_of old.outbox) (due_of old.outbox) [] (early_of box) (due_of box)) (sym outbox)
         (moves_kept _ _ _ _ _ _ _ _ m.written sent);
   }
 
   -- what was due went out, and then what came was let go
-  pub lets_go_after : (old sent new : Link S) → Writes contents old sent [] → sent.inbox ≡ old.inbox → Keeps (remaining old.stream) (remaining sent.stream)
-      → IsMoved remaining contents sent new → new.outbox ≡ sent.outbox → Keeps (contents sent.stream) (contents new.stream) → IsMoved remaining contents old new
-  lets_go_after old sent new written inbox heard m outbox quiet = record {
+  pub lets_go_after : (old sent new : Link S) (stage : Stage) → Writes contents old sent [] → sent.inbox ≡ old.inbox → Keeps (remaining old.stream) (remaining sent.stream)
+      → IsMoved remaining contents sent new stage → new.outbox ≡ sent.outbox → Keeps (contents sent.stream) (contents new.stream) → IsMoved remaining contents old new stage
+  lets_go_after old sent new stage written inbox heard m outbox quiet = record {
     kept = m.kept;
     lost = m.lost;
     consumed = consumes_after _ _ _ _ heard m.consumed;
     gathered = m.gathered ∙ ap (λ box. box.came.items ++ m.kept) inbox;
+    none = m.none;
     written = subst (λ box. Moves (contents old.stream) (contents new.stream) (early_of old.outbox) (due_of old.outbox) [] (early_of box) (due_of box)) (sym outbox)
         (moves_kept _ _ _ _ _ _ _ _ written quiet);
   }

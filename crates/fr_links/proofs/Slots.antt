@@ -3,7 +3,8 @@ use Rattle.std.proofs.Common.{◌≡◌, ◌∙◌, ℕ, List, Option, None, Som
 use Rattle.std.proofs.lemmas.Bool.{cases_eq}
 use Rattle.slab.specs.Slab.{ContainsKey, Slab, get, with_value}
 use Rattle.slab.proofs.SlabLemmas.{Updates-with_value}
-use Rattle.fr_links.specs.Connection.{Follows, IsAnswered, IsBegun, IsMoved, IsReady, IsUnanswered}
+use Rattle.fr_links.specs.Connection.{Follows, IsAnswered, IsBegun, IsMoved, IsUnanswered}
+use Rattle.fr_links.proofs.Connecting.{loses_on}
 use Rattle.fr_links.specs.Connections.{AllStay, Goes, OthersStay, Stays, at}
 use Rattle.fr_links.specs.declared.held.Held.{Held}
 use Rattle.fr_links.specs.declared.link.Link.{Link}
@@ -13,26 +14,16 @@ use Rattle.fr_links.specs.declared.table.Table.{Table}
 
 pub Follows-refl : (stage : Stage) → Follows stage stage
 Follows-refl Asking = tt
-Follows-refl (Ready ending) = tt
+Follows-refl (Ready ending) = refl
 Follows-refl (Replying asked) = tt
 Follows-refl (Resting asked room) = tt
 
--- what is to be answered was not answered
-unanswered : (stage : Stage) → IsReady stage → IsUnanswered stage
-unanswered Asking ready = tt
-unanswered (Ready ending) ready = tt
-unanswered (Replying asked) ready = absurd ready
-unanswered (Resting asked room) ready = absurd ready
-
 pub Follows-trans : (a b c : Stage) → Follows a b → Follows b c → Follows a c
 Follows-trans Asking Asking c p q = q
-Follows-trans Asking (Ready ending) c p q = unanswered c q
+Follows-trans Asking (Ready ending) c p q = subst IsUnanswered (sym q) tt
 Follows-trans Asking (Replying asked) c p q = absurd p
 Follows-trans Asking (Resting asked room) c p q = absurd p
-Follows-trans (Ready x) Asking c p q = absurd p
-Follows-trans (Ready x) (Ready ending) c p q = q
-Follows-trans (Ready x) (Replying asked) c p q = absurd p
-Follows-trans (Ready x) (Resting asked room) c p q = absurd p
+Follows-trans (Ready x) b c p q = subst (λ stage. Follows stage c) p q
 Follows-trans (Replying x) Asking c p q = absurd p
 Follows-trans (Replying x) (Ready ending) c p q = absurd p
 Follows-trans (Replying x) (Replying asked) c p q = q
@@ -92,6 +83,12 @@ module _ {S : Type 0} where
   others_trans a b c key p q other differs = q other differs ∙ p other differs
 
 module _ {S : Type 0} (remaining contents : S → Option (List ℕ)) where
+  -- what moved did so at a stage that follows
+  moved_on : (first old new : Link S) (before stage : Stage) → IsMoved remaining contents first old before → new ≡ old → Follows before stage → IsMoved remaining contents first new stage
+  moved_on first old new before stage moved same follows =
+      let m : IsMoved remaining contents first new before = subst (λ link. IsMoved remaining contents first link before) (sym same) moved in
+      record { kept = m.kept; lost = m.lost; consumed = m.consumed; gathered = m.gathered; none = loses_on before stage m.lost follows m.none; written = m.written }
+
   pub Goes-gone : (slot : Option (Held S)) → Goes remaining contents slot None
   Goes-gone None = tt
   Goes-gone (Some held) = tt
@@ -102,10 +99,10 @@ module _ {S : Type 0} (remaining contents : S → Option (List ℕ)) where
   Goes-stays None None (Some z) p q = absurd q
   Goes-stays (Some x) None (Some z) p q = absurd q
   Goes-stays None (Some y) (Some z) p q = absurd p
-  Goes-stays (Some x) (Some y) (Some z) p q = (subst (IsMoved remaining contents x.link) (sym q.0) p.0, Follows-trans x.stage y.stage z.stage p.1 q.1)
+  Goes-stays (Some x) (Some y) (Some z) p q = (moved_on x.link y.link z.link y.stage z.stage p.0 q.0 q.1, Follows-trans x.stage y.stage z.stage p.1 q.1)
 
   -- a connection is written back under its key
-  pub put_goes : (links : Slab (Held S)) (key : ℕ) (held held' : Held S) → get links key ≡ Some held → IsMoved remaining contents held.link held'.link
+  pub put_goes : (links : Slab (Held S)) (key : ℕ) (held held' : Held S) → get links key ≡ Some held → IsMoved remaining contents held.link held'.link held'.stage
       → Follows held.stage held'.stage → Goes remaining contents (get links key) (get (with_value links key held') key)
   put_goes links key held held' there moved follows =
       let present : ContainsKey links key = subst IsSome (sym there) refl in
@@ -114,17 +111,24 @@ module _ {S : Type 0} (remaining contents : S → Option (List ℕ)) where
       (subst (λ slot. Goes remaining contents (Some held) slot) (sym written) (moved, follows))
 
   -- a connection that began stays
-  pub begun_stays : (stream : S) (held : Held S) (slot slot' : Option (Held S)) → slot ≡ Some held → Stays slot slot' → IsBegun remaining contents stream held.link
-      → IfSome slot' (λ back. IsBegun remaining contents stream back.link)
+  pub begun_stays : (stream : S) (held : Held S) (slot slot' : Option (Held S)) → slot ≡ Some held → Stays slot slot' → IsBegun remaining contents stream held.link held.stage
+      → IfSome slot' (λ back. IsBegun remaining contents stream back.link back.stage)
   begun_stays stream held slot None there stays begun = tt
   begun_stays stream held slot (Some back) there stays begun =
       let both : Stays (Some held) (Some back) = subst (λ s. Stays s (Some back)) there stays in
-      subst (IsBegun remaining contents stream) (sym both.0) begun
+      record {
+        first = begun.first;
+        over = begun.over;
+        empty = begun.empty;
+        none_due = begun.none_due;
+        none_early = begun.none_early;
+        moved = moved_on begun.first held.link back.link held.stage back.stage begun.moved both.0 both.1;
+      }
 
   -- a connection that was answered stays
-  pub answered_stays : (first : Link S) (held : Held S) (slot slot' : Option (Held S)) → slot ≡ Some held → Stays slot slot' → IsMoved remaining contents first held.link
-      → IsAnswered held.stage → IfSome slot' (λ back. IsMoved remaining contents first back.link × IsAnswered back.stage)
+  pub answered_stays : (first : Link S) (held : Held S) (slot slot' : Option (Held S)) → slot ≡ Some held → Stays slot slot' → IsMoved remaining contents first held.link held.stage
+      → IsAnswered held.stage → IfSome slot' (λ back. IsMoved remaining contents first back.link back.stage × IsAnswered back.stage)
   answered_stays first held slot None there stays moved was = tt
   answered_stays first held slot (Some back) there stays moved was =
       let both : Stays (Some held) (Some back) = subst (λ s. Stays s (Some back)) there stays in
-      (subst (IsMoved remaining contents first) (sym both.0) moved, answered held.stage back.stage both.1 was)
+      (moved_on first held.link back.link held.stage back.stage moved both.0 both.1, answered held.stage back.stage both.1 was)

@@ -1,9 +1,10 @@
 -- The table of connections: what a call may make of each.
-use Rattle.std.specs.Prelude.{◌≡◌, ◌≢◌, ℕ, List, ◌∷◌, ◌++◌, Option, Some, None}
+use Rattle.std.specs.Prelude.{◌≡◌, ◌≢◌, ℕ, List, ◌∷◌, ◌++◌, Option, Some, None, vec_len}
 use Rattle.std.specs.List.{AllByRecursion}
 use Rattle.slab.specs.Slab.{get}
 use Rattle.fr_links.specs.Connection.{Follows, IsMoved, IsReady}
 use Rattle.fr_links.specs.Ends.{given_bytes}
+use Rattle.fr_links.specs.Gathering.{Fits, room_of}
 use Rattle.fr_links.specs.declared.ends.Given.{Given}
 use Rattle.fr_links.specs.declared.ends.Reply.{Reply}
 use Rattle.fr_links.specs.declared.stage.Stage.TheVariants.{Ready}
@@ -47,12 +48,12 @@ module _ {S : Type 0} where
     pub front : old.ready.items ≡ passed ++ (key ∷ new.ready.items)
 
   -- The connection was to be answered, and these are its two ends: one gives the bytes that came in on it, and behind them its input's end or a
-  -- failed read; the other has its stream, and what is still to go out on it.
+  -- failed read; the other has its stream, and what is still to go out on it. Where it is given out as complete, no byte of its request is wanted.
   abbrev pub IsGivenOut : Option (Held S) → Given → Reply S → Type 0
   IsGivenOut None given reply = ⊥
   IsGivenOut (Some held) given reply =
       (held.stage ≡ Ready given.ending) × (given_bytes given ≡ Some held.link.inbox.came.items) × (reply.link.stream ≡ held.link.stream)
-      × (reply.link.outbox ≡ held.link.outbox)
+      × (reply.link.outbox ≡ held.link.outbox) × Fits (Ready given.ending) (room_of held.link.inbox.need (vec_len held.link.inbox.came))
 
 module _ {S : Type 0} (remaining contents : S → Option (List ℕ)) where
   -- It is gone, or its bytes moved: between it and its own stream alone.
@@ -60,4 +61,4 @@ module _ {S : Type 0} (remaining contents : S → Option (List ℕ)) where
   Goes None None = Unit {0}
   Goes (Some old) None = Unit {0}
   Goes None (Some new) = ⊥
-  Goes (Some old) (Some new) = IsMoved remaining contents old.link new.link × Follows old.stage new.stage
+  Goes (Some old) (Some new) = IsMoved remaining contents old.link new.link new.stage × Follows old.stage new.stage

@@ -39,7 +39,7 @@ impl Read for Given {
         }
         match self.ending {
             Ending::Closed => Ok(0),
-            Ending::Failed => Err(io::Error::from(ErrorKind::TimedOut)),
+            Ending::Complete | Ending::Failed => Err(io::Error::from(ErrorKind::TimedOut)),
             Ending::Interrupted => Err(io::Error::from(ErrorKind::Interrupted)),
         }
     }

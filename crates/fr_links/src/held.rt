@@ -1,8 +1,9 @@
 //! A connection of the table: its link, where it stands, and when its time is over.
-ghost use Rattle.std.specs.Prelude.{◌≡◌, ◌↔◌, IsTrue, length};
+ghost use Rattle.std.specs.Prelude.{◌≡◌, ◌↔◌, IsTrue, length, vec_len};
 ghost use Rattle.std.specs.Io.KnownBytes.{Keeps};
+ghost use Rattle.fr_links.specs.Gathering.{Fits, room_of};
 
-use crate::heard::{Heard, Sent};
+use crate::heard::Sent;
 use crate::judge::Judge;
 use crate::link::Link;
 use crate::stage::{Ending, Stage};
@@ -26,10 +27,13 @@ pub struct Held<S> {
     pub end: Instant,
     /// Whether the poll tells of it.
     pub told: bool,
+    ghost fits: { Fits stage (room_of link.inbox.need (vec_len link.inbox.came)) },
 }
 
 impl<S: Wire> Held<S> {
     ghost use Rattle.std.specs.Bool.{OnFalse, OnTrue};
+    ghost use Rattle.fr_links.specs.declared.stage.Ending.TheVariants.{Failed};
+    ghost use Rattle.fr_links.specs.declared.stage.Stage.TheVariants.{Asking, Ready};
     ghost use Rattle.fr_links.specs.Connection.{Follows, IsAnswered, IsBegun, IsMoved, IsReady, IsUnanswered, due_of};
 
     /// A connection whose request is awaited until then. What lies there is read at once; where more has to come, the poll tells
@@ -42,7 +46,7 @@ impl<S: Wire> Held<S> {
         registry: &Registry,
         key: usize,
     ) -> Held<S>
-        ensures begun { IsBegun S.remaining S.contents stream result.link }
+        ensures begun { IsBegun S.remaining S.contents stream result.link result.stage }
         ensures stage { IsUnanswered result.stage }
     {
         let mut held = Held {
@@ -65,8 +69,9 @@ impl<S: Wire> Held<S> {
 
     /// From now on it is to be answered as one whose time is over.
     pub fn give_up(&mut self)
+        requires { self.old.stage ≡ Asking }
         ensures link { self.new.link ≡ self.old.link }
-        ensures stage { IsReady self.new.stage }
+        ensures stage { self.new.stage ≡ Ready Failed }
     {
         self.stage = Stage::Ready {
             ending: Ending::Failed,
@@ -106,15 +111,13 @@ impl<S: Wire> Held<S> {
 
     /// Reads what lies there. Gives whether its request is to be answered from now on.
     pub fn hear<J: Judge>(&mut self, judge: &J) -> bool
-        ensures moved { IsMoved S.remaining S.contents self.old.link self.new.link }
+        requires { self.old.stage ≡ Asking }
+        ensures moved { IsMoved S.remaining S.contents self.old.link self.new.link self.new.stage }
         ensures ready { OnTrue result (IsReady self.new.stage) }
         ensures stage { OnFalse result (self.new.stage ≡ self.old.stage) }
     {
-        let ending = match self.link.hear(judge) {
-            Heard::More => return false,
-            Heard::Complete | Heard::Failed => Ending::Failed,
-            Heard::TooOften => Ending::Interrupted,
-            Heard::Closed => Ending::Closed,
+        let Some(ending) = self.link.hear(judge).ending() else {
+            return false;
         };
         self.stage = Stage::Ready { ending };
         true
@@ -123,7 +126,7 @@ impl<S: Wire> Held<S> {
     /// Sends what is to go out, and then reads what still comes, where its request was answered. Gives whether something is left
     /// to do.
     pub fn move_on(&mut self, now: Instant) -> bool
-        ensures moved { IsMoved S.remaining S.contents self.old.link self.new.link }
+        ensures moved { IsMoved S.remaining S.contents self.old.link self.new.link self.new.stage }
         ensures stage { Follows self.old.stage self.new.stage }
     {
         match self.stage {
@@ -137,7 +140,7 @@ impl<S: Wire> Held<S> {
     // Sends what is to go out, and then reads what still comes.
     fn reply(&mut self, asked: bool, now: Instant) -> bool
         requires { IsAnswered self.old.stage }
-        ensures moved { IsMoved S.remaining S.contents self.old.link self.new.link }
+        ensures moved { IsMoved S.remaining S.contents self.old.link self.new.link self.new.stage }
         ensures stage { IsAnswered self.new.stage }
     {
         match self.link.send() {
@@ -152,7 +155,7 @@ impl<S: Wire> Held<S> {
 
     // Reads what still comes, so many bytes at most.
     fn rest(&mut self, asked: bool, room: usize) -> bool
-        ensures moved { IsMoved S.remaining S.contents self.old.link self.new.link }
+        ensures moved { IsMoved S.remaining S.contents self.old.link self.new.link self.new.stage }
         ensures outbox { self.new.link.outbox ≡ self.old.link.outbox }
         ensures contents { Keeps (S.contents self.old.link.stream)
             (S.contents self.new.link.stream) }

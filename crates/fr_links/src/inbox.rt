@@ -1,7 +1,7 @@
 //! What came in on a connection, until its request is complete.
 ghost use Rattle.std.specs.Prelude.{◌≡◌, ◌≤◌, ◌++◌, [], false, length, vec_len, None, OnErr, OnOk};
 ghost use Rattle.std.specs.Io.KnownBytes.{Keeps};
-ghost use Rattle.fr_links.specs.Gathering.{Gathers, known_of, room_of};
+ghost use Rattle.fr_links.specs.Gathering.{Gathers, Leaves, known_of, room_of};
 
 use crate::heard::Heard;
 use crate::judge::{Judge, Judgement, MAX_REQUEST};
@@ -63,8 +63,7 @@ impl Inbox {
         ensures gathered { Gathers (S.remaining stream.old) (S.remaining stream.new)
             self.old.came.items self.new.came.items result }
         ensures quiet { Keeps (S.contents stream.old) (S.contents stream.new) }
-        ensures complete { result ≡ Heard.Complete
-            → room_of self.new.need (vec_len self.new.came) ≡ 0 }
+        ensures room { Leaves result (room_of self.new.need (vec_len self.new.came)) }
     {
         let mut piece = [0; PIECE];
         while self.reads < MAX_READS {
@@ -95,6 +94,7 @@ impl Inbox {
         requires { length piece.now ≤ room_of self.old.need (vec_len self.old.came) }
         ensures ok { OnOk result (self.new.came.items ≡ self.old.came.items ++ piece.now) }
         ensures err { OnErr result (self.new.came.items ≡ self.old.came.items) }
+        ensures kept { OnErr result (self.new.need ≡ self.old.need) }
         ensures reads { self.new.reads ≡ self.old.reads }
     {
         self.came.extend_from_slice(piece)?;
@@ -110,6 +110,7 @@ impl Inbox {
     /// Whether its client waits for the interim reply: once.
     pub fn take_invitation(&mut self) -> bool
         ensures came { self.new.came.items ≡ self.old.came.items }
+        ensures need { self.new.need ≡ self.old.need }
         ensures told { result ≡ self.old.invites }
         ensures once { self.new.invites ≡ false }
     {

@@ -1,7 +1,7 @@
 //! One connection: its stream, what came in on it, and what is still to go out.
-ghost use Rattle.std.specs.Prelude.{◌≡◌, ◌≤◌, [], length, take, IfOk, MatchResult};
+ghost use Rattle.std.specs.Prelude.{◌≡◌, ◌≤◌, [], length, take, vec_len, IfOk, MatchResult, None};
 ghost use Rattle.std.specs.Io.KnownBytes.{Keeps};
-ghost use Rattle.fr_links.specs.Gathering.{Gathers};
+ghost use Rattle.fr_links.specs.Gathering.{Gathers, Leaves, LetsGo, room_of};
 
 use crate::heard::{Heard, Sent};
 use crate::inbox::Inbox;
@@ -24,13 +24,14 @@ pub struct Link<S> {
 }
 
 impl<S: Wire> Link<S> {
-    ghost use Rattle.fr_links.specs.Connection.{IsMoved, Writes, due_of, early_of};
+    ghost use Rattle.fr_links.specs.Connection.{Writes, due_of, early_of};
     ghost use Rattle.fr_links.specs.Sending.{Rests};
 
     /// A connection on which nothing came yet.
     pub fn new(alloc: Global, stream: S) -> Link<S>
         ensures stream { result.stream ≡ stream }
         ensures came { result.inbox.came.items ≡ [] }
+        ensures open { result.inbox.need ≡ None }
         ensures due { due_of result.outbox ≡ [] }
         ensures early { early_of result.outbox ≡ [] }
     {
@@ -45,6 +46,7 @@ impl<S: Wire> Link<S> {
     pub fn hear<J: Judge>(&mut self, judge: &J) -> Heard
         ensures gathered { Gathers (S.remaining self.old.stream) (S.remaining self.new.stream)
             self.old.inbox.came.items self.new.inbox.came.items result }
+        ensures room { Leaves result (room_of self.new.inbox.need (vec_len self.new.inbox.came)) }
         ensures written { Writes S.contents self.old self.new [] }
     {
         let heard = self.inbox.hear(&mut self.stream, judge);
@@ -115,7 +117,8 @@ impl<S: Wire> Link<S> {
     /// Reads what still comes, and lets it go: so many bytes at most. Gives how many may still come; none where the input has
     /// ended, or more came.
     pub fn let_go(&mut self, room: usize) -> Option<usize>
-        ensures moved { IsMoved S.remaining S.contents self.old self.new }
+        ensures lost { LetsGo (S.remaining self.old.stream) (S.remaining self.new.stream) }
+        ensures inbox { self.new.inbox ≡ self.old.inbox }
         ensures outbox { self.new.outbox ≡ self.old.outbox }
         ensures contents { Keeps (S.contents self.old.stream) (S.contents self.new.stream) }
     {

@@ -3,9 +3,11 @@
 /// What stands behind the bytes of a request.
 #[derive(Clone, Copy, Debug, PartialEq, Eq)]
 pub enum Ending {
+    /// Nothing that is read: the request is complete. A read fails.
+    Complete,
     /// The input's end.
     Closed,
-    /// A read that fails. Of a request that is complete nothing more is read.
+    /// A read that fails.
     Failed,
     /// A read that is interrupted, however often it is tried.
     Interrupted,

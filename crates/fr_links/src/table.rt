@@ -102,7 +102,7 @@ impl<S: Wire + Drop> Table<S> {
         ensures others { OthersStay self.old self.new self.old.links.vacant_key }
         ensures vacant { at self.old self.old.links.vacant_key ≡ None }
         ensures own { IfSome (at self.new self.old.links.vacant_key)
-            (λ held. IsBegun S.remaining S.contents stream held.link) }
+            (λ held. IsBegun S.remaining S.contents stream held.link held.stage) }
         ensures queue { Queues self.old self.new }
     {
         let key = self.links.vacant_key();
@@ -247,7 +247,8 @@ impl<S: Wire + Drop> Table<S> {
             → Stays (at self.old other) (at self.new other) }
         ensures vacant { at self.old self.old.links.vacant_key ≡ None }
         ensures own { IfSome (at self.new self.old.links.vacant_key)
-            (λ held. IsMoved S.remaining S.contents reply.link held.link × IsAnswered held.stage) }
+            (λ held. IsMoved S.remaining S.contents reply.link held.link held.stage
+            × IsAnswered held.stage) }
         ensures queue { Queues self.old self.new }
     {
         let spare = self.links.vacant_key();

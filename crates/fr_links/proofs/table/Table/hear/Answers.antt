@@ -17,5 +17,5 @@ returns-else-eq-clause-own g c =
           (put_goes _ _ c.args.self.now.links key held w.hear.new.self there w.hear.ensures.moved (subst (Follows held.stage) (sym w.if-hear.ensures.stage) (Follows-refl held.stage)))
       | else-eq-via-else-eq w ↦
           subst (λ table. Goes g.S.Wire.remaining g.S.Wire.contents (at c.args.self.now key) (at table key)) (sym w.self-is)
-          (put_goes _ _ c.args.self.now.links key held held there (same _ _ held.link) (Follows-refl held.stage))
+          (put_goes _ _ c.args.self.now.links key held held there (same _ _ held.link _) (Follows-refl held.stage))
     ]
