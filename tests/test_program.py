@@ -43,7 +43,7 @@ REQUIRED = {
 }
 
 NO_ROWS = usage("export takes ROWS that are frames, placements or signals", "Usage: slotplan <COMMAND>", "")
-NO_FILE = usage("check takes one file: CONFIG, or --requests FILE, or --rows FILE", "Usage: slotplan <COMMAND>", "")
+NO_FILE = usage("check takes one of these: CONFIG, --requests FILE, --rows FILE, --path PATH", "Usage: slotplan <COMMAND>", "")
 
 
 class Help(StartCase):

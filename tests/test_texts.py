@@ -1,11 +1,16 @@
-"""What `check` says of the texts of requests and rows.
+"""What `check` says of the texts of requests and rows, and of paths.
 
-Each mistake is one at which a register answers `BadText`, `BadName` or `BadKey`, which name neither line nor field. What is wanted was typed by hand from
+Each mistake is one at which a register answers `BadText`, `BadName` or `BadKey`, which name neither line nor field; or for which each cluster refuses a row. What is wanted was typed by hand from
 docs/FORMATS.md; none of it is the program's own output. The register itself is asked too: it refuses so just the lines and rows that are told of."""
 import json
+import re
 
-from tests.lib.program import ran
+import yaml
+
+from tests.lib.messages import head
+from tests.lib.program import TOP, ran
 from tests.lib.registers import RegisterCase
+from tests.lib.server import sent
 
 REQUESTS = (
     "open_variant, release, add_supplier, set_key, add_node, grant, revoke, add_frame, drop_frame, place, unplace, add_signal, drop_signal, import, replace, try, "
@@ -94,6 +99,14 @@ HEADERS = f'it may be "frame,node", "{PLACEMENTS}" or "{SIGNALS}"'
 JUST_SO = ", just so: with commas, in this order, in small letters, without spaces, and with no field behind"
 IS_NAME = "it may be 1 to 32 ASCII letters, digits and underscores, a letter first"
 IS_NUMBER = "it may be 1 to 10 digits, at most 4294967295"
+IS_SLOT = "it may be 1 to 1023"
+IS_CHANNELS = "it may be A, B or AB"
+IS_BASE = "it may be less than the repetition"
+IS_REPETITION = "it may be what divides the cluster's cycles, an even number from 8 to 64"
+IS_LENGTH = "it may be 1 to 64"
+IS_ORDER = "it may be little or big"
+# What is said behind rows that have no fault.
+UNTOLD = "the register alone knows its slots, channels and cycles, and which are granted and free\n"
 # First lines that are no header.
 NO_HEADERS = [
     (f"F{PLACEMENTS[1:]}", JUST_SO),
@@ -125,9 +138,58 @@ ROWS = [
     ),
     ("f1,n1,1.0,A,0,64", [f'field "slot" is "1.0", {IS_NUMBER}']),
     ('"f1",n1,"1",A,0,1', []),
-    # They have their form, though the register refuses them.
-    ("f9,n9,9,C,9,3", []),
+    # Each cluster refuses these.
+    ("f1,n1,1,a,0,64", [f'field "channels" is "a", {IS_CHANNELS}']),
+    ("f1,n1,1,A+B,0,64", [f'field "channels" is "A+B", {IS_CHANNELS}']),
+    ("f1,n1,1,BA,0,64", [f'field "channels" is "BA", {IS_CHANNELS}']),
+    ("f1,n1,1,,0,64", [f'field "channels" is "", {IS_CHANNELS}']),
+    ("f1,n1,0,A,0,64", [f'field "slot" is "0", {IS_SLOT}']),
+    ("f1,n1,1024,A,0,64", [f'field "slot" is "1024", {IS_SLOT}']),
+    ("f1,n1,1,A,64,64", [f'field "base" is "64", {IS_BASE}']),
+    ("f1,n1,1,A,0,33", [f'field "repetition" is "33", {IS_REPETITION}']),
+    ("f1,n1,1,A,0,63", [f'field "repetition" is "63", {IS_REPETITION}']),
+    ("f1,n1,1,A,0,128", [f'field "repetition" is "128", {IS_REPETITION}']),
+    ("f1,n1,1,A,0,0", [f'field "base" is "0", {IS_BASE}', f'field "repetition" is "0", {IS_REPETITION}']),
+    (
+        "f9,n9,0,C,9,3",
+        [f'field "slot" is "0", {IS_SLOT}', f'field "channels" is "C", {IS_CHANNELS}', f'field "base" is "9", {IS_BASE}'],
+    ),
+    # Some cluster takes these, though another refuses them: it has up to 1023 slots, both channels, and an even count of 8 to 64 cycles.
+    ("f9,n9,9,B,2,3", []),
+    ("f9,n9,1023,AB,30,31", []),
+    ("f9,n9,1,A,0,62", []),
+    ("f9,n9,1,A,8,9", []),
+    ("f9,n9,1,A,31,32", []),
 ]
+# Rows of signals, each with what is told of it.
+SIGNAL_ROWS = [
+    ("f1,s1,0,8,little", []),
+    ("f1,s 1,0,8,little", [f'field "signal" is "s 1", {IS_NAME}']),
+    ("f1,s1,,8,little", [f'field "start" is "", {IS_NUMBER}']),
+    ("f1,s1,0,99,Little", [f'field "length" is "99", {IS_LENGTH}', f'field "order" is "Little", {IS_ORDER}']),
+    ("f1,s1,0,x,big", [f'field "length" is "x", {IS_NUMBER}']),
+    ("f1,s1,0,0,big", [f'field "length" is "0", {IS_LENGTH}']),
+    ("f1,s1,0,65,big", [f'field "length" is "65", {IS_LENGTH}']),
+    ("f1,s1,0,1,", [f'field "order" is "", {IS_ORDER}']),
+    ("f1,s1,4294967295,64,big", []),
+]
+# The widest cluster, of so many cycles; and the refusals of a row for itself, as a try numbers them.
+WIDEST = """channels = "AB"
+static_slots = 1023
+slot_macroticks = 1
+dynamic_macroticks = 0
+symbol_macroticks = 0
+idle_macroticks = 1
+macroticks_per_cycle = 1024
+payload_words = 1
+cycles = {cycles}
+integrator = "integrator1"
+
+[suppliers]
+s1 = "supplier01"
+---
+"""
+OF_ITSELF = {"01", "04", "05", "06", "07", "08"}
 # What an import has at most.
 MAX_ROWS, MAX_BYTES = 512, 65_536
 ONE_TOO_MANY = "the row is one too many, an import may have 512"
@@ -138,14 +200,14 @@ OPEN_QUOTE = "the number of fields is 1, the header has 6: one goes over several
 class TextCase(RegisterCase):
     """A test that gives `check` a file."""
 
-    flag = ""
+    flag, behind = "", ""
 
     def told(self, text, *faults, fine=""):
         """Each of these faults of the file is told on standard error, with its line; where there is none, standard output says so."""
         text = text if isinstance(text, bytes) else text.encode()
         (self.folder / "file").write_bytes(text)
         said = "".join(f"line {line}: {fault}\n" for line, fault in faults)
-        wanted = (1, b"", said.encode()) if faults else (0, f"{fine}, no fault\n".encode(), b"")
+        wanted = (1, b"", said.encode()) if faults else (0, f"{fine}, no fault\n{self.behind}".encode(), b"")
         self.see(f"check {self.flag} of {text[:200]!r}", wanted, ran(["check", self.flag, "file"], self.folder))
 
 
@@ -199,9 +261,9 @@ class Requests(TextCase):
 
 
 class Rows(TextCase):
-    """`check --rows` tells of each fault of a row's text, with its line in the file and its field"""
+    """`check --rows` tells of each fault for which each cluster refuses a row, with its line in the file and its field"""
 
-    flag = "--rows"
+    flag, behind = "--rows", UNTOLD
 
     def test_headers(self):
         for header, hint in NO_HEADERS:
@@ -224,13 +286,7 @@ class Rows(TextCase):
             self.told(text, *numbered(rows), (at, f'field "frame" is "{field}", {IS_NAME}'), (at + 2, f'field "base" is "x", {IS_NUMBER}'))
 
     def test_signals(self):
-        rows = [
-            (SIGNALS, []),
-            ("f1,s 1,0,8,little", [f'field "signal" is "s 1", {IS_NAME}']),
-            ("f1,s1,,8,little", [f'field "start" is "", {IS_NUMBER}']),
-            ("f1,s1,0,99,Little", []),
-            ("f1,s1,0,x,big", [f'field "length" is "x", {IS_NUMBER}']),
-        ]
+        rows = [(SIGNALS, []), *SIGNAL_ROWS]
         self.told("\n".join(row for row, _ in rows), *numbered(rows))
         self.told(f"{SIGNALS}\nf1,s1,0,8,little\n", fine="rows: 1")
 
@@ -251,7 +307,7 @@ class Rows(TextCase):
     def test_bytes(self):
         """What is no text."""
         head = f"{PLACEMENTS}\n{ROW}\n".encode()
-        self.told(head + b"f\xff,n1,1,\xc3,0,64\n", (3, f'field "frame" is "f?", {IS_NAME}'), (3, 'field "channels" is "?", it may be UTF-8'))
+        self.told(head + b"f\xff,n1,1,\xc3,0,64\n", (3, f'field "frame" is "f?", {IS_NAME}'), (3, f'field "channels" is "?", {IS_CHANNELS}'))
         wide = "??" + "".join(f"{it}?" for it in PLACEMENTS)
         self.told(f"{PLACEMENTS}\n".encode("utf-16"), (1, f'the header is "{wide}", {HEADERS}, in UTF-8 and not in UTF-16'))
 
@@ -269,13 +325,90 @@ class Rows(TextCase):
         self.told(f"{PLACEMENTS}\nx\n{'y' * MAX_BYTES}\n", (3, TOO_LONG))
         self.told("z" * (16 * MAX_BYTES), (1, TOO_LONG))
 
-    def test_the_register_refuses_just_these(self):
+    def test_each_cluster_refuses_just_these(self):
+        """A row is told of exactly where it is refused for itself in clusters of each count of cycles, with as many slots as there may be and both channels."""
+        rows = [(header, row, faults) for header, some in ((PLACEMENTS, ROWS), (SIGNALS, SIGNAL_ROWS)) for row, faults in some]
+        tries = [json.dumps({"do": "try", "variant": "v1", "body": f"{header}\n{row}\n"}) for header, row, _ in rows]
+        asked = f"{OPEN}\n" + "".join(f"supplier01 {text}\n" for text in tries)
+        taken = set()
+        for cycles in range(8, 65, 2):
+            status, written, said = ran(["run"], self.folder, (WIDEST.format(cycles=cycles) + asked).encode())
+            self.see(f"the run in a cluster of {cycles} cycles", (0, b""), (status, said))
+            fates = [json.loads(line)["lines"][0].split()[1] for line in written.splitlines()[1:]]
+            taken |= {row for (_, row, _), fate in zip(rows, fates, strict=True) if fate not in OF_ITSELF}
+        for _, row, faults in rows:
+            self.see(f"whether a cluster takes {row}", not faults, row in taken)
+
+
+# The paths of docs/openapi.yaml with what stands in their braces; the last is a fault, and the name of what it is.
+NUMBERS = "repetition", "part"
+NOT_WORDS = "badname", "32", "0", "", "BadName_"
+NOT_NAMES = "week-48", "", "1v", "a b", "n" * 33, "v%31", "\u00e9"
+NOT_NUMBERS = "x", "", "-1", "+1", "1.0", "4294967296", "00000000001"
+HOLES = {
+    **dict.fromkeys(NUMBERS, ("4", NOT_NUMBERS, "a number is 1 to 10 digits, at most 4294967295")),
+    "word": ("BadName", NOT_WORDS, "no refusal and no fault has this name or number"),
+}
+NAMES = "week_48", NOT_NAMES, NAME
+NO_PATH = "no route has this path"
+
+
+def filled(path, holes):
+    """A path of the description with these in its braces."""
+    return re.sub(r"{(\w+)}", lambda found: holes[found[1]], path)
+
+
+class Paths(RegisterCase):
+    """`check --path` tells of each name, number and word in a path that is none, and of a path that no route has"""
+
+    def setUp(self):
+        super().setUp()
+        self.paths = {path: set(methods) - {"parameters"} for path, methods in yaml.safe_load((TOP / "docs/openapi.yaml").read_text())["paths"].items()}
+
+    def told(self, path, *faults):
+        said = "".join(f"slotplan: {fault}\n" for fault in faults)
+        wanted = (1, b"", said.encode()) if faults else (0, b"path: no fault\n", b"")
+        self.see(f"check --path {path}", wanted, ran(["check", "--path", path], self.folder))
+
+    def holes(self, path, **more):
+        return {name: more.get(name, HOLES.get(name, NAMES)[0]) for name in re.findall(r"{(\w+)}", path)}
+
+    def test_each_route(self):
+        """Each hole of each path of the description, filled well and badly."""
+        self.see("paths that have names", True, sum("{variant}" in path for path in self.paths) > 10)
+        for path in self.paths:
+            self.told(filled(path, self.holes(path)))
+            for name in self.holes(path):
+                _, bad, what = HOLES.get(name, NAMES)
+                for text in bad:
+                    self.told(filled(path, self.holes(path, **{name: text})), f'{{{name}}} is "{text.replace(chr(0xe9), "?")}", {what}')
+
+    def test_all_told(self):
+        self.told("/v1/variants/sport/imports/week-48", f'{{label}} is "week-48", {NAME}')
+        self.told("/v1/variants/1v/frames/f-1/room/x", *(f'{{{name}}} is "{text}", {NAME}' for name, text in (("variant", "1v"), ("frame", "f-1"))), '{repetition} is "x", a number is 1 to 10 digits, at most 4294967295')
+
+    def test_no_route(self):
+        for path in "/v1/nothing", "/v1/variants/v1", "/v1/variants/v1/frame", "/v1/variants/v1/grants/", "/v1/variants/v1/exports/nodes/0":
+            self.told(path, NO_PATH)
+        for path in "", "v1/cluster", "//v1/cluster", "/slots/v1/cluster", "http://127.0.0.1:8080/v1/cluster":
+            self.told(path, f"{NO_PATH}: it begins with /v1/")
+
+    def test_the_server_refuses_just_these(self):
+        """A path is told of exactly where the server has no route, or answers `BadName` or `BadText` to whoever asks."""
         self.create()
-        self.ask(OPEN.encode(), b'{"ok":"done"}\n')
-        for at, (row, faults) in enumerate(ROWS):
-            (self.folder / "file").write_text(f"{PLACEMENTS}\n{row}\n")
-            _, _, said = ran(["import", "car.db", "supplier01", "v1", f"w{at}", "file"], self.folder)
-            self.see(f"whether {row} is misformed", bool(faults), json.loads(said)["row"]["refused"] in MISFORMED)
+        with self.served() as (_, port):
+            for path, methods in self.paths.items():
+                bad = [(name, text) for name in self.holes(path) for text in HOLES.get(name, NAMES)[1] if text.isascii() and " " not in text]
+                cases = [self.holes(path), *(self.holes(path, **{name: text}) for name, text in bad)]
+                for holes in cases:
+                    target = filled(path, holes)
+                    refused = False
+                    for method in methods:
+                        body = b'{"do":"cluster"}' if path == "/v1/commands" else b"frame,node\n"
+                        reply = sent(port, head(method.upper(), target, "supplier01", f"Content-Length: {len(body)}") + body)
+                        refused |= reply.startswith(b"HTTP/1.1 404 Not Found\r\ncontent-length: 0") or b'"BadName"' in reply or b'"BadText"' in reply
+                    status, _, _ = ran(["check", "--path", target], self.folder)
+                    self.see(f"whether {target} is refused for itself", refused, status == 1)
 
 
 class OneFile(TextCase):
@@ -283,10 +416,10 @@ class OneFile(TextCase):
 
     def test_words(self):
         (self.folder / "file").write_text("")
-        for words in (), ("file", "--rows", "file"), ("--rows", "file", "--requests", "file"), ("file", "--requests", "file", "--rows", "file"):
+        for words in (), ("file", "--rows", "file"), ("--rows", "file", "--requests", "file"), ("file", "--requests", "file", "--rows", "file"), ("file", "--path", "/"):
             status, written, said = ran(["check", *words], self.folder)
             self.see(f"check {words}", (2, b""), (status, written))
-            self.see(f"whether it is said of {words} which files are taken", True, b"--requests FILE" in said and b"--rows FILE" in said)
+            self.see(f"whether it is said of {words} which files are taken", True, b"--requests FILE" in said and b"--rows FILE" in said and b"--path PATH" in said)
 
     def test_not_read(self):
         for flag in "--requests", "--rows":

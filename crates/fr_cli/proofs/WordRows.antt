@@ -11,7 +11,7 @@ use Rattle.fr_base.specs.declared.report.Report.TheVariants.{Schedule}
 use Rattle.fr_cli.specs.Commands.{slotplan}
 use Rattle.fr_cli.specs.Words.{AskFor, IsFaultOf, IsFileOf, LackAnObject, word_of_header}
 use Rattle.fr_cli.specs.declared.text_file.TextFile.{TextFile}
-use Rattle.fr_cli.specs.declared.text_file.TextFile.TheVariants.{Config, Requests, Rows}
+use Rattle.fr_cli.specs.declared.text_file.TextFile.TheVariants.{Config, Requests, Rows, Target}
 use Rattle.fr_cli.specs.declared.words.Job.TheVariants as job
 use Rattle.fr_cli.specs.declared.words.WordFault.TheVariants.{Usage}
 
@@ -155,6 +155,7 @@ no_file : (file : TextFile) → IsFileOf file [] → ⊥
 no_file (Config path) is = let no : None ≡ Some path.now = is.0 in cc
 no_file (Requests path) is = let no : None ≡ Some path.now = is.1 in cc
 no_file (Rows path) is = let no : None ≡ Some path.now = is.2 in cc
+no_file (Target path) is = let no : None ≡ Some path.now = is.3 in cc
 
 file_is_lacking : LackAnObject (codes "check" ∷ [])
 unfolding clap_on_literals
@@ -163,7 +164,7 @@ file_is_lacking = inl (refl, no_file)
 -- a job's words lack nothing
 file_is_named : LackAnObject (codes "check" ∷ codes "car.toml" ∷ []) → ⊥
 unfolding clap_on_literals
-file_is_named (inl lacks) = lacks.1 (Config (record { ref_ptr = (0, 0); now = codes "car.toml" })) (refl, refl, refl)
+file_is_named (inl lacks) = lacks.1 (Config (record { ref_ptr = (0, 0); now = codes "car.toml" })) (refl, refl, refl, refl)
 file_is_named (inr lacks) = let no : codes "check" ≡ codes "export" = lacks.0 in cc
 
 schedule_lacks_nothing : LackAnObject (codes "schedule" ∷ codes "car.db" ∷ codes "v1" ∷ []) → ⊥

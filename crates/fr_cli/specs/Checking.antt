@@ -1,11 +1,15 @@
 -- Check: what is said of a file, and how that ends. It is a cluster file; or none, and the line begins with the word of its fault. Or its
 -- lines are requests, or its records rows, and how many is said; or each fault of them has a line. Or it cannot be read, or memory is wanting.
-use Rattle.std.specs.Prelude.{◌≡◌, ◌⊎◌, ◌++◌, ◌-◌, ℕ, true, false, List, length, codes, decimal, Result, Ok, Err}
-use Rattle.std.specs.Global.{Vec}
+-- What is said of the path of a request over HTTP.
+use Rattle.std.specs.Prelude.{◌≡◌, ◌⊎◌, ◌++◌, ◌-◌, ℕ, true, false, List, length, codes, decimal, string_bytes, Result, Ok, Err}
+use Rattle.std.specs.Global.{Global, Vec}
+use Rattle.std.specs.List.{flat_map}
+use Rattle.std.specs.declared.string.String.{String}
 use Rattle.fr_base.specs.Cluster.{ClusterFile}
 use Rattle.fr_text.specs.ClusterFile.{config_fault_word, config_of}
 use Rattle.fr_text.specs.declared.cluster_file.ConfigFault.{ConfigFault}
-use Rattle.fr_guide.specs.Faults.{all_fine, all_lines}
+use Rattle.fr_guide.specs.Faults.{all_fine, all_lines, are_none}
+use Rattle.fr_guide.specs.Paths.{is_fine_path}
 use Rattle.fr_guide.specs.RequestFile.{AreToldOfRequests}
 use Rattle.fr_guide.specs.Rows.{AreToldOfRows}
 use Rattle.fr_guide.specs.declared.line_faults.LineFaults.{LineFaults}
@@ -35,9 +39,13 @@ fine_line what count = what ++ codes ": " ++ decimal count ++ codes ", no fault\
 abbrev pub fine_requests : List ℕ → List LineFaults → List ℕ
 fine_requests bytes told = fine_line (codes "requests") (length (request_lines bytes))
 
--- that of rows: how many records stand below the header
+-- the line that says what a file of rows cannot tell
+abbrev pub untold_line : List ℕ
+untold_line = codes "the register alone knows its slots, channels and cycles, and which are granted and free\n"
+
+-- that of rows: how many records stand below the header; and what these cannot tell
 abbrev pub fine_rows : List LineFaults → List ℕ
-fine_rows told = fine_line (codes "rows") (length told - 1)
+fine_rows told = fine_line (codes "rows") (length told - 1) ++ untold_line
 
 -- What is told of the file so has no fault, and that is said so; or each fault is a line; or memory was wanting.
 abbrev pub AreChecked : (List LineFaults → Type 0) → (List LineFaults → List ℕ) → Result (Vec ℕ) Failure → Type 0
@@ -46,25 +54,27 @@ AreChecked AreTold print (Err (failure.RefusedRows text)) = ⊥
 AreChecked AreTold print (Err (failure.Refused line)) = (told : List LineFaults) × AreTold told × (all_fine told ≡ false) × (line.items ≡ all_lines told)
 AreChecked AreTold print (Err (failure.Fault fault)) = fault ≡ NoMemory
 
--- The bytes of such a file are checked so.
-abbrev pub IsCheckedAs : TextFile → List ℕ → Result (Vec ℕ) Failure → Type 0
-IsCheckedAs (of.Config path) bytes done = IsChecked bytes done
-IsCheckedAs (of.Requests path) bytes done = AreChecked (AreToldOfRequests bytes) (fine_requests bytes) done
-IsCheckedAs (of.Rows path) bytes done = AreChecked (AreToldOfRows bytes) fine_rows done
+-- a line for each fault
+abbrev pub fault_lines_of : List (String Global) → List ℕ
+fault_lines_of faults = flat_map (λ fault. word_line (string_bytes fault)) faults
 
--- where such a file stands
-abbrev pub path_of : TextFile → List ℕ
-path_of (of.Config path) = path.now
-path_of (of.Requests path) = path.now
-path_of (of.Rows path) = path.now
+-- The path has a form, its names are names and its numbers numbers, and that is said; or each fault is a line; or memory was wanting.
+abbrev pub IsCheckedPath : List ℕ → Result (Vec ℕ) Failure → Type 0
+IsCheckedPath path (Ok text) = (is_fine_path path ≡ true) × (text.items ≡ codes "path: no fault\n")
+IsCheckedPath path (Err (failure.RefusedRows text)) = ⊥
+IsCheckedPath path (Err (failure.Refused line)) = (is_fine_path path ≡ false) × (faults : List (String Global)) × (are_none faults ≡ false)
+    × (line.items ≡ fault_lines_of faults)
+IsCheckedPath path (Err (failure.Fault fault)) = fault ≡ NoMemory
 
--- These bytes were read of such a file: all, or of a file of rows a front.
-abbrev pub IsReadOf : Readings → TextFile → List ℕ → Type 0
-IsReadOf read (of.Config path) bytes = read.whole max_config path.now bytes
-IsReadOf read (of.Requests path) bytes = read.whole max_script path.now bytes
-IsReadOf read (of.Rows path) bytes = read.front max_rows path.now bytes
+-- The file at the path cannot be read; or bytes were read of it, of which this is so, and checked so.
+abbrev pub IsCheckedText : Readings → List ℕ → (List ℕ → Type 0) → (List ℕ → Result (Vec ℕ) Failure → Type 0) → Result (Vec ℕ) Failure → Type 0
+IsCheckedText read path WasRead IsCheckedAs done = ((fault : Fault) × (done ≡ Err (failure.Fault fault)) × IsUnread read path fault)
+    ⊎ ((bytes : List ℕ) × WasRead bytes × IsCheckedAs bytes done)
 
--- The file cannot be read; or bytes were read of it, and checked so.
+-- Such a file is checked so: all of it, or of a file of rows a front. Of a path no file is read.
 abbrev pub IsCheckedFile : Readings → TextFile → Result (Vec ℕ) Failure → Type 0
-IsCheckedFile read file done = ((fault : Fault) × (done ≡ Err (failure.Fault fault)) × IsUnread read (path_of file) fault)
-    ⊎ ((bytes : List ℕ) × IsReadOf read file bytes × IsCheckedAs file bytes done)
+IsCheckedFile read (of.Config path) done = IsCheckedText read path.now (read.whole max_config path.now) IsChecked done
+IsCheckedFile read (of.Requests path) done = IsCheckedText read path.now (read.whole max_script path.now)
+    (λ bytes. AreChecked (AreToldOfRequests bytes) (fine_requests bytes)) done
+IsCheckedFile read (of.Rows path) done = IsCheckedText read path.now (read.front max_rows path.now) (λ bytes. AreChecked (AreToldOfRows bytes) fine_rows) done
+IsCheckedFile read (of.Target path) done = read.none × IsCheckedPath path.now done

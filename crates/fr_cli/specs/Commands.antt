@@ -114,12 +114,13 @@ abbrev pub try_words : App
 try_words = with_rule (with_rule (with_rule (with_rule (with_rule (new_app (codes "try")) (word (codes "DB"))) (word (codes "KEY")))
     (word (codes "VARIANT"))) (word (codes "FILE"))) (flag (codes "replace"))
 
--- a file that may be named
-abbrev pub file : Text → Rule
-file name = record (new_rule name) { long = Some name; action = Some Set; value_names = 1 }
+-- a text that may be named, as a file or a path
+abbrev pub named : Text → Rule
+named name = record (new_rule name) { long = Some name; action = Some Set; value_names = 1 }
 
 abbrev pub check : App
-check = with_rule (with_rule (with_rule (new_app (codes "check")) (free_word (codes "CONFIG"))) (file (codes "requests"))) (file (codes "rows"))
+check = with_rule (with_rule (with_rule (with_rule (new_app (codes "check")) (free_word (codes "CONFIG"))) (named (codes "requests")))
+    (named (codes "rows"))) (named (codes "path"))
 
 abbrev pub explain : App
 explain = with_rule (new_app (codes "explain")) (free_word (codes "WORD"))

@@ -97,11 +97,12 @@ IsQueryIn rows inquiry = HasNames inquiry.query rows × IsOfSupplier inquiry.sup
 abbrev pub Lacks : Text → List Row → Type 0
 Lacks name rows = first_of name rows ≡ None
 
--- The file is the one that the words name, and they name no other.
+-- The file or the path is the one that the words name, and they name no other.
 abbrev pub IsFileOf : TextFile → List Row → Type 0
-IsFileOf (of.Config path) rows = Has (codes "CONFIG") rows path.now × Lacks (codes "requests") rows × Lacks (codes "rows") rows
-IsFileOf (of.Requests path) rows = Lacks (codes "CONFIG") rows × Has (codes "requests") rows path.now × Lacks (codes "rows") rows
-IsFileOf (of.Rows path) rows = Lacks (codes "CONFIG") rows × Lacks (codes "requests") rows × Has (codes "rows") rows path.now
+IsFileOf (of.Config path) rows = Has (codes "CONFIG") rows path.now × Lacks (codes "requests") rows × Lacks (codes "rows") rows × Lacks (codes "path") rows
+IsFileOf (of.Requests path) rows = Lacks (codes "CONFIG") rows × Has (codes "requests") rows path.now × Lacks (codes "rows") rows × Lacks (codes "path") rows
+IsFileOf (of.Rows path) rows = Lacks (codes "CONFIG") rows × Lacks (codes "requests") rows × Has (codes "rows") rows path.now × Lacks (codes "path") rows
+IsFileOf (of.Target path) rows = Lacks (codes "CONFIG") rows × Lacks (codes "requests") rows × Lacks (codes "rows") rows × Has (codes "path") rows path.now
 
 -- The file is that one. Where none is given, the words name none, or several.
 abbrev pub IsFileIn : Option TextFile → List Row → Type 0

@@ -1,28 +1,33 @@
-//! Checks the text of a file: of a cluster, of requests, or of an import's rows.
-ghost use Rattle.std.specs.Prelude.{◌≡◌, ◌++◌, IfOk, IfErr, codes};
+//! Checks the text of a file: of a cluster, of requests, or of an import's rows; or the path of a
+//! request over HTTP.
+ghost use Rattle.std.specs.Prelude.{◌≡◌, ◌++◌, IfOk, codes};
 ghost use Rattle.fr_guide.specs.RequestFile.{AreToldOfRequests};
 ghost use Rattle.fr_guide.specs.Rows.{AreToldOfRows};
-ghost use Rattle.fr_cli.specs.Checking.{AreChecked, IsChecked, IsCheckedAs, IsCheckedFile, IsReadOf, fine_line, fine_requests, fine_rows, path_of};
+ghost use Rattle.fr_cli.specs.Checking.{AreChecked, IsChecked, IsCheckedFile, IsCheckedPath, fault_lines_of, fine_line, fine_requests, fine_rows};
 ghost use Rattle.fr_cli.specs.Endings.{word_line};
-ghost use Rattle.fr_cli.specs.Texts.{IsUnread, readings};
+ghost use Rattle.fr_cli.specs.Texts.{readings};
 
 use crate::creating::CONFIG_BYTES;
 use crate::delivered_file::FILE_BYTES;
 use crate::failure::Failure;
-use crate::fault::Fault;
 use crate::files::{read_file, read_front};
 use crate::input::SCRIPT_BYTES;
 use crate::text_file::TextFile;
 use crate::text_files::TextFiles;
 use fr_base::NoMemory;
 use fr_guide::{
-    Finding, LineFaults, are_fine, examine, fault_lines, request_file_faults, row_faults,
+    Finding, LineFaults, are_fine, examine, fault_lines, path_faults, request_file_faults,
+    row_faults,
 };
 use fr_text::RequestLines;
 use std::alloc::Global;
 
-/// A line on what the file says, if it has no fault. Else it is refused: with a line on a cluster file's fault, or with a
-/// line for each fault of requests or rows.
+/// What is said of rows without a fault that only a register can tell.
+const UNTOLD: &[u8] =
+    b"the register alone knows its slots, channels and cycles, and which are granted and free\n";
+
+/// A line on what the file or the path says, if it has no fault. Else it is refused: with a line on a cluster file's fault, or
+/// with a line for each fault of requests, of rows or of a path.
 pub fn check<F: TextFiles>(
     alloc: Global,
     files: &mut F,
@@ -31,32 +36,20 @@ pub fn check<F: TextFiles>(
     ensures { let read = readings F.TextFiles F.Reader.Read files.old files.new in
         IsCheckedFile read file.entry result }
 {
-    let text = read(alloc, files, file)?;
-    check_as(alloc, file, &text)
-}
-
-// The file's bytes, as many as are looked at.
-fn read<F: TextFiles>(alloc: Global, files: &mut F, file: TextFile<'_>) -> Result<Vec<u8>, Fault>
-    ensures read { let read = readings F.TextFiles F.Reader.Read files.old files.new in
-        IfOk result (λ text. IsReadOf read file.entry text.items) }
-    ensures fault { let read = readings F.TextFiles F.Reader.Read files.old files.new in
-        IfErr result (IsUnread read (path_of file.entry)) }
-{
     match file {
-        TextFile::Config { path } => read_file(alloc, files, path, CONFIG_BYTES),
-        TextFile::Requests { path } => read_file(alloc, files, path, SCRIPT_BYTES),
-        TextFile::Rows { path } => read_front(alloc, files, path, FILE_BYTES),
-    }
-}
-
-// What is said of the text of such a file.
-fn check_as(alloc: Global, file: TextFile<'_>, text: &[u8]) -> Result<Vec<u8>, Failure>
-    ensures { IsCheckedAs file.entry text.now result }
-{
-    match file {
-        TextFile::Config { path: _ } => check_config(alloc, text),
-        TextFile::Requests { path: _ } => check_requests(alloc, text),
-        TextFile::Rows { path: _ } => check_rows(alloc, text),
+        TextFile::Config { path } => {
+            let text = read_file(alloc, files, path, CONFIG_BYTES)?;
+            check_config(alloc, &text)
+        }
+        TextFile::Requests { path } => {
+            let text = read_file(alloc, files, path, SCRIPT_BYTES)?;
+            check_requests(alloc, &text)
+        }
+        TextFile::Rows { path } => {
+            let text = read_front(alloc, files, path, FILE_BYTES)?;
+            check_rows(alloc, &text)
+        }
+        TextFile::Target { path } => check_path(alloc, path),
     }
 }
 
@@ -81,13 +74,41 @@ fn check_requests(alloc: Global, text: &[u8]) -> Result<Vec<u8>, Failure>
     tell(alloc, &told, "requests", count)
 }
 
-// A line that says how many rows stand below the header, if none has a fault; else, as a refusal, a line for each fault.
+// A line that says how many rows stand below the header, and one on what the file does not tell, if none has a fault; else, as
+// a refusal, a line for each fault.
 fn check_rows(alloc: Global, text: &[u8]) -> Result<Vec<u8>, Failure>
     ensures { AreChecked (AreToldOfRows text.now) fine_rows result }
 {
     let told = row_faults(alloc, text)?;
     let count = told.len().saturating_sub(1);
-    tell(alloc, &told, "rows", count)
+    let mut text = tell(alloc, &told, "rows", count)?;
+    text.extend_from_slice(UNTOLD)?;
+    Ok(text)
+}
+
+// A line that says that the path has no fault; else, as a refusal, a line for each fault.
+fn check_path(alloc: Global, path: &str) -> Result<Vec<u8>, Failure>
+    ensures { IsCheckedPath path.now result }
+{
+    let faults = path_faults(alloc, path)?;
+    let lines = path_lines(alloc, &faults)?;
+    if faults.is_empty() {
+        let text = String::from_str(alloc, "path: no fault\n")?;
+        return Ok(text.into_bytes());
+    }
+    Err(Failure::Refused { line: lines })
+}
+
+// The faults of a path, each on a line of its own.
+fn path_lines(alloc: Global, faults: &[String]) -> Result<Vec<u8>, NoMemory>
+    ensures { IfOk result (λ text. text.items ≡ fault_lines_of faults.now) }
+{
+    let mut text = Vec::new(alloc);
+    for fault in faults {
+        let line = fault_line(alloc, fault.as_bytes())?;
+        text.extend_from_slice(&line)?;
+    }
+    Ok(text)
 }
 
 // A line that says that so many have no fault, if none of these has one; else, as a refusal, a line for each fault.

@@ -297,19 +297,26 @@ fn check<'a>(alloc: Global) -> Result<Command<'a>, AllocError>
     ensures { IfOk result (IsReadAs app.check) }
 {
     let command = Command::new(alloc, "check")
-        .about("Says what is wrong with the text of a file and where, or that nothing is")
+        .about("Says what is wrong with the text of a file or a path, or that nothing is")
         .after_help(CHECK_HELP)
         .arg(free_word(
             alloc,
             "CONFIG",
             "A cluster file (TOML), at most 1,048,576 bytes",
         ))?
-        .arg(file(
+        .arg(named(
             alloc,
             "requests",
+            "FILE",
             "Requests, a line each, as ask reads them; at most 16,777,216 bytes",
         ))?
-        .arg(file(alloc, "rows", "The file (CSV) of an import"))?;
+        .arg(named(alloc, "rows", "FILE", "The file (CSV) of an import"))?
+        .arg(named(
+            alloc,
+            "path",
+            "PATH",
+            "The path of a request over HTTP, all before its ?",
+        ))?;
     Ok(command)
 }
 
@@ -409,13 +416,13 @@ fn supplier<'a>(alloc: Global) -> Arg<'a>
         .action(ArgAction::Set)
 }
 
-// A file that may be named.
-fn file<'a>(alloc: Global, name: &'a str, help: &'a str) -> Arg<'a>
-    ensures { (rule_of result ≡ app.file name.entry.now) × (result.global ≡ false) }
+// A text that may be named, as a file or a path.
+fn named<'a>(alloc: Global, name: &'a str, value: &'a str, help: &'a str) -> Arg<'a>
+    ensures { (rule_of result ≡ app.named name.entry.now) × (result.global ≡ false) }
 {
     Arg::new(alloc, name)
         .long(name)
-        .value_name("FILE")
+        .value_name(value)
         .help(help)
         .action(ArgAction::Set)
 }
@@ -653,13 +660,16 @@ Example:
   slotplan try car.db - v1 placements.csv --replace < key.txt";
 
 const CHECK_HELP: &str = "\
-Of a cluster file the first fault is told, of requests and rows each fault with its line.
-The register is not asked: it may still refuse what has no fault here.
+Of a cluster file the first fault is told, of requests and rows each fault with its line,
+of a path each fault. Of rows it is told what each cluster refuses, as the channel a or
+slot 0. The register is not asked: it may still refuse what has no fault here, as a slot
+that its cluster lacks, or that is not granted.
 
 Example:
   slotplan check cluster.toml
   slotplan check --requests changes.txt
-  slotplan check --rows placements.csv";
+  slotplan check --rows placements.csv
+  slotplan check --path /v1/variants/sport/imports/week_48";
 
 const EXPLAIN_HELP: &str = "\
 Example:

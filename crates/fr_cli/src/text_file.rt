@@ -1,6 +1,6 @@
-//! A file whose text is checked.
+//! A text that is checked.
 
-/// A file by its path, and what its text is to be.
+/// A file by its path, and what its text is to be; or a text that is no file.
 #[derive(Clone, Copy, PartialEq, Eq)]
 pub enum TextFile<'a> {
     /// A cluster file.
@@ -9,4 +9,6 @@ pub enum TextFile<'a> {
     Requests { path: &'a str },
     /// The rows of an import.
     Rows { path: &'a str },
+    /// The path of a request over HTTP, which is no file.
+    Target { path: &'a str },
 }

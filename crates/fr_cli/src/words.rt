@@ -16,7 +16,7 @@ use fr_base::{Header, Inventory, Query, Report};
 use std::alloc::Global;
 
 /// What is said of words of `check` that name no job, though `clap` takes them.
-const NO_FILE: &str = "check takes one file: CONFIG, or --requests FILE, or --rows FILE";
+const NO_FILE: &str = "check takes one of these: CONFIG, --requests FILE, --rows FILE, --path PATH";
 
 /// What is said of words of `export` that name no job, though `clap` takes them.
 const NO_ROWS: &str = "export takes ROWS that are frames, placements or signals";
@@ -63,7 +63,7 @@ pub enum Job<'a> {
         db: &'a str,
         delivery: Delivery<'a>,
     },
-    /// Say what is wrong with the text of a file, and where; or that nothing is.
+    /// Say what is wrong with the text of a file, and where, or with a path; or that nothing is.
     Check {
         file: TextFile<'a>,
     },
@@ -317,17 +317,19 @@ fn check_job<'a>(found: &ArgMatches<'a>) -> Option<Job<'a>>
     })
 }
 
-// The one file that is named.
+// The one file or path that is named.
 fn text_file<'a>(found: &ArgMatches<'a>) -> Option<TextFile<'a>>
     ensures { IsFileIn result (rows_of (found_of found.now)) }
 {
     let config = word(found, "CONFIG");
     let requests = word(found, "requests");
     let rows = word(found, "rows");
-    match (config, requests, rows) {
-        (Some(path), None, None) => Some(TextFile::Config { path }),
-        (None, Some(path), None) => Some(TextFile::Requests { path }),
-        (None, None, Some(path)) => Some(TextFile::Rows { path }),
+    let target = word(found, "path");
+    match (config, requests, rows, target) {
+        (Some(path), None, None, None) => Some(TextFile::Config { path }),
+        (None, Some(path), None, None) => Some(TextFile::Requests { path }),
+        (None, None, Some(path), None) => Some(TextFile::Rows { path }),
+        (None, None, None, Some(path)) => Some(TextFile::Target { path }),
         _ => None,
     }
 }

@@ -8,5 +8,6 @@ pub returns : goal.returns
 returns c =
     let new : IsReadAs (new_app (codes "check")) c.after_help.result = search rules in
     with_arg _ _ _ _ _ c.in_ok-command.ensures
+    (with_arg _ _ _ _ _ c.in_ok-arg-3.ensures
     (with_arg _ _ _ _ _ c.in_ok-arg-2.ensures
-    (with_arg _ _ _ _ _ c.in_ok-arg.ensures new c.free_word.ensures) c.file.ensures) c.file-2.ensures
+    (with_arg _ _ _ _ _ c.in_ok-arg.ensures new c.free_word.ensures) c.named.ensures) c.named-2.ensures) c.named-3.ensures
