@@ -6,7 +6,7 @@ from tests.lib.picture import Page, compare
 from tests.lib.plans import Register, examples, limits
 
 # How many bytes a page may have at the limits, by itself and for each supplier, lane, placement, frame and signal, as FORMATS says.
-PAGE, SUPPLIER, LANE, PLACEMENT, FRAME, SIGNAL = 25_000, 110, 220, 235, 170, 35
+PAGE, SUPPLIER, LANE, PLACEMENT, FRAME, SIGNAL = 28_000, 110, 220, 235, 170, 35
 
 # The suppliers' colours: eight that readers who are colour-blind can tell apart.
 COLOURS = {"#56B4E9", "#E69F00", "#009E73", "#F0E442", "#CC79A7", "#D55E00", "#0072B2", "#882255"}

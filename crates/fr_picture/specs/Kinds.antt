@@ -133,7 +133,7 @@ down_text cycle cycles frame =
 -- the frame's number, and its name beside it where it has room, or else below
 unfoldable pub label_text : ℕ → List ℕ → Rectangle → List ℕ
 label_text width tag r =
-    if nat_lt (length tag + length r.first.frame + 1) (2 * width)
+    if nat_lt (length tag + length r.first.frame) (2 * width)
     then together (codes "<text y=" ∷ decimal r.first.cycle ∷ codes ">" ∷ tag ∷ codes " " ∷ r.first.frame ∷ codes "</text>" ∷ [])
     else tag_start width (length tag) r.first.cycle ++ tag ++ fixed_text TextEnd ++ down_text r.first.cycle r.cycles r.first.frame
 

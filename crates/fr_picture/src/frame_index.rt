@@ -1,4 +1,5 @@
-//! The index of frames: by name, each with its number in the table. The number of a cell's frame is found in it.
+//! The index of frames: by name, each with its number in the table, which is found by it for the
+//! frame of a cell.
 ghost use Rattle.std.specs.Prelude.{◌≡◌, OnOk, IfOk, map};
 ghost use Rattle.std.specs.Cmp.Lexicographic.{slice_cmp};
 ghost use Rattle.std.specs.Ordering.{is_lt, nat_cmp};

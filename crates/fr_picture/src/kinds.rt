@@ -1,4 +1,5 @@
-//! The rectangles of one frame in a lane, drawn as one shape with one title, which leads to the frame's row.
+//! The rectangles of one frame in a lane, drawn as one shape with one title. It leads to the
+//! frame's row.
 ghost use Rattle.std.specs.Prelude.{◌≡◌, ◌+◌, ◌*◌, ◌/◌, ◌<◌, ◌^◌, ◌&&◌, filter, max, length, OnOk, IfOk};
 ghost use Rattle.std.specs.String.{string_bytes};
 ghost use Rattle.fr_picture.specs.FrameIndexes.{AreByName};
@@ -84,7 +85,8 @@ pub(crate) fn set_of(cycles: u32, base: u8, same: &[Rectangle]) -> Option<u32>
     None
 }
 
-/// Appends the rectangles of a lane. Those of one frame make one shape, which leads to the frame's row.
+/// Appends the rectangles of a lane. Those of one frame make one shape, which leads to the frame's
+/// row.
 #[tactic(auto, unfolding(crate::specs::Kinds::rectangles_text))]
 pub(crate) fn push_rectangles(
     alloc: Global,
@@ -130,7 +132,8 @@ fn push_rectangle(
     )
 }
 
-// Appends the rectangles of one frame, of which `one` is the first, with the number of the frame's row.
+// Appends the rectangles of one frame, of which `one` is the first, with the number of the frame's
+// row.
 #[tactic(auto, unfolding(crate::specs::Kinds::same_frame_text))]
 fn push_same_frame(
     alloc: Global,
@@ -341,14 +344,15 @@ fn tag_of(alloc: Global, number: Option<u64>) -> Result<String, NoMemory>
     Ok(tag)
 }
 
-// Appends the frame's number in its first rectangle, and its name beside it where it has room, else below.
+// Appends the frame's number in its first rectangle, and its name beside it where it has room, else
+// below.
 #[tactic(auto, unfolding(crate::specs::Kinds::label_text))]
 fn push_label(width: u32, tag: &str, one: &Rectangle, out: &mut String) -> Result<(), NoMemory>
     ensures { OnOk result (Appends out.old out.new (label_text width tag.now one.now)) }
 {
     let frame = one.first.frame;
     let cycle = one.first.cycle;
-    if tag.len() as u64 + frame.as_str().len() as u64 + 1 < 2 * u64::from(width) {
+    if tag.len() as u64 + (frame.as_str().len() as u64) < 2 * u64::from(width) {
         return write!(out, "<text y={cycle}>{tag} {frame}</text>");
     }
     push_tag_start(width, tag.len() as u64, cycle, out)?;
@@ -357,7 +361,8 @@ fn push_label(width: u32, tag: &str, one: &Rectangle, out: &mut String) -> Resul
     push_down(cycle, one.cycles, frame, out)
 }
 
-// Appends the beginning of a number in a lane of this width: smaller, where it has more digits than a lane has room for.
+// Appends the beginning of a number in a lane of this width: smaller, where it has more digits than
+// a lane has room for.
 #[tactic(auto, unfolding(crate::specs::Kinds::tag_start))]
 fn push_tag_start(width: u32, digits: u64, cycle: u8, out: &mut String) -> Result<(), NoMemory>
     requires small { digits < 2 ^ 63 }

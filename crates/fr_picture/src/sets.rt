@@ -88,7 +88,8 @@ fn push_sets(scale: Scale, out: &mut String) -> Result<(), NoMemory>
     Ok(())
 }
 
-// Appends the cells of base 0 and this repetition, and over them those of a pattern, if it divides the count of cycles.
+// Appends the cells of base 0 and this repetition, and over them those of a pattern, if it divides
+// the count of cycles.
 #[tactic(auto, unfolding(crate::specs::Sets::set_path))]
 fn push_set(scale: Scale, repetition: u32, out: &mut String) -> Result<(), NoMemory>
     requires { 1 ≤ repetition }

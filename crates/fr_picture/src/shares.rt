@@ -131,7 +131,8 @@ fn push_share(share: &Share, out: &mut String) -> Result<(), NoMemory>
     push_holds(share, percent(share.sent as u64, share.room), out)
 }
 
-/// Appends the look of the supplier of this number: its colour, and a pattern where the colours came before.
+/// Appends the look of the supplier of this number: its colour, and a pattern where the colours came
+/// before.
 #[tactic(auto, unfolding(crate::specs::Shares::look_text))]
 pub(crate) fn push_look(number: usize, out: &mut String) -> Result<(), NoMemory>
     ensures { OnOk result (Appends out.old out.new (look_text number)) }

@@ -57,13 +57,13 @@ i{display:inline-block;width:2.4em;border:1px solid #222;text-align:center;font-
 .t5{--p:url(#t5)}
 .t6{--p:url(#t6)}
 .t7{--p:url(#t7)}
-i.t1{background-image:repeating-linear-gradient(45deg,#fff0 0 3px,#fff 3px 5px,#111 5px 6px)}
-i.t2{background-image:radial-gradient(#fff 1.5px,#111 1.5px 2px,#fff0 2.2px);background-size:5px 5px}
+i.t1{background-image:radial-gradient(#fff 1.5px,#111 1.5px 2px,#fff0 2.2px);background-size:5px 5px}
+i.t2{background-image:repeating-linear-gradient(90deg,#fff0 0 3px,#fff 3px 5px,#111 5px 6px)}
 i.t3{background-image:repeating-linear-gradient(0deg,#fff0 0 3px,#fff 3px 5px,#111 5px 6px)}
-i.t4{background-image:repeating-linear-gradient(90deg,#fff0 0 3px,#fff 3px 5px,#111 5px 6px)}
-i.t5{background-image:repeating-linear-gradient(45deg,#fff0 0 3px,#fff 3px 5px,#111 5px 6px),repeating-linear-gradient(-45deg,#fff0 0 3px,#fff 3px 5px,#111 5px 6px)}
+i.t4{background-image:repeating-linear-gradient(0deg,#fff0 0 3px,#fff 3px 5px,#111 5px 6px),repeating-linear-gradient(90deg,#fff0 0 3px,#fff 3px 5px,#111 5px 6px)}
+i.t5{background-image:repeating-linear-gradient(45deg,#fff0 0 3px,#fff 3px 5px,#111 5px 6px)}
 i.t6{background-image:repeating-linear-gradient(-45deg,#fff0 0 3px,#fff 3px 5px,#111 5px 6px)}
-i.t7{background-image:repeating-linear-gradient(0deg,#fff0 0 3px,#fff 3px 5px,#111 5px 6px),repeating-linear-gradient(90deg,#fff0 0 3px,#fff 3px 5px,#111 5px 6px)}
+i.t7{background-image:repeating-linear-gradient(45deg,#fff0 0 3px,#fff 3px 5px,#111 5px 6px),repeating-linear-gradient(-45deg,#fff0 0 3px,#fff 3px 5px,#111 5px 6px)}
 pattern path{stroke:#fff;stroke-width:.2px}
 pattern .k{stroke:#111;stroke-width:.07px}
 circle{fill:#fff;stroke:#111;stroke-width:.05px}
