@@ -135,8 +135,8 @@ class Limits(FileCase):
 
     def test_frames(self):
         names = [f"F{number:03}" for number in range(257)]
-        timings = [arxml.timing(1 + number // 64, number % 64, 64) for number in range(257)]
-        sent = [arxml.triggering(f"T_{name}", name, ["DSC/ConnA/Out"], timing) for name, timing in zip(names, timings)]
+        timings = [[arxml.timing(slot + number // 64, number % 64, 64) for slot in (1, 11, 21)] for number in range(257)]
+        sent = [arxml.triggering(f"T_{name}", name, ["DSC/ConnA/Out"], *three) for name, three in zip(names, timings)]
         cluster = arxml.cluster("C", [arxml.channel("A", ["DSC"], sent)], arxml.FIGURES)
         frames = (arxml.frame(name, 16, arxml.pdu_at("P", 0)) for name in names)
         signals = [f"S{number:02}" for number in range(65)]
@@ -152,4 +152,4 @@ class Limits(FileCase):
         folder.write(self.folder / "made", proposal.plan, proposal.notes, "")
         answers, _ = reports((self.folder / "made/cluster.toml").read_text(), requests_of(self.folder / "made"), [])
         rows = [answer["rows"] for answer in map(json.loads, answers) if answer["ok"] == "imported"]
-        self.see("rows of its files: frames, placements, and signals of 8 frames in each", [256, 256, *[512] * 32], rows)
+        self.see("rows of its files: frames, placements of 170 and of 86 frames, and signals of 8", [256, 510, 258, *[512] * 32], rows)

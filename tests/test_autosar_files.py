@@ -4,6 +4,7 @@ import re
 import xml.etree.ElementTree as ET
 
 from clients.slotplan_plans.autosar import folder, reading, writing
+from clients.slotplan_plans.autosar.found import folded
 from clients.slotplan_plans.autosar.proposal import Proposal
 from clients.slotplan_plans.bits import bits
 from clients.slotplan_plans.faults import Fault
@@ -285,6 +286,12 @@ class OtherWords(FileCase):
             _, proposal = self.read(text, {})
             self.see(f"the plan with other {name}", first.plan, proposal.plan)
             self.see(f"what other {name} leave out", [], [note for note in proposal.notes if note.kind != "not kept"])
+
+    def test_single_cycles(self):
+        """Cycles that are told one by one become the most frequent repetitions, by their bases."""
+        self.see("all cycles", [(0, 1)], folded(range(64), 64))
+        self.see("each third of 12", [(2, 3)], folded({2, 5, 8, 11}, 12))
+        self.see("the even ones, and one besides", [(0, 2), (3, 10)], folded({0, 2, 3, 4, 6, 8}, 10))
 
     def test_flags(self):
         """What a triggering says of its payload the register has no word for."""
