@@ -16,9 +16,12 @@ struct Requests {
 }
 
 impl Judge for Requests {
-    ghost use Rattle.std.specs.Prelude.{⊤};
+    ghost use Rattle.std.specs.Prelude.{◌≡◌, ℕ, Bool};
+    ghost use Rattle.fr_http.specs.Complete.{IsKnown, IsOpen};
+    ghost use Rattle.fr_links.specs.declared.judge.Judgement.TheVariants.{Known, Open};
 
-    ghost tells = { λ _ _ _. ⊤ };
+    ghost tells = { λ _ came told. (told ≡ Open → IsOpen came)
+        × ((n : ℕ) → (invites : Bool) → told ≡ Known n invites → IsKnown came n invites) };
 
     fn judge(&self, bytes: &[u8]) -> Judgement {
         match self.engine.need_of(bytes) {

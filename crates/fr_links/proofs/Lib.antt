@@ -1,4 +1,5 @@
 pub mod Gathered
+pub mod Told
 pub mod Moved
 pub mod Passing
 pub mod Connecting

@@ -5,7 +5,9 @@ use Rattle.slab.specs.Slab.{ContainsKey, Slab, get, with_value}
 use Rattle.slab.proofs.SlabLemmas.{Updates-with_value}
 use Rattle.fr_links.specs.Connection.{Follows, IsAnswered, IsBegun, IsMoved, IsUnanswered}
 use Rattle.fr_links.proofs.Connecting.{loses_on}
-use Rattle.fr_links.specs.Connections.{AllStay, Goes, OthersStay, Stays, at}
+use Rattle.fr_links.specs.Gathering.{IsTold}
+use Rattle.fr_links.specs.declared.judge.Judgement.{Judgement}
+use Rattle.fr_links.specs.Connections.{AllStay, Goes, IsKnown, OthersStay, Stays, at}
 use Rattle.fr_links.specs.declared.held.Held.{Held}
 use Rattle.fr_links.specs.declared.link.Link.{Link}
 use Rattle.fr_links.specs.declared.stage.Stage.{Stage}
@@ -33,12 +35,31 @@ Follows-trans (Resting x y) (Ready ending) c p q = absurd p
 Follows-trans (Resting x y) (Replying asked) c p q = q
 Follows-trans (Resting x y) (Resting asked room) c p q = q
 
+not_both : (stage : Stage) → IsAnswered stage → IsUnanswered stage → ⊥
+not_both Asking was is = was
+not_both (Ready ending) was is = was
+not_both (Replying asked) was is = is
+not_both (Resting asked room) was is = is
+
 -- what was answered stays so
 pub answered : (a b : Stage) → Follows a b → IsAnswered a → IsAnswered b
 answered Asking b follows was = absurd was
 answered (Ready ending) b follows was = absurd was
 answered (Replying asked) b follows was = follows
 answered (Resting asked room) b follows was = follows
+
+-- what is not answered was not
+pub was_unanswered : (a b : Stage) → Follows a b → IsUnanswered b → IsUnanswered a
+was_unanswered Asking b follows is = tt
+was_unanswered (Ready ending) b follows is = tt
+was_unanswered (Replying asked) Asking follows is = absurd follows
+was_unanswered (Replying asked) (Ready ending) follows is = absurd follows
+was_unanswered (Replying asked) (Replying again) follows is = absurd is
+was_unanswered (Replying asked) (Resting again room) follows is = absurd is
+was_unanswered (Resting asked room) Asking follows is = absurd follows
+was_unanswered (Resting asked room) (Ready ending) follows is = absurd follows
+was_unanswered (Resting asked room) (Replying again) follows is = absurd is
+was_unanswered (Resting asked room) (Resting again left) follows is = absurd is
 
 module _ {S : Type 0} where
   pub Stays-refl : (slot : Option (Held S)) → Stays slot slot
@@ -57,6 +78,27 @@ module _ {S : Type 0} where
   Stays-trans (Some x) None (Some z) p q = absurd q
   Stays-trans None (Some y) (Some z) p q = absurd p
   Stays-trans (Some x) (Some y) (Some z) p q = (q.0 ∙ p.0, Follows-trans x.stage y.stage z.stage p.1 q.1)
+
+  -- what is known of one that stays
+  pub known_stays : (tells : List ℕ → Judgement → Type 0) (slot slot' : Option (Held S)) → Stays slot slot' → IsKnown tells slot → IsKnown tells slot'
+  known_stays tells slot None stays known = tt
+  known_stays tells None (Some new) stays known = absurd stays
+  known_stays tells (Some old) (Some new) stays known =
+      λ unanswered. subst (λ link. IsTold tells link.inbox.need link.inbox.came.items) (sym stays.0) (known (was_unanswered old.stage new.stage stays.1 unanswered))
+
+  -- a judge heard more of one whose request is awaited
+  pub known_heard : (tells : List ℕ → Judgement → Type 0) (slot : Option (Held S)) (held held' : Held S) → slot ≡ Some held → held.stage ≡ Asking
+      → (IsTold tells held.link.inbox.need held.link.inbox.came.items → IsTold tells held'.link.inbox.need held'.link.inbox.came.items) → IsKnown tells slot → IsKnown tells (Some held')
+  known_heard tells slot held held' there asking told known =
+      let before : IsKnown tells (Some held) = subst (IsKnown tells) there known in
+      λ _. told (before (subst IsUnanswered (sym asking) tt))
+
+  -- it is written back under its key
+  pub put_known : (tells : List ℕ → Judgement → Type 0) (links : Slab (Held S)) (key : ℕ) (held held' : Held S) → get links key ≡ Some held → IsKnown tells (Some held')
+      → IsKnown tells (get (with_value links key held') key)
+  put_known tells links key held held' there known =
+      let present : ContainsKey links key = subst IsSome (sym there) refl in
+      subst (IsKnown tells) (sym (Updates-with_value links key held' present).changed) known
 
   pub AllStay-refl : (table : Table S) → AllStay table table
   AllStay-refl table key = Stays-refl (at table key)
@@ -92,6 +134,12 @@ module _ {S : Type 0} (remaining contents : S → Option (List ℕ)) where
   pub Goes-gone : (slot : Option (Held S)) → Goes remaining contents slot None
   Goes-gone None = tt
   Goes-gone (Some held) = tt
+
+  -- what is known of one that was answered
+  pub known_answered : (tells : List ℕ → Judgement → Type 0) (slot slot' : Option (Held S)) → IfSome slot (λ held. IsAnswered held.stage) → Goes remaining contents slot slot' → IsKnown tells slot'
+  known_answered tells slot None was goes = tt
+  known_answered tells None (Some new) was goes = absurd goes
+  known_answered tells (Some old) (Some new) was goes = λ unanswered. absurd (not_both new.stage (answered old.stage new.stage goes.1 was) unanswered)
 
   pub Goes-stays : (a b c : Option (Held S)) → Goes remaining contents a b → Stays b c → Goes remaining contents a c
   Goes-stays None b None p q = tt

@@ -2,11 +2,12 @@
 use Rattle.std.specs.Prelude.{◌≡◌, ◌≢◌, ℕ, List, ◌∷◌, ◌++◌, Option, Some, None, vec_len}
 use Rattle.std.specs.List.{AllByRecursion}
 use Rattle.slab.specs.Slab.{get}
-use Rattle.fr_links.specs.Connection.{Follows, IsMoved, IsReady}
+use Rattle.fr_links.specs.Connection.{Follows, IsMoved, IsReady, IsUnanswered}
 use Rattle.fr_links.specs.Ends.{given_bytes}
-use Rattle.fr_links.specs.Gathering.{Fits, room_of}
+use Rattle.fr_links.specs.Gathering.{Fits, IsTold, room_of}
 use Rattle.fr_links.specs.declared.ends.Given.{Given}
 use Rattle.fr_links.specs.declared.ends.Reply.{Reply}
+use Rattle.fr_links.specs.declared.judge.Judgement.{Judgement}
 use Rattle.fr_links.specs.declared.stage.Stage.TheVariants.{Ready}
 use Rattle.fr_links.specs.declared.held.Held.{Held}
 use Rattle.fr_links.specs.declared.table.Table.{Table}
@@ -35,6 +36,11 @@ module _ {S : Type 0} where
   pub record Queues (old new : Table S) : Type 0 where
     pub more : List ℕ
     pub behind : new.ready.items ≡ old.ready.items ++ more
+
+  -- Unless the connection was answered, what is known of its request is what such a judge told of the bytes that came.
+  abbrev pub IsKnown : (List ℕ → Judgement → Type 0) → Option (Held S) → Type 0
+  IsKnown tells None = Unit {0}
+  IsKnown tells (Some held) = IsUnanswered held.stage → IsTold tells held.link.inbox.need held.link.inbox.came.items
 
   -- it is not to be answered
   abbrev pub IsUnready : Option (Held S) → Type 0

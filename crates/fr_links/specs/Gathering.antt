@@ -1,8 +1,10 @@
 -- Gathering: what is read of a stream stands in order behind what had come, and none of it is lost.
-use Rattle.std.specs.Prelude.{◌≡◌, ◌≢◌, ℕ, ◌-◌, ◌<◌, List, [], ◌++◌, Option, Some, None}
+use Rattle.std.specs.Prelude.{◌≡◌, ◌≢◌, ℕ, ◌-◌, ◌<◌, min, Bool, List, [], ◌++◌, Option, Some, None}
 use Rattle.std.specs.Io.KnownBytes.{Consumes}
 use Rattle.fr_links.specs.declared.heard.Heard.{Heard}
 use Rattle.fr_links.specs.declared.heard.Heard.TheVariants.{Closed, Complete, Failed, More, TooOften}
+use Rattle.fr_links.specs.declared.judge.Judgement.{Judgement}
+use Rattle.fr_links.specs.declared.judge.Judgement.TheVariants.{Known, Open}
 use Rattle.fr_links.specs.declared.stage.Ending.{Ending}
 use Rattle.fr_links.specs.declared.stage.Ending.TheVariants as E
 use Rattle.fr_links.specs.declared.stage.Stage.{Stage}
@@ -34,6 +36,19 @@ ending_of Complete = Some E.Complete
 ending_of Closed = Some E.Closed
 ending_of Failed = Some E.Failed
 ending_of TooOften = Some E.Interrupted
+
+-- What is known of a request whose bytes are these so far, by a judge that may tell this: it told the length of the request by some of the first of
+-- them; or it told by all of them that more has to come, unless none came.
+abbrev pub IsTold : (List ℕ → Judgement → Type 0) → Option ℕ → List ℕ → Type 0
+IsTold tells (Some need) came = (seen : List ℕ) × (more : List ℕ) × (came ≡ seen ++ more) × (bytes : ℕ) × (invites : Bool) × tells seen (Known bytes invites) × (need ≡ min bytes 73728)
+IsTold tells None came = came ≢ [] → tells came Open
+
+-- As a piece came in, it became known whether the client waits for the interim reply: by what the judge told, where it told the length, and else it
+-- stays as it was.
+abbrev pub Invites : (List ℕ → Judgement → Type 0) → Option ℕ → Bool → Option ℕ → Bool → List ℕ → Type 0
+Invites tells (Some known) before need invites came = invites ≡ before
+Invites tells None before None invites came = invites ≡ before
+Invites tells None before (Some need) invites came = (bytes : ℕ) × tells came (Known bytes invites) × (need ≡ min bytes 73728)
 
 -- At this stage so many bytes of the request are still wanted: some while it is awaited, none where it is to be answered as complete, and some
 -- where its input ended before or failed.

@@ -32,6 +32,7 @@ pub struct Held<S> {
 
 impl<S: Wire> Held<S> {
     ghost use Rattle.std.specs.Bool.{OnFalse, OnTrue};
+    ghost use Rattle.fr_links.specs.Gathering.{IsTold};
     ghost use Rattle.fr_links.specs.declared.stage.Ending.TheVariants.{Failed};
     ghost use Rattle.fr_links.specs.declared.stage.Stage.TheVariants.{Asking, Ready};
     ghost use Rattle.fr_links.specs.Connection.{Follows, IsAnswered, IsBegun, IsMoved, IsReady, IsUnanswered, due_of};
@@ -47,6 +48,8 @@ impl<S: Wire> Held<S> {
         key: usize,
     ) -> Held<S>
         ensures begun { IsBegun S.remaining S.contents stream result.link result.stage }
+        ensures told { IsTold (J.tells judge.now) result.link.inbox.need
+            result.link.inbox.came.items }
         ensures stage { IsUnanswered result.stage }
     {
         let mut held = Held {
@@ -113,6 +116,8 @@ impl<S: Wire> Held<S> {
     pub fn hear<J: Judge>(&mut self, judge: &J) -> bool
         requires { self.old.stage ≡ Asking }
         ensures moved { IsMoved S.remaining S.contents self.old.link self.new.link self.new.stage }
+        ensures told { IsTold (J.tells judge.now) self.old.link.inbox.need self.old.link.inbox.came.items
+            → IsTold (J.tells judge.now) self.new.link.inbox.need self.new.link.inbox.came.items }
         ensures ready { OnTrue result (IsReady self.new.stage) }
         ensures stage { OnFalse result (self.new.stage ≡ self.old.stage) }
     {

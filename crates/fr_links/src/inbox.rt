@@ -1,7 +1,7 @@
 //! What came in on a connection, until its request is complete.
 ghost use Rattle.std.specs.Prelude.{◌≡◌, ◌≤◌, ◌++◌, [], false, length, vec_len, None, OnErr, OnOk};
 ghost use Rattle.std.specs.Io.KnownBytes.{Keeps};
-ghost use Rattle.fr_links.specs.Gathering.{Gathers, Leaves, known_of, room_of};
+ghost use Rattle.fr_links.specs.Gathering.{Gathers, Invites, IsTold, Leaves, known_of, room_of};
 
 use crate::heard::Heard;
 use crate::judge::{Judge, Judgement, MAX_REQUEST};
@@ -63,6 +63,8 @@ impl Inbox {
         ensures gathered { Gathers (S.remaining stream.old) (S.remaining stream.new)
             self.old.came.items self.new.came.items result }
         ensures quiet { Keeps (S.contents stream.old) (S.contents stream.new) }
+        ensures told { IsTold (J.tells judge.now) self.old.need self.old.came.items
+            → IsTold (J.tells judge.now) self.new.need self.new.came.items }
         ensures room { Leaves result (room_of self.new.need (vec_len self.new.came)) }
     {
         let mut piece = [0; PIECE];
@@ -94,6 +96,10 @@ impl Inbox {
         requires { length piece.now ≤ room_of self.old.need (vec_len self.old.came) }
         ensures ok { OnOk result (self.new.came.items ≡ self.old.came.items ++ piece.now) }
         ensures err { OnErr result (self.new.came.items ≡ self.old.came.items) }
+        ensures told { IsTold (J.tells judge.now) self.old.need self.old.came.items
+            → IsTold (J.tells judge.now) self.new.need self.new.came.items }
+        ensures invites { Invites (J.tells judge.now) self.old.need self.old.invites
+            self.new.need self.new.invites self.new.came.items }
         ensures kept { OnErr result (self.new.need ≡ self.old.need) }
         ensures reads { self.new.reads ≡ self.old.reads }
     {

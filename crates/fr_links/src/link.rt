@@ -1,7 +1,7 @@
 //! One connection: its stream, what came in on it, and what is still to go out.
 ghost use Rattle.std.specs.Prelude.{◌≡◌, ◌≤◌, [], length, take, vec_len, IfOk, MatchResult, None};
 ghost use Rattle.std.specs.Io.KnownBytes.{Keeps};
-ghost use Rattle.fr_links.specs.Gathering.{Gathers, Leaves, LetsGo, room_of};
+ghost use Rattle.fr_links.specs.Gathering.{Gathers, IsTold, Leaves, LetsGo, room_of};
 
 use crate::heard::{Heard, Sent};
 use crate::inbox::Inbox;
@@ -46,6 +46,8 @@ impl<S: Wire> Link<S> {
     pub fn hear<J: Judge>(&mut self, judge: &J) -> Heard
         ensures gathered { Gathers (S.remaining self.old.stream) (S.remaining self.new.stream)
             self.old.inbox.came.items self.new.inbox.came.items result }
+        ensures told { IsTold (J.tells judge.now) self.old.inbox.need self.old.inbox.came.items
+            → IsTold (J.tells judge.now) self.new.inbox.need self.new.inbox.came.items }
         ensures room { Leaves result (room_of self.new.inbox.need (vec_len self.new.inbox.came)) }
         ensures written { Writes S.contents self.old self.new [] }
     {

@@ -2,7 +2,7 @@
 ghost use Rattle.std.specs.Prelude.{◌≡◌, ◌≢◌, ◌↔◌, ◌<◌, ◌++◌, ℕ, [], ◌∷◌, length, IfNone, IfOk, IfSome, IsTrue, None, Some};
 ghost use Rattle.slab.specs.Slab.{get, slab_len};
 ghost use Rattle.fr_links.specs.Connection.{IsAnswered, IsBegun, IsMoved};
-ghost use Rattle.fr_links.specs.Connections.{AllStay, Goes, IsGivenOut, IsUnready, OthersStay, Queues, Stays, TakesFirst, at};
+ghost use Rattle.fr_links.specs.Connections.{AllStay, Goes, IsGivenOut, IsKnown, IsUnready, OthersStay, Queues, Stays, TakesFirst, at};
 
 use crate::ends::{Given, Reply};
 use crate::held::Held;
@@ -103,6 +103,7 @@ impl<S: Wire + Drop> Table<S> {
         ensures vacant { at self.old self.old.links.vacant_key ≡ None }
         ensures own { IfSome (at self.new self.old.links.vacant_key)
             (λ held. IsBegun S.remaining S.contents stream held.link held.stage) }
+        ensures told { IsKnown (J.tells judge.now) (at self.new self.old.links.vacant_key) }
         ensures queue { Queues self.old self.new }
     {
         let key = self.links.vacant_key();
@@ -132,6 +133,8 @@ impl<S: Wire + Drop> Table<S> {
     fn hear<J: Judge>(&mut self, key: usize, judge: &J)
         ensures others { OthersStay self.old self.new key }
         ensures own { Goes S.remaining S.contents (at self.old key) (at self.new key) }
+        ensures told { IsKnown (J.tells judge.now) (at self.old key)
+            → IsKnown (J.tells judge.now) (at self.new key) }
         ensures queue { Queues self.old self.new }
     {
         let Some(held) = self.links.get_mut(key) else {
@@ -159,6 +162,8 @@ impl<S: Wire + Drop> Table<S> {
     pub fn go_on<J: Judge>(&mut self, key: usize, now: Instant, judge: &J)
         ensures others { OthersStay self.old self.new key }
         ensures own { Goes S.remaining S.contents (at self.old key) (at self.new key) }
+        ensures told { IsKnown (J.tells judge.now) (at self.old key)
+            → IsKnown (J.tells judge.now) (at self.new key) }
         ensures queue { Queues self.old self.new }
     {
         let Some(held) = self.links.get_mut(key) else {

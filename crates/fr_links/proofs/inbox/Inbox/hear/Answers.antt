@@ -21,5 +21,6 @@ loop-self-preserved-else-is_err g c =
       consumed = Consumes-trans _ _ _ _ _ i.consumed c.in-Ok.ensures.bytes.0;
       gathered = grown ∙ ap (λ t. c.loop-self.self.came.items ++ t) (take-append-le c.in-Ok.n c.read_now.new.piece _ c.in-Ok.ensures.bound.0)
           ∙ ap (λ t. t ++ more) i.gathered ∙ append_assoc c.args.self.now.came.items i.read more;
+      told = λ before. c.take_in.ensures.told (i.told before);
       quiet = Keeps-trans _ _ _ i.quiet c.in-Ok.ensures.contents;
     }
