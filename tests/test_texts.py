@@ -358,6 +358,13 @@ def filled(path, holes):
     return re.sub(r"{(\w+)}", lambda found: holes[found[1]], path)
 
 
+def is_refused_for_itself(reply):
+    """Whether the server has no route for a request, or refuses it for its text or a name."""
+    said, _, body = reply.partition(b"\r\n\r\n")
+    refused = json.loads(body).get("refused") if b"content-type: application/json" in said else ""
+    return said.startswith(b"HTTP/1.1 404 Not Found\r\ncontent-length: 0\r\n") or refused in ("BadName", "BadText")
+
+
 class Paths(RegisterCase):
     """`check --path` tells of each name, number and word in a path that is none, and of a path that no route has"""
 
@@ -406,7 +413,7 @@ class Paths(RegisterCase):
                     for method in methods:
                         body = b'{"do":"cluster"}' if path == "/v1/commands" else b"frame,node\n"
                         reply = sent(port, head(method.upper(), target, "supplier01", f"Content-Length: {len(body)}") + body)
-                        refused |= reply.startswith(b"HTTP/1.1 404 Not Found\r\ncontent-length: 0") or b'"BadName"' in reply or b'"BadText"' in reply
+                        refused |= is_refused_for_itself(reply)
                     status, _, _ = ran(["check", "--path", target], self.folder)
                     self.see(f"whether {target} is refused for itself", refused, status == 1)
 

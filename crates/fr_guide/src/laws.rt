@@ -1,7 +1,5 @@
-//! Laws of the words that are explained: each refusal's name, and each fault's word of a cluster
-//! file; each refusal's number means its name. Laws of requests, rows and files: a fault is told
-//! exactly where the register refuses the text, whatever it holds. Advice tells nothing exactly where
-//! a text has no fault.
+//! Laws of the words and numbers that are explained. Laws of advice on requests, rows and files: a
+//! fault is told exactly where the register refuses the text, whatever it holds.
 ghost use Rattle.fr_guide.specs.Advice.{AdviceIsExact};
 ghost use Rattle.fr_guide.specs.Numbers.{EachNumberIsNamed};
 ghost use Rattle.fr_guide.specs.Laws.{EachConfigFaultIsExplained, EachRefusalIsExplained, FineFilesAreTaken, FineRowsAreTaken, MisformedRequestsAreRefused};

@@ -17,7 +17,7 @@ const BAD_TEXT: Topic = Topic {
     help: "\
 The line has no space after its key; the text is not UTF-8, or not one JSON object; `do` names no request;
 or a field is missing, unknown, of another kind, or no whole number of 0 to 4294967295.
-In a file the header is none of the three; or a row lacks a field or has one too many, or one that is no UTF-8 or number.
+In a file the header is none of the three; or a row lacks a field, has one too many, or one that is no text or number.
 `slotplan check --requests FILE` and `--rows FILE` say in which line and field, and what may stand there.
 Over HTTP so do `/v1/checks/requests` and `/v1/checks/rows`, where the text is the body of a `POST`.
 ",
