@@ -154,9 +154,9 @@ class Unread(LongCase):
 
     def test_behind_a_late_request(self):
         """Its reply has as much time as its request had, counted anew."""
-        with self.served("--count", "1", *limited(LIMIT)) as (server, port), narrow(port) as stream:
+        with self.served("--count", "1", *limited(LIMIT + 4)) as (server, port), narrow(port) as stream:
             stream.sendall(SCHEDULE[:-1])
-            time.sleep(LIMIT - 3)
+            time.sleep(LIMIT + 1)
             stream.sendall(SCHEDULE[-1:])
             time.sleep(4)
             self.see("a long reply", True, received(stream) == text(long_schedule()))
