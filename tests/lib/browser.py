@@ -131,8 +131,8 @@ class Browser:
         return value
 
     def element(self, selector):
-        """The path of the first element that the selector names."""
-        return f"/element/{self.call('POST', '/element', {'using': 'css selector', 'value': selector})[ELEMENT]}"
+        """The path of the first element that the selector names, once there is one."""
+        return f"/element/{self.wait(f'an element {selector}', 'return document.querySelector(arguments[0])', selector)[ELEMENT]}"
 
     def text(self, selector):
         """The text of the element as it is shown."""
