@@ -1,14 +1,17 @@
 -- What is one supplier's, computed on small registers.
-use Rattle.std.proofs.Common.{◌≡◌, ℕ, false, List, get_or, [], ◌∷◌, ◌++◌, None, map, refl, codes}
+use Rattle.std.proofs.Common.{◌≡◌, ℕ, true, false, List, get_or, [], ◌∷◌, ◌++◌, Some, None, map, refl, codes}
 use Rattle.std.specs.Prelude.{⊤, ◌+◌, ◌/◌, ◌%◌, nat_lt, if◌then◌else◌}
 use Rattle.std.specs.List.{range_with_len}
 use Rattle.fr_base.specs.Tables.{each}
 use Rattle.fr_base.specs.Book.{opening}
+use Rattle.fr_base.specs.Actors.{actor_of}
+use Rattle.fr_base.specs.KeyLaws.{was_set}
 use Rattle.fr_base.specs.Alone.{own_variant, rows_of, asks_of, answers_of, alone, answers_to, book_after}
 use Rattle.fr_base.specs.declared.answer.Answer.{Answer}
 use Rattle.fr_base.specs.declared.answer.Answer.TheVariants.{Done, Refused}
 use Rattle.fr_base.specs.declared.channel.Channel.TheVariants as ch
-use Rattle.fr_base.specs.declared.refusal.Refusal.TheVariants.{UnknownKey, Limit, Taken, KeyTaken}
+use Rattle.fr_base.specs.declared.refusal.Refusal.TheVariants.{UnknownKey, Limit, Taken, Unavailable, KeyTaken}
+use Rattle.fr_base.specs.declared.actor.Actor.TheVariants.{Integrator, Supplier}
 use Rattle.fr_base.specs.declared.request.Ask.{Ask}
 use Rattle.fr_base.specs.declared.request.Request.TheVariants.{OpenVariant, AddSupplier, SetKey, AddNode, Grant, AddFrame, Place, Query}
 use Rattle.fr_base.specs.declared.query.Query.TheVariants.{Variant as OfVariant}
@@ -124,6 +127,23 @@ pub keyed_beside :
     × (answers_alone (codes "s1") (integrator (SetKey (codes "s1") (codes "supplier01")) ∷ integrator (SetKey (codes "s1") (codes "supplier02")) ∷ []) ≡ Refused KeyTaken ∷ Done ∷ [])
 unfolding a_register_alone
 keyed_beside = (refl, refl)
+
+-- a SetKey of `s1` that is refused, and then one that is done
+unfoldable pub sets_keys : List Ask
+sets_keys =
+    integrator (SetKey (codes "s1") (codes "supplier02"))
+    ∷ integrator (SetKey (codes "s1") (codes "supplier09"))
+    ∷ []
+
+-- so the key of `s1` was set, once the second was answered, and no other; then the old key of `s1` is nobody's, and that of `s2` is its own
+pub keys_were_set :
+    (answers sets_keys ≡ Refused KeyTaken ∷ Done ∷ [])
+    × (map (λ actor. was_set actor sets_keys (answers sets_keys)) (Supplier (codes "s1") ∷ Supplier (codes "s2") ∷ Integrator ∷ []) ≡ true ∷ false ∷ false ∷ [])
+    × (was_set (Supplier (codes "s1")) sets_keys (Refused KeyTaken ∷ Refused Unavailable ∷ []) ≡ false)
+    × (map (actor_of file.cluster (book_after file.cluster (opening file) sets_keys)) (codes "supplier01" ∷ codes "supplier02" ∷ codes "supplier09" ∷ [])
+    ≡ None ∷ Some (Supplier (codes "s2")) ∷ Some (Supplier (codes "s1")) ∷ [])
+unfolding a_register_alone sets_keys actor_of
+keys_were_set = (refl, refl, refl, refl)
 
 -- `s3` joins, is granted a slot, and has a frame sent there
 unfoldable pub joins_and_sends : List Ask

@@ -58,7 +58,7 @@ module _ (c : Cluster) (b : Book) (k : Key) where
   owner false (Some row) = refl
 
   -- somebody has the key where it is somebody's
-  has_key-owner : has_key c b k ≡ is_some (actor_of c b k)
+  pub has_key-owner : has_key c b k ≡ is_some (actor_of c b k)
   unfolding has_key actor_of
   has_key-owner = (λ i. same_text-turned k c.integrator i || any-found k b.suppliers.rows i) ∙ owner (same_text c.integrator k) (row_of k b.suppliers.rows)
 

@@ -22,7 +22,7 @@ pub use fates::{
     each_fate_is_its_rows, lines_are_in_turn, one_too_many_is_limit, refused_rows_leave_nothing,
     trial_is_told,
 };
-pub use keys::{set_key_changes_one_key, set_key_is_done};
+pub use keys::{key_stays, set_key_changes_one_key, set_key_is_done};
 pub use loads::{load_counts_the_schedule, load_shows_each_lane, load_shows_own_lanes};
 pub use queries::{difference_is_told, inventory_is_told, load_is_told, query_changes_nothing};
 pub use rooms::{no_room_where_released, refused_room_refuses_each};

@@ -91,6 +91,7 @@ pub use laws::import_is_kept;
 pub use laws::import_is_told;
 pub use laws::inventory_is_told;
 pub use laws::key_is_changed;
+pub use laws::key_stays;
 pub use laws::known_stays_known;
 pub use laws::label_stays_used;
 pub use laws::lines_are_in_turn;
