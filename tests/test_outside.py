@@ -26,7 +26,7 @@ MAY = {
 TESTS = {"fr_tests", "fr_tests_program", "fr_tests_registers"}
 SYSTEM = {"fs", "net", "time", "process", "env", "thread", "os"}
 # A path into std, and the first names of each that a list in braces brings in; and the crate by which connections wait for one another.
-PATH, LIST, MIO = re.compile(r"\bstd::(\w+)"), re.compile(r"\bstd::\{([^;]*)\}"), re.compile(r"\bmio::")
+PATH, LIST, MIO = re.compile(r"\bstd::(\w+|\*)"), re.compile(r"\bstd::\{([^;]*)\}"), re.compile(r"\bmio::")
 
 
 def code(text):
@@ -37,8 +37,9 @@ def code(text):
 def modules(text):
     """What reaches the system that a source names: modules of std, and mio."""
     plain = code(text)
-    listed = {name for found in LIST.findall(plain) for name in re.findall(r"(?:^|,)\s*(\w+)", re.sub(r"\{[^{}]*\}", "", found))}
-    return (set(PATH.findall(plain)) | listed) & SYSTEM | ({"mio"} if MIO.search(plain) else set())
+    listed = {name for found in LIST.findall(plain) for name in re.findall(r"(?:^|,)\s*(\w+|\*)", re.sub(r"\{[^{}]*\}", "", found))}
+    named = set(PATH.findall(plain)) | listed
+    return (SYSTEM if "*" in named else named & SYSTEM) | ({"mio"} if MIO.search(plain) else set())
 
 
 def sources():
@@ -58,13 +59,15 @@ class Outside(Case):
             self.see(f"what {name} uses, and may not", set(), used - MAY.get(name, set()))
 
     def test_what_is_found(self):
-        """A path, a list, and a list in a list are found; comments and texts are not."""
+        """A path, a list, a list in a list, and all of std are found; comments and texts are not."""
         for text, wanted in (
             ("use std::fs;", {"fs"}),
             ("use std::fs::{self, File};", {"fs"}),
             ("use std::{io, fs::File};", {"fs"}),
             ("use std::{\n    fs,\n    net::{TcpStream, Shutdown},\n};", {"fs", "net"}),
             ("let at = std::time::Instant::now();", {"time"}),
+            ("use std::*;", SYSTEM),
+            ("use std::{io::{self, Read}, *};", SYSTEM),
             ("// std::fs is not used\nlet s = \"std::net\";", set()),
             ("use std::collections::{BTreeMap};", set()),
             ("use mio::net::TcpStream;", {"mio"}),

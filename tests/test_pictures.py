@@ -1,4 +1,5 @@
 """Pictures of plans: each page, read without a browser and compared with the lines of the reports"""
+import json
 import re
 
 from tests.lib.case import Case
@@ -54,6 +55,33 @@ class PicturesOfExamples(PictureCase):
         self.agrees(f"{name} {variant} {supplier or ''}", compare(text, register.plan(variant, supplier)))
         told = " ".join(Page(text).text.split())
         self.see(f"{name} {variant} {supplier or ''}: the head", True, head_of(register, opened, supplier) in told)
+
+
+class PicturesOfReleased(PictureCase):
+    """A supplier's page of a released variant stays as it is, byte by byte, whatever is asked later; the integrator's does until a supplier joins."""
+
+    def test_released(self):
+        _, cluster, requests = next(example for example in examples() if example[0] == "powertrain")
+        register = Register(self.folder, cluster, requests)
+        variant, suppliers = next(register.done("release"))["variant"], register.suppliers()
+        first, integrator = suppliers[0], register.cluster["integrator"]
+
+        def pages():
+            return {seen: register.tell("picture", "car.db", variant, *(["--supplier", seen] if seen else [])) for seen in [None, *suppliers]}
+
+        def asks(who, what, **fields):
+            told = register.tell("ask", "car.db", given=f"{who} {json.dumps({'do': what, **fields})}\n")
+            self.see(f"to {what}", '{"ok":"done"}\n', told)
+
+        before = pages()
+        node = next(request for request in register.done("add_node") if request["supplier"] == first)["node"]
+        asks(integrator, "open_variant", variant="later", **{"from": variant})
+        asks(register.cluster["suppliers"][first], "add_frame", variant="later", frame="later_frame", node=node)
+        asks(integrator, "set_key", supplier=first, key="anotherkey1")
+        asks(integrator, "add_node", supplier=first, node="later_node")
+        self.see("pages that changed", [], [seen for seen, page in pages().items() if page != before[seen]])
+        asks(integrator, "add_supplier", supplier="a_first", key="keyofafirst")
+        self.see("pages that changed where a supplier joined", [None], [seen for seen, page in pages().items() if page != before[seen]])
 
 
 class ColoursOfSuppliers(PictureCase):

@@ -117,7 +117,6 @@ class CannotGoOn(StumbleCase):
             self.answers(asks, opens(b"v3"), UNAVAILABLE)
             self.ends_with(asks, 1, SHUT)
 
-
     def left(self, wanted, *under_way):
         """The variants that another SQLite, and then the program, find: these, and the one that was under way or not."""
         names = [name for (name,) in self.rows("SELECT name FROM variants ORDER BY name")]
