@@ -129,7 +129,7 @@ class Laws(Case):
     def test_command(self):
         status, said, _ = printed("--word", "released")
         there = set(re.findall(r"^  (\w+)  \(crates/", said, re.M))
-        wanted = {"release_freezes", "released_answers_stay", "released_differences_stay", "no_room_where_released"}
+        wanted = {"release_freezes", "released_answers_stay", "released_differences_stay", "released_plan_stays", "no_room_where_released"}
         self.see("laws on what is released", (0, set()), (status, wanted - there))
         self.see("a law that says nothing of it", False, "opening_is_sound" in there)
         self.see("of one crate", (0, ["fr_layout"]), (lambda got: (got[0], re.findall(r"^\w+$", got[1], re.M)))(printed("fr_layout")))

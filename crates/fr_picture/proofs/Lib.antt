@@ -10,3 +10,4 @@ pub mod StripLemmas
 pub mod ReportLaws
 pub mod FrameLaws
 pub mod PlanLaws
+pub mod ReleasedPlans

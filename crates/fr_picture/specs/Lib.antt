@@ -17,3 +17,4 @@ pub mod Pages
 pub mod Reports
 pub mod Frames
 pub mod Plans
+pub mod ReleasedPlans
