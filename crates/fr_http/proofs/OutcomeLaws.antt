@@ -32,6 +32,7 @@ use Rattle.fr_http.specs.declared.fault.LinkFault.TheVariants.{Truncated}
 use Rattle.fr_http.specs.declared.fault.Rejection.{Rejection}
 use Rattle.fr_http.specs.declared.fault.Unasked.{Unasked}
 use Rattle.fr_http.specs.declared.fault.Unasked.TheVariants.{Engine, Explained, Fault, Page, Refused}
+use Rattle.fr_http.specs.declared.path_name.PathName.TheVariants as named
 use Rattle.fr_http.specs.declared.routes.Route.{Route}
 use Rattle.fr_http.specs.declared.routes.Route.TheVariants.{Advice, Commands, Explanation, Explanations, Import, Replace, Try, Query, Picture, Page as OwnPage}
 use Rattle.fr_http.specs.declared.method.Method.{Method}
@@ -107,12 +108,12 @@ module _ (who : List ℕ → Option Actor) where
   by_route Explanation path body found method plain = absurd (true≢false plain)
   by_route (Advice subject) path body found method plain = found-plain found method (matter.Advice subject body)
   by_route Commands path body found method plain = text-plain (request_of body) found method
-  by_route Import path body found method plain = found-plain found method (matter.Request (request.Import (part 3 path) (part 5 path) body))
-  by_route Replace path body found method plain = found-plain found method (matter.Request (request.Replace (part 3 path) body))
-  by_route (Try replaces) path body found method plain = found-plain found method (matter.Request (request.Try (part 3 path) replaces body))
+  by_route Import path body found method plain = found-plain found method (matter.Request (request.Import (part named.Variant path) (part named.Label path) body))
+  by_route Replace path body found method plain = found-plain found method (matter.Request (request.Replace (part named.Variant path) body))
+  by_route (Try replaces) path body found method plain = found-plain found method (matter.Request (request.Try (part named.Variant path) replaces body))
   by_route (Query asked) path body found method plain =
-      text-plain (option_map request.Query (query_by (λ slashes. part slashes path) (λ slashes. number_in slashes path) asked)) found method
-  by_route Picture path body found method plain = found-plain found method (matter.Picture (part 3 path))
+      text-plain (option_map request.Query (query_by (λ name. part name path) (λ name. number_in name path) asked)) found method
+  by_route Picture path body found method plain = found-plain found method (matter.Picture (part named.Variant path))
 
   by_body : (body : Option (List ℕ)) (route : Route) (path : List ℕ) (found : Option Actor) (method : Method) → is_explanation route ≡ false
       → tells ((body or Fault Truncated) >>= λ body. matter_by route path body >>= found_by found method) ≡ false

@@ -8,20 +8,20 @@ use Rattle.std.proofs.lemmas.Str.Parse.{digits_value-take-le}
 use Rattle.std.proofs.lemmas.Bool.Decides.{nat_tests}
 use Rattle.std.specs.Char.{digit_value, is_ascii, is_ascii_digit}
 use Rattle.std.specs.Iterator.{YieldsFirstRef}
-use Rattle.std.specs.Option.{is_some, option_map}
+use Rattle.std.specs.Option.{is_some}
 use Rattle.std.specs.List.{list_all}
 use Rattle.std.specs.Prelude.{codes}
 use Rattle.std.specs.Str.Parse.{digits_value}
-use Rattle.fr_base.specs.Names.{same_text}
 use Rattle.fr_base.proofs.SoundRefusing.{gives_bind, gives_or, gives_unless, gives_when}
 use Rattle.fr_base.specs.Refusing.{◌>>=◌, ◌>>◌, ◌or◌, refuse◌when◌}
 use Rattle.fr_http.specs.Head.{HeadData, values}
-use Rattle.fr_http.specs.Outcome.{body_length, is_decimal, length_in, max_body, plan_of, route_to}
-use Rattle.fr_http.specs.Routes.{allowed, ascii_text, chosen, matched, method_of, path_of, route_of, text_of_method}
+use Rattle.fr_http.specs.Outcome.{body_length, is_decimal, length_in, max_body, plan_of}
+use Rattle.fr_http.specs.Routes.{allowed, ascii_text, chosen, matched, method_of, path_of, route_of}
 use Rattle.fr_http.specs.declared.fault.Rejection.{Rejection}
 use Rattle.fr_http.specs.declared.fault.Rejection.TheVariants.{BadRequest, NotFound, MethodNotAllowed, LengthRequired, PayloadTooLarge, NotImplemented}
 use Rattle.fr_http.specs.declared.method.Method.{Method}
 use Rattle.fr_http.specs.declared.method.Method.TheVariants.{Get, Post, Put}
+use Rattle.fr_http.specs.declared.routes.Resource.{Resource}
 use Rattle.fr_http.specs.declared.routes.Route.{Route}
 
 -- ---- the length of a body
@@ -94,25 +94,25 @@ pub coded : (head : HeadData) (value : List ℕ) (more : List (List ℕ)) → va
 unfolding plan_of ◌>>=◌ ◌>>◌ ◌or◌ refuse◌when◌
 coded head value more h = rw h (rw (lt-ltb 0 (length (value ∷ more)) (omega arith)) refl)
 
-pub unrouted : (head : HeadData) → Plain head → route_to head ≡ None → plan_of head ≡ Err NotFound
+pub unrouted : (head : HeadData) → Plain head → route_of (path_of head.target) ≡ None → plan_of head ≡ Err NotFound
 unfolding plan_of ◌>>=◌ ◌>>◌ ◌or◌ refuse◌when◌
 unrouted head plain none = rw plain (rw none refl)
 
-pub not_allowed : (head : HeadData) (route : Route) → Plain head → route_to head ≡ Some route
-    → same_text head.method (text_of_method (method_of route)) ≡ false → plan_of head ≡ Err (MethodNotAllowed (allowed route))
+pub not_allowed : (head : HeadData) (resource : Resource) → Plain head → route_of (path_of head.target) ≡ Some resource
+    → chosen head.method resource ≡ None → plan_of head ≡ Err (MethodNotAllowed (allowed resource))
 unfolding plan_of ◌>>=◌ ◌>>◌ ◌or◌ refuse◌when◌
-not_allowed head route plain found other = rw plain (rw found (rw other refl))
+not_allowed head resource plain found other = rw plain (rw found (rw other refl))
 
-pub bad_body : (head : HeadData) (route : Route) (rejection : Rejection) → Plain head → route_to head ≡ Some route
-    → same_text head.method (text_of_method (method_of route)) ≡ true → body_length (method_of route) head ≡ Err rejection → plan_of head ≡ Err rejection
+pub bad_body : (head : HeadData) (resource : Resource) (route : Route) (rejection : Rejection) → Plain head → route_of (path_of head.target) ≡ Some resource
+    → chosen head.method resource ≡ Some route → body_length (method_of route) head ≡ Err rejection → plan_of head ≡ Err rejection
 unfolding plan_of ◌>>=◌ ◌>>◌ ◌or◌ refuse◌when◌
-bad_body head route rejection plain found same bad = rw plain (rw found (rw same (rw bad refl)))
+bad_body head resource route rejection plain found by bad = rw plain (rw found (rw by (rw bad refl)))
 
-pub planned : (head : HeadData) (route : Route) (n : ℕ) → Plain head → route_to head ≡ Some route
-    → same_text head.method (text_of_method (method_of route)) ≡ true → body_length (method_of route) head ≡ Ok n
+pub planned : (head : HeadData) (resource : Resource) (route : Route) (n : ℕ) → Plain head → route_of (path_of head.target) ≡ Some resource
+    → chosen head.method resource ≡ Some route → body_length (method_of route) head ≡ Ok n
     → plan_of head ≡ Ok (record { route = route; length = n })
 unfolding plan_of ◌>>=◌ ◌>>◌ ◌or◌ refuse◌when◌
-planned head route n plain found same fits = rw plain (rw found (rw same (rw fits refl)))
+planned head resource route n plain found by fits = rw plain (rw found (rw by (rw fits refl)))
 
 -- ---- a body that is read keeps the bound
 
@@ -134,8 +134,8 @@ pub wanted_fits : (head : HeadData) → IfOk (plan_of head) (λ w. w.length ≤ 
 unfolding plan_of
 wanted_fits head =
     gives_when _ _ (nat_lt 0 (length (values (codes "transfer-encoding") head.fields))) _ (λ _.
-    gives_or _ (route_to head) _ _ (λ route _.
-    gives_unless _ _ (same_text head.method (text_of_method (method_of route))) _ (λ _.
+    gives_or _ (route_of (path_of head.target)) _ _ (λ resource _.
+    gives_or _ (chosen head.method resource) _ _ (λ route _.
     gives_bind _ (λ n. n ≤ max_body) (body_length (method_of route) head) _ (body_fits (method_of route) head) (λ n fits. fits))))
 
 -- ---- the first of what is left
@@ -150,7 +150,7 @@ none_left None s t is steps = steps.0
 
 -- ---- the route of a path
 
-routed : (b : Bool) (path p : List ℕ) (r : Option Route) → Some p ≡ (if b then Some path else None) → r ≡ matched p → (if b then matched path else None) ≡ r
+routed : (b : Bool) (path p : List ℕ) (r : Option Resource) → Some p ≡ (if b then Some path else None) → r ≡ matched p → (if b then matched path else None) ≡ r
 routed true path p r is found = sym (found ∙ ap matched (injective is))
   where
     injective : {a b : List ℕ} → Some a ≡ Some b → a ≡ b
@@ -165,7 +165,7 @@ unroutable : (b : Bool) (path : List ℕ) → None ≡ (if b then Some path else
 unroutable true path is = grind (arith, is)
 unroutable false path is = refl
 
-pub route_found : (path p : List ℕ) (r : Option Route) → Some p ≡ ascii_text path → r ≡ matched p → route_of path ≡ r
+pub route_found : (path p : List ℕ) (r : Option Resource) → Some p ≡ ascii_text path → r ≡ matched p → route_of path ≡ r
 unfolding route_of
 route_found path p r is found = routed (list_all is_ascii path) path p r is found
 
@@ -175,12 +175,3 @@ ascii_path path p is = path_is (list_all is_ascii path) path p is
 pub not_ascii : (path : List ℕ) → None ≡ ascii_text path → route_of path ≡ None
 unfolding route_of
 not_ascii path is = unroutable (list_all is_ascii path) path is
-
--- and by the method of the head
-pub route_chosen : (head : HeadData) (p : List ℕ) (route chosen_route : Route) → Some p ≡ ascii_text (path_of head.target) → Some route ≡ matched p → chosen_route ≡ chosen head.method route → route_to head ≡ Some chosen_route
-unfolding route_to
-route_chosen head p route chosen_route is found by = ap (option_map (chosen head.method)) (route_found (path_of head.target) p (Some route) is found) ∙ ap (λ r. Some r) (sym by)
-
-pub no_route : (head : HeadData) → route_of (path_of head.target) ≡ None → route_to head ≡ None
-unfolding route_to
-no_route head none = ap (option_map (chosen head.method)) none

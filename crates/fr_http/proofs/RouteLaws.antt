@@ -17,8 +17,9 @@ use Rattle.matchit.specs.Router.{InsertsRead, RouteOf}
 use Rattle.matchit.specs.Rows.{RowsOf}
 use Rattle.matchit.specs.declared.error.InsertError.{InsertError}
 use Rattle.matchit.specs.Route.{Scan}
-use Rattle.fr_http.specs.Routes.{part, router, table, with_read, with_route}
-use Rattle.fr_http.specs.declared.routes.Route.{Route}
+use Rattle.fr_http.specs.Routes.{part, place, router, table, with_read, with_route}
+use Rattle.fr_http.specs.declared.path_name.PathName.{PathName}
+use Rattle.fr_http.specs.declared.routes.Resource.{Resource}
 
 place_of : (b : Bool) (k at : ℕ) → cond {A = Option ℕ} b (Some k) None ≡ Some at → k ≡ at
 place_of true k at e = grind (arith, e)
@@ -45,23 +46,23 @@ ascii_bytes (b ∷ bytes) h = IsAscii-cons b bytes (ascii_byte b (and_parts _ _ 
 pub ascii_is_text : (bytes : List ℕ) → list_all is_ascii bytes ≡ true → IsUtf8 bytes
 ascii_is_text bytes h = IsUtf8-from_ascii bytes (ascii_bytes bytes h)
 
-inserted_read : (read : Result Scan InsertError) (route : Route) (old new : RowsOf (RouteOf Route)) → InsertsRead read route old new (Ok tt) → new ≡ with_read old route read
-inserted_read (Ok s) route old new h = h.1
-inserted_read (Err e) route old new h = h.0
+inserted_read : (read : Result Scan InsertError) (resource : Resource) (old new : RowsOf (RouteOf Resource)) → InsertsRead read resource old new (Ok tt) → new ≡ with_read old resource read
+inserted_read (Ok s) resource old new h = h.1
+inserted_read (Err e) resource old new h = h.0
 
--- a route that went in is in its place
-pub inserted : (text : List ℕ) (route : Route) (old new : RowsOf (RouteOf Route)) (r : Result (Unit {0}) InsertError) → is_err r ≡ false
-    → InsertsRead (parse_route text) route old new r → new ≡ with_route old (text, route)
+-- a pattern that went in is in its place
+pub inserted : (text : List ℕ) (resource : Resource) (old new : RowsOf (RouteOf Resource)) (r : Result (Unit {0}) InsertError) → is_err r ≡ false
+    → InsertsRead (parse_route text) resource old new r → new ≡ with_route old (text, resource)
 unfolding with_route
-inserted text route old new (Ok u) fine h = inserted_read (parse_route text) route old new h
-inserted text route old new (Err e) fine h = grind (arith, fine)
+inserted text resource old new (Ok u) fine h = inserted_read (parse_route text) resource old new h
+inserted text resource old new (Err e) fine h = grind (arith, fine)
 
--- a route as the code has it, behind its text
-abbrev pub entry_of : Bor (List ℕ) × Route → List ℕ × Route
+-- what a path leads to as the code has it, behind its pattern
+abbrev pub entry_of : Bor (List ℕ) × Resource → List ℕ × Resource
 entry_of entry = (entry.0.now, entry.1)
 
--- the routes so far, and one more
-pub one_more : (entries : List (Bor (List ℕ) × Route)) (i : ℕ) (entry : Bor (List ℕ) × Route) (old new : RowsOf (RouteOf Route)) → i < length entries
+-- the patterns so far, and one more
+pub one_more : (entries : List (Bor (List ℕ) × Resource)) (i : ℕ) (entry : Bor (List ℕ) × Resource) (old new : RowsOf (RouteOf Resource)) → i < length entries
     → old ≡ fold with_route [] (map entry_of (take i entries)) → new ≡ with_route old (entry_of (get_or entries i entry))
     → new ≡ fold with_route [] (map entry_of (take (i + 1) entries))
 one_more entries i entry old new more were is =
@@ -70,7 +71,7 @@ one_more entries i entry old new more were is =
     ∙ ap (fold with_route []) (sym (map-append entry_of (take i entries) (get_or entries i entry ∷ [])) ∙ ap (map entry_of) (sym (take_more entries i entry more)))
 
 -- all of them are the router's
-pub all_routes : (entries : List (Bor (List ℕ) × Route)) (i : ℕ) (router_now : RowsOf (RouteOf Route)) → length entries ≤ i
+pub all_routes : (entries : List (Bor (List ℕ) × Resource)) (i : ℕ) (router_now : RowsOf (RouteOf Resource)) → length entries ≤ i
     → map entry_of entries ≡ table → router_now ≡ fold with_route [] (map entry_of (take i entries)) → router_now ≡ router
 unfolding router
 all_routes entries i router_now all are is = is ∙ ap (λ es. fold with_route [] (map entry_of es)) (take_all i entries all) ∙ ap (fold with_route []) are
@@ -80,8 +81,8 @@ now_of None d = refl
 now_of (Some x) d = refl
 
 -- the part that an iterator over the parts found, or none
-pub part_found : (n : ℕ) (path : List ℕ) (found : Option (Bor (List ℕ))) (d result : Bor (List ℕ)) → d.now ≡ [] → result ≡ unwrap_or found d
-    → option_map (λ x. x.now) found ≡ slice_get (slice_split (λ b. b == 47) path) n → result.now ≡ part n path
+pub part_found : (name : PathName) (path : List ℕ) (found : Option (Bor (List ℕ))) (d result : Bor (List ℕ)) → d.now ≡ [] → result ≡ unwrap_or found d
+    → option_map (λ x. x.now) found ≡ slice_get (slice_split (λ b. b == 47) path) (place name) → result.now ≡ part name path
 unfolding part
-part_found n path found d result empty is there =
+part_found name path found d result empty is there =
     ap (λ r. r.now) is ∙ now_of found d ∙ ap (λ e. unwrap_or (option_map (λ x. x.now) found) e) empty ∙ ap (λ o. unwrap_or o []) there

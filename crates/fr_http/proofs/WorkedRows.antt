@@ -1,6 +1,7 @@
 -- Requests and replies, computed by the definitions.
 use Rattle.std.specs.Fmt.{digits}
-use Rattle.std.specs.Prelude.{⊤, ℕ, ◌≡◌, false, true, List, [], ◌∷◌, ◌++◌, codes, map, if◌then◌else◌, Option, Some, None, Ok, Err, refl}
+use Rattle.std.specs.List.{list_all, list_any, slice_split}
+use Rattle.std.specs.Prelude.{⊤, ℕ, ◌≡◌, ◌==◌, ◌+◌, ◌&&◌, ◌||◌, not, Bool, false, true, List, [], ◌∷◌, ◌++◌, codes, map, if◌then◌else◌, Option, Some, None, Ok, Err, refl}
 use Rattle.matchit.specs.Route.{scan}
 use Rattle.matchit.specs.Seek.{seek, param_step}
 use Rattle.fr_base.specs.ImportRows.{number}
@@ -18,25 +19,29 @@ use Rattle.fr_text.specs.Report.{frame_record, header_line, lines_of, lines_of_r
 use Rattle.fr_text.specs.Styles.{plain_lines, json_lines}
 use Rattle.fr_text.specs.Words.{right_in}
 use Rattle.fr_http.specs.Head.{HeadData, values}
-use Rattle.fr_http.specs.Routes.{export, matter_by, of_variant, part, route_of, router, table, with_route}
-use Rattle.fr_http.specs.Outcome.{due, interim, length_in, outcome_of, plan_of, route_to}
+use Rattle.fr_http.specs.Routes.{matter_by, method_of, of_variant, part, place, report, route_of, router, table, text_of_method, with_route}
+use Rattle.fr_http.specs.Outcome.{due, interim, length_in, outcome_of, plan_of}
 use Rattle.fr_http.specs.Reply.{answer_reply, body_of, engine_reply, page_reply, print, status_line}
 use Rattle.fr_http.specs.declared.asking.Exchange.TheVariants as exchange
 use Rattle.fr_http.specs.declared.asking.Matter.TheVariants as matter
 use Rattle.fr_http.specs.declared.fault.Rejection.TheVariants.{BadRequest, NotFound, MethodNotAllowed, LengthRequired, PayloadTooLarge, HeadTooLarge, NotImplemented}
 use Rattle.fr_http.specs.declared.fault.Unasked.TheVariants.{Page, Refused, Fault}
 use Rattle.fr_http.specs.declared.fault.LinkFault.TheVariants.{Truncated}
-use Rattle.fr_http.specs.declared.method.Allowed.TheVariants.{Only, PostAndPut}
+use Rattle.fr_http.specs.declared.method.Allowed.TheVariants.{Only, Either}
 use Rattle.fr_http.specs.declared.method.Method.TheVariants.{Get, Post, Put}
 use Rattle.fr_base.specs.declared.import.Header.TheVariants as header
 use Rattle.fr_base.specs.declared.query.Inventory.TheVariants.{Cluster, Variants, Nodes}
 use Rattle.fr_base.specs.declared.query.Query.TheVariants.{Register as OfRegister, Variant as OfVariant}
 use Rattle.fr_base.specs.declared.report.Report.TheVariants.{Grants, Frames, Schedule, Gaps, Layout, Load, Room, Export}
+use Rattle.fr_http.specs.declared.path_name.PathName.{PathName}
+use Rattle.fr_http.specs.declared.path_name.PathName.TheVariants as named
+use Rattle.fr_http.specs.declared.routes.Resource.{Resource}
+use Rattle.fr_http.specs.declared.routes.Resource.TheVariants.{One, Two}
 use Rattle.fr_http.specs.declared.routes.Route.TheVariants.{Commands, Import, Replace, Try, Query, Picture, Page as OwnPage}
 
 -- what an answer unfolds to compute these definitions
 unfoldable rows : ⊤
-unfolding seek param_step scan values part matter_by route_of router table with_route interim due length_in outcome_of route_to plan_of answer_reply engine_reply page_reply body_of print ◌>>=◌ ◌>>◌ ◌or◌ refuse◌when◌ report_of text_of text_of_refusal lines_of lines_of_rows frame_record header_line node_line schedule_line number plain_lines json_lines right_in digits
+unfolding seek param_step scan values part matter_by route_of router table with_route interim due length_in outcome_of plan_of answer_reply engine_reply page_reply body_of print ◌>>=◌ ◌>>◌ ◌or◌ refuse◌when◌ report_of text_of text_of_refusal lines_of lines_of_rows frame_record header_line node_line schedule_line number plain_lines json_lines right_in digits
 rows = tt
 
 abbrev head : List ℕ → List ℕ → List (List ℕ × List ℕ) → HeadData
@@ -51,18 +56,18 @@ pub routes :
     ∷ codes "/v1/variants/v1/schedule" ∷ codes "/v1/variants/v1/gaps" ∷ codes "/v1/variants/v1/frames/f1/layout" ∷ codes "/v1/variants/1%20v/gaps"
     ∷ codes "/v1/variants/v1/picture" ∷ []
     )
-    ≡ Some Commands ∷ Some Import ∷ Some (of_variant Grants) ∷ Some (of_variant Frames) ∷ Some (of_variant Schedule) ∷ Some (of_variant Gaps) ∷ Some (of_variant (Layout 5)) ∷ Some (of_variant Gaps)
-    ∷ Some Picture ∷ []
+    ≡ Some (One Commands) ∷ Some (One Import) ∷ Some (report Grants) ∷ Some (report Frames) ∷ Some (report Schedule) ∷ Some (report Gaps) ∷ Some (report (Layout named.Frame)) ∷ Some (report Gaps)
+    ∷ Some (One Picture) ∷ []
 unfolding rows
 routes = refl
 
 pub routes_of_the_register :
     map route_of (codes "/v1/cluster" ∷ codes "/v1/variants" ∷ codes "/v1/nodes" ∷ codes "/v1/variants/" ∷ [])
-    ≡ Some (Query (OfRegister Cluster)) ∷ Some (Query (OfRegister Variants)) ∷ Some (Query (OfRegister Nodes)) ∷ None ∷ []
+    ≡ Some (One (Query (OfRegister Cluster))) ∷ Some (One (Query (OfRegister Variants))) ∷ Some (One (Query (OfRegister Nodes))) ∷ None ∷ []
 unfolding rows
 routes_of_the_register = refl
 
-pub routes_of_rows : map route_of (codes "/v1/variants/v1/load" ∷ codes "/v1/variants/v1/rows" ∷ []) ≡ Some (of_variant Load) ∷ Some Replace ∷ []
+pub routes_of_rows : map route_of (codes "/v1/variants/v1/load" ∷ codes "/v1/variants/v1/rows" ∷ []) ≡ Some (report Load) ∷ Some (One Replace) ∷ []
 unfolding rows
 routes_of_rows = refl
 
@@ -81,9 +86,43 @@ pub page_for_everybody : (who : List ℕ → Option Actor) → outcome_of who (h
 unfolding rows
 page_for_everybody who = refl
 
-pub route_of_room : route_of (codes "/v1/variants/v/frames/f/room/4") ≡ Some (of_variant (Room 5 7))
+pub route_of_room : route_of (codes "/v1/variants/v/frames/f/room/4") ≡ Some (report (Room named.Frame named.Repetition))
 unfolding rows
 route_of_room = refl
+
+-- a part as a pattern spells its name
+abbrev braced : PathName → List ℕ
+braced named.Variant = codes "{variant}"
+braced named.From = codes "{from}"
+braced named.Label = codes "{label}"
+braced named.Frame = codes "{frame}"
+braced named.Repetition = codes "{repetition}"
+braced named.Part = codes "{part}"
+braced named.Word = codes "{word}"
+
+-- whether the text at this place of a pattern is a part of this place
+abbrev stands_at : ℕ → List ℕ → Bool
+stands_at n text = list_any (λ name. same_text text (braced name) && (place name == n)) (named.Variant ∷ named.From ∷ named.Label ∷ named.Frame ∷ named.Repetition ∷ named.Part ∷ named.Word ∷ [])
+
+-- whether each part that stands in braces is at its place
+abbrev all_stand : ℕ → List (List ℕ) → Bool
+all_stand n [] = true
+all_stand n ([] ∷ rest) = all_stand (n + 1) rest
+all_stand n ((b ∷ text) ∷ rest) = (not (b == 123) || stands_at n (b ∷ text)) && all_stand (n + 1) rest
+
+-- in each pattern each part stands at the place that its name has
+pub places : list_all (λ row. all_stand 0 (slice_split (λ b. b == 47) row.0)) table ≡ true
+unfolding rows
+places = refl
+
+-- and the requests of each path have methods that differ
+abbrev differ : Resource → Bool
+differ (One route) = true
+differ (Two first second) = not (same_text (text_of_method (method_of first)) (text_of_method (method_of second)))
+
+pub methods_differ : list_all (λ row. differ row.1) table ≡ true
+unfolding rows
+methods_differ = refl
 
 pub no_routes :
     map route_of (
@@ -96,7 +135,7 @@ no_routes = refl
 pub matters :
     matter_by Import (codes "/v1/variants/v1/imports/a") (codes "x")
     ∷ matter_by (of_variant Schedule) (codes "/v1/variants/v1/schedule") []
-    ∷ matter_by (of_variant (Layout 5)) (codes "/v1/variants/v1/frames/f1/layout") []
+    ∷ matter_by (of_variant (Layout named.Frame)) (codes "/v1/variants/v1/frames/f1/layout") []
     ∷ matter_by Picture (codes "/v1/variants/v1/picture") []
     ∷ []
     ≡ Ok (matter.Request (request.Import (codes "v1") (codes "a") (codes "x"))) ∷ Ok (matter.Request (request.Query (OfVariant (codes "v1") Schedule)))
@@ -106,8 +145,8 @@ matters = refl
 
 pub matters_of_rows :
     matter_by Replace (codes "/v1/variants/v1/rows") (codes "x")
-    ∷ matter_by (of_variant (Room 5 7)) (codes "/v1/variants/v1/frames/f1/room/0000000004") []
-    ∷ matter_by (export header.Signals) (codes "/v1/variants/v1/exports/signals/4294967295") []
+    ∷ matter_by (of_variant (Room named.Frame named.Repetition)) (codes "/v1/variants/v1/frames/f1/room/0000000004") []
+    ∷ matter_by (of_variant (Export header.Signals named.Part)) (codes "/v1/variants/v1/exports/signals/4294967295") []
     ∷ []
     ≡ Ok (matter.Request (request.Replace (codes "v1") (codes "x")))
     ∷ Ok (matter.Request (request.Query (OfVariant (codes "v1") (Room (codes "f1") 4))))
@@ -118,7 +157,7 @@ matters_of_rows = refl
 
 -- where a number is none, the request is refused
 pub no_numbers :
-    map (λ text. matter_by (export header.Frames) (codes "/v1/variants/v1/exports/frames/" ++ text) [])
+    map (λ text. matter_by (of_variant (Export header.Frames named.Part)) (codes "/v1/variants/v1/exports/frames/" ++ text) [])
     (codes "x" ∷ codes "-1" ∷ codes "+1" ∷ codes "1.0" ∷ codes "4294967296" ∷ codes "00000000000" ∷ [])
     ≡ Err (Refused refusal.BadText) ∷ Err (Refused refusal.BadText) ∷ Err (Refused refusal.BadText) ∷ Err (Refused refusal.BadText) ∷ Err (Refused refusal.BadText) ∷ Err (Refused refusal.BadText) ∷ []
 unfolding rows
@@ -173,7 +212,7 @@ pub tries :
     head (codes "POST") (codes "/v1/variants/v1/tries") (length_field (codes "7") ∷ []) ∷ head (codes "PUT") (codes "/v1/variants/v1/tries") (length_field (codes "7") ∷ [])
     ∷ head (codes "PUT") (codes "/v1/variants/v1/tries") [] ∷ head (codes "GET") (codes "/v1/variants/v1/tries") [] ∷ []
     )
-    ≡ Ok (record { route = Try false; length = 7 }) ∷ Ok (record { route = Try true; length = 7 }) ∷ Err LengthRequired ∷ Err (MethodNotAllowed PostAndPut) ∷ []
+    ≡ Ok (record { route = Try false; length = 7 }) ∷ Ok (record { route = Try true; length = 7 }) ∷ Err LengthRequired ∷ Err (MethodNotAllowed (Either Post Put)) ∷ []
 unfolding rows
 tries = refl
 
@@ -304,7 +343,7 @@ unfolding rows
 not_allowed_reply = refl
 
 pub two_methods_allowed :
-    print (engine_reply (MethodNotAllowed PostAndPut)) ≡ codes "HTTP/1.1 405 Method Not Allowed\r\ncontent-length: 0\r\nallow: POST, PUT\r\nconnection: close\r\n\r\n"
+    print (engine_reply (MethodNotAllowed (Either Post Put))) ≡ codes "HTTP/1.1 405 Method Not Allowed\r\ncontent-length: 0\r\nallow: POST, PUT\r\nconnection: close\r\n\r\n"
 unfolding rows
 two_methods_allowed = refl
 

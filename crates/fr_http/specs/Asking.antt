@@ -17,6 +17,7 @@ use Rattle.fr_http.specs.declared.asking.Matter.{Matter}
 use Rattle.fr_http.specs.declared.fault.LinkFault.TheVariants.{NoMemory}
 use Rattle.fr_http.specs.declared.fault.Unasked.{Unasked}
 use Rattle.fr_http.specs.declared.fault.Unasked.TheVariants.{Fault, Refused}
+use Rattle.fr_http.specs.declared.path_name.PathName.{PathName}
 use Rattle.fr_http.specs.declared.routes.Route.{Route}
 
 -- The request is the one that the body's text is; or the text is not a request; or memory was
@@ -25,15 +26,15 @@ abbrev pub MakesCommand : List ℕ → Result Request Unasked → Type 0
 MakesCommand body (Ok request) = request_of body ≡ Some request
 MakesCommand body (Err unasked) = (unasked ≡ Fault (NoMemory false)) ⊎ ((unasked ≡ Refused BadText) × (request_of body ≡ None))
 
--- The name is the part of the path behind so many slashes; or memory was wanting.
-abbrev pub NamesPart : List ℕ → ℕ → Result (List ℕ) Unasked → Type 0
-NamesPart path slashes result = MatchResult result (λ name. name ≡ part slashes path) (λ unasked. unasked ≡ Fault (NoMemory false))
+-- The text is the part of the path that its pattern calls so; or memory was wanting.
+abbrev pub NamesPart : List ℕ → PathName → Result (List ℕ) Unasked → Type 0
+NamesPart path name result = MatchResult result (λ text. text ≡ part name path) (λ unasked. unasked ≡ Fault (NoMemory false))
 
--- The number is the part of the path behind so many slashes; or that part is not a number.
-abbrev pub CountsPart : List ℕ → ℕ → Result ℕ Unasked → Type 0
-CountsPart path slashes result = MatchResult result
-    (λ number. number_in slashes path ≡ Some number)
-    (λ unasked. (unasked ≡ Refused BadText) × (number_in slashes path ≡ None))
+-- The number is that part of the path; or that part is not a number.
+abbrev pub CountsPart : List ℕ → PathName → Result ℕ Unasked → Type 0
+CountsPart path name result = MatchResult result
+    (λ number. number_in name path ≡ Some number)
+    (λ unasked. (unasked ≡ Refused BadText) × (number_in name path ≡ None))
 
 -- The matter is the route's, or that is why the route asks nothing; or memory was wanting.
 abbrev pub MakesMatter : Route → List ℕ → List ℕ → Result Matter Unasked → Type 0

@@ -3,16 +3,14 @@
 use Rattle.std.specs.Prelude.{ℕ, ◌≡◌, ◌⊎◌, ◌≤◌, ◌<◌, Bool, true, false, not, ◌&&◌, ◌==◌, nat_lt, nat_le, List, [], ◌∷◌, length, take, codes, Option, Some, None, Result, Ok, Err, if◌then◌else◌}
 use Rattle.std.specs.Char.{is_ascii_digit}
 use Rattle.std.specs.List.{list_all, list_any}
-use Rattle.std.specs.Option.{option_map}
 use Rattle.std.specs.Str.Parse.{digits_value}
 use Rattle.httparse.specs.Grammar.{MayBecomeRequest, NeverHasRequest, RequestHead}
 use Rattle.httparse.specs.Spans.{RequestExceeds}
-use Rattle.fr_base.specs.Names.{same_text}
 use Rattle.fr_base.specs.Refusing.{◌>>=◌, ◌>>◌, ◌or◌, refuse◌when◌}
 use Rattle.fr_base.specs.declared.actor.Actor.{Actor}
 use Rattle.fr_base.specs.declared.refusal.Refusal.TheVariants.{UnknownKey}
 use Rattle.fr_http.specs.Head.{BeginsWith, HasNoHead, HeadData, key_of, max_fields, max_head, said, same_but_case, values}
-use Rattle.fr_http.specs.Routes.{allowed, chosen, matter_by, method_of, path_of, route_of, text_of_method}
+use Rattle.fr_http.specs.Routes.{allowed, chosen, matter_by, method_of, path_of, route_of}
 use Rattle.fr_http.specs.declared.asking.Exchange.{Exchange}
 use Rattle.fr_http.specs.declared.asking.Exchange.TheVariants as exchange
 use Rattle.fr_http.specs.declared.asking.Matter.{Matter}
@@ -55,16 +53,12 @@ pub record Wanted : Type 0 where
   pub route : Route
   pub length : ℕ
 
--- the route of a head's path, by its method
-unfoldable pub route_to : HeadData → Option Route
-route_to head = option_map (chosen head.method) (route_of (path_of head.target))
-
 -- what the head asks for, or the engine's own answer
 unfoldable pub plan_of : HeadData → Result Wanted Rejection
 plan_of head = do
   refuse NotImplemented when nat_lt 0 (length (values (codes "transfer-encoding") head.fields))
-  route ← route_to head or NotFound
-  refuse MethodNotAllowed (allowed route) when not (same_text head.method (text_of_method (method_of route)))
+  resource ← route_of (path_of head.target) or NotFound
+  route ← chosen head.method resource or MethodNotAllowed (allowed resource)
   n ← body_length (method_of route) head
   Ok (record { route = route; length = n })
 

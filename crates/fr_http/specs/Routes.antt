@@ -1,5 +1,5 @@
 -- Route: what a path asks for, by `matchit`, with its names and numbers.
-use Rattle.std.specs.Prelude.{ℕ, ◌==◌, Bool, true, false, List, [], ◌∷◌, codes, Option, Some, None, Result, Ok, Err, if◌then◌else◌, unwrap_or}
+use Rattle.std.specs.Prelude.{ℕ, ◌==◌, Bool, true, false, List, [], ◌∷◌, ◌++◌, codes, Option, Some, None, Result, Ok, Err, if◌then◌else◌, unwrap_or}
 use Rattle.std.specs.List.{before_first, fold, list_all, slice_get, slice_split}
 use Rattle.std.specs.Option.{option_map}
 use Rattle.std.specs.Result.{result_ok}
@@ -32,9 +32,13 @@ use Rattle.fr_http.specs.declared.asking.Matter.TheVariants as matter
 use Rattle.fr_http.specs.declared.fault.Unasked.{Unasked}
 use Rattle.fr_http.specs.declared.fault.Unasked.TheVariants.{Explained, Refused, Page as OwnPage}
 use Rattle.fr_http.specs.declared.method.Allowed.{Allowed}
-use Rattle.fr_http.specs.declared.method.Allowed.TheVariants.{Only, PostAndPut}
+use Rattle.fr_http.specs.declared.method.Allowed.TheVariants.{Only, Either}
 use Rattle.fr_http.specs.declared.method.Method.{Method}
 use Rattle.fr_http.specs.declared.method.Method.TheVariants.{Get, Post, Put}
+use Rattle.fr_http.specs.declared.path_name.PathName.{PathName}
+use Rattle.fr_http.specs.declared.path_name.PathName.TheVariants as named
+use Rattle.fr_http.specs.declared.routes.Resource.{Resource}
+use Rattle.fr_http.specs.declared.routes.Resource.TheVariants.{One, Two}
 use Rattle.fr_http.specs.declared.routes.Route.{Route}
 use Rattle.fr_http.specs.declared.routes.Route.TheVariants.{Page, Explanations, Explanation, Advice, Commands, Import, Replace, Try, Query, Picture}
 
@@ -58,79 +62,84 @@ method_of Explanations = Get
 method_of Explanation = Get
 method_of (Advice on) = Post
 
--- the methods that a route's path allows, as a reply lists them
+-- the methods that a path allows, as a reply lists them
 abbrev pub text_of_allowed : Allowed → List ℕ
 text_of_allowed (Only method) = text_of_method method
-text_of_allowed PostAndPut = codes "POST, PUT"
+text_of_allowed (Either first second) = text_of_method first ++ codes ", " ++ text_of_method second
 
--- the methods that a route's path allows
-abbrev pub allowed : Route → Allowed
-allowed (Try replaces) = PostAndPut
-allowed route = Only (method_of route)
+-- the methods that a path allows, by what it leads to
+abbrev pub allowed : Resource → Allowed
+allowed (One route) = Only (method_of route)
+allowed (Two first second) = Either (method_of first) (method_of second)
 
--- the route by the method of the request: a file that is tried by PUT is tried as a replacement
-abbrev pub chosen : List ℕ → Route → Route
-chosen method (Try replaces) = Try (same_text method (text_of_method Put))
-chosen method route = route
+-- whether the route's requests are by this method
+abbrev pub is_by : List ℕ → Route → Bool
+is_by method route = same_text method (text_of_method (method_of route))
+
+-- the route by the method of the request, if the path allows it
+abbrev pub chosen : List ℕ → Resource → Option Route
+chosen method (One route) = if is_by method route then Some route else None
+chosen method (Two first second) = if is_by method first then Some first else (if is_by method second then Some second else None)
 
 -- the route for what the register holds
-abbrev pub of_register : Inventory → Route
-of_register inventory = Query (OfRegister inventory)
+abbrev pub of_register : Inventory → Resource
+of_register inventory = One (Query (OfRegister inventory))
 
--- the route for a report of a variant, whose name is the part of the path behind three slashes
-abbrev pub of_variant : Report ℕ ℕ → Route
-of_variant report = Query (OfVariant 3 report)
+-- the route for a report of the path's variant
+abbrev pub of_variant : Report PathName PathName → Route
+of_variant report = Query (OfVariant named.Variant report)
 
--- the route for the difference of two variants, whose names are the parts of the path behind three
--- and behind five slashes
-abbrev pub of_two : Route
-of_two = Query (OfTwo 3 5)
+-- what the path of such a report alone leads to
+abbrev pub report : Report PathName PathName → Resource
+report asked = One (of_variant asked)
 
--- the route for the records below a header; the number of their part is the part of the path behind
--- six slashes
-abbrev pub export : Header → Route
-export header = of_variant (Export header 6)
+-- the route for the difference of the path's two variants
+abbrev pub of_two : Resource
+of_two = One (Query (OfTwo named.Variant named.From))
 
--- the routes; a frame's name is the part of the path behind five slashes, and a cycle repetition
--- the part behind seven
-unfoldable pub table : List (List ℕ × Route)
+-- the route for the records of the path's variant below a header
+abbrev pub export : Header → Resource
+export header = report (Export header named.Part)
+
+-- what each path leads to, by the pattern that it matches
+unfoldable pub table : List (List ℕ × Resource)
 table =
-    (codes "/", Page)
-    ∷ (codes "/v1/explanations", Explanations)
-    ∷ (codes "/v1/explanations/{word}", Explanation)
-    ∷ (codes "/v1/checks/rows", Advice subject.Rows)
-    ∷ (codes "/v1/checks/requests", Advice subject.Requests)
-    ∷ (codes "/v1/commands", Commands)
+    (codes "/", One Page)
+    ∷ (codes "/v1/explanations", One Explanations)
+    ∷ (codes "/v1/explanations/{word}", One Explanation)
+    ∷ (codes "/v1/checks/rows", One (Advice subject.Rows))
+    ∷ (codes "/v1/checks/requests", One (Advice subject.Requests))
+    ∷ (codes "/v1/commands", One Commands)
     ∷ (codes "/v1/cluster", of_register Cluster)
     ∷ (codes "/v1/variants", of_register Variants)
     ∷ (codes "/v1/nodes", of_register Nodes)
-    ∷ (codes "/v1/variants/{variant}/imports/{label}", Import)
+    ∷ (codes "/v1/variants/{variant}/imports/{label}", One Import)
     ∷ (codes "/v1/variants/{variant}/since/{from}", of_two)
-    ∷ (codes "/v1/variants/{variant}/grants", of_variant Grants)
-    ∷ (codes "/v1/variants/{variant}/frames", of_variant Frames)
-    ∷ (codes "/v1/variants/{variant}/schedule", of_variant Schedule)
-    ∷ (codes "/v1/variants/{variant}/gaps", of_variant Gaps)
-    ∷ (codes "/v1/variants/{variant}/frames/{frame}/layout", of_variant (Layout 5))
-    ∷ (codes "/v1/variants/{variant}/load", of_variant Load)
-    ∷ (codes "/v1/variants/{variant}/frames/{frame}/room/{repetition}", of_variant (Room 5 7))
+    ∷ (codes "/v1/variants/{variant}/grants", report Grants)
+    ∷ (codes "/v1/variants/{variant}/frames", report Frames)
+    ∷ (codes "/v1/variants/{variant}/schedule", report Schedule)
+    ∷ (codes "/v1/variants/{variant}/gaps", report Gaps)
+    ∷ (codes "/v1/variants/{variant}/frames/{frame}/layout", report (Layout named.Frame))
+    ∷ (codes "/v1/variants/{variant}/load", report Load)
+    ∷ (codes "/v1/variants/{variant}/frames/{frame}/room/{repetition}", report (Room named.Frame named.Repetition))
     ∷ (codes "/v1/variants/{variant}/exports/frames/{part}", export header.Frames)
     ∷ (codes "/v1/variants/{variant}/exports/placements/{part}", export header.Placements)
     ∷ (codes "/v1/variants/{variant}/exports/signals/{part}", export header.Signals)
-    ∷ (codes "/v1/variants/{variant}/rows", Replace)
-    ∷ (codes "/v1/variants/{variant}/tries", Try false)
-    ∷ (codes "/v1/variants/{variant}/picture", Picture)
+    ∷ (codes "/v1/variants/{variant}/rows", One Replace)
+    ∷ (codes "/v1/variants/{variant}/tries", Two (Try false) (Try true))
+    ∷ (codes "/v1/variants/{variant}/picture", One Picture)
     ∷ []
 
--- the router with one more route, as `matchit` reads its text and keeps it
-abbrev pub with_read : RowsOf (RouteOf Route) → Route → Result Scan InsertError → RowsOf (RouteOf Route)
-with_read rows route (Ok s) = placed (s.pattern, route_from s route) rows
-with_read rows route (Err _) = rows
+-- the router with one more pattern, as `matchit` reads its text and keeps it
+abbrev pub with_read : RowsOf (RouteOf Resource) → Resource → Result Scan InsertError → RowsOf (RouteOf Resource)
+with_read rows resource (Ok s) = placed (s.pattern, route_from s resource) rows
+with_read rows resource (Err _) = rows
 
-unfoldable pub with_route : RowsOf (RouteOf Route) → List ℕ × Route → RowsOf (RouteOf Route)
+unfoldable pub with_route : RowsOf (RouteOf Resource) → List ℕ × Resource → RowsOf (RouteOf Resource)
 with_route rows r = with_read rows r.1 (parse_route r.0)
 
--- the router that has these routes
-unfoldable pub router : RowsOf (RouteOf Route)
+-- the router that has all of them
+unfoldable pub router : RowsOf (RouteOf Resource)
 router = fold with_route [] table
 
 -- the path is the target up to the first `?`
@@ -141,32 +150,41 @@ path_of target = before_first (λ b. b == 63) target
 abbrev pub ascii_text : List ℕ → Option (List ℕ)
 ascii_text text = if list_all is_ascii text then Some text else None
 
--- the part of the path behind so many slashes, up to the next slash
-unfoldable pub part : ℕ → List ℕ → List ℕ
-part n path = unwrap_or (slice_get (slice_split (λ b. b == 47) path) n) []
+-- How many slashes of a path stand before the part that its pattern calls so. It is the same in each path that has the part.
+abbrev pub place : PathName → ℕ
+place named.Variant = 3
+place named.From = 5
+place named.Label = 5
+place named.Frame = 5
+place named.Repetition = 7
+place named.Part = 6
+place named.Word = 3
 
--- whether a path that matches the route leads to it: none leads to the explanation of a word that is not explained
-abbrev pub leads : List ℕ → Route → Bool
-leads path Explanation = is_explained (meant_word (part 3 path))
+-- the part of the path that its pattern calls so: what stands between slashes at its place
+unfoldable pub part : PathName → List ℕ → List ℕ
+part name path = unwrap_or (slice_get (slice_split (λ b. b == 47) path) (place name)) []
+
+-- whether a path that matches leads to it: none leads to the explanation of a word that is not explained
+abbrev pub leads : List ℕ → Resource → Bool
+leads path (One Explanation) = is_explained (meant_word (part named.Word path))
 leads path _ = true
 
--- the route, if the path leads to it
-abbrev pub led : List ℕ → Option Route → Option Route
+-- what the path leads to, if it does
+abbrev pub led : List ℕ → Option Resource → Option Resource
 led path None = None
-led path (Some route) = if leads path route then Some route else None
+led path (Some resource) = if leads path resource then Some resource else None
 
--- the route that the path matches
-abbrev pub matched : List ℕ → Option Route
+-- what the path leads to, by the pattern that it matches
+abbrev pub matched : List ℕ → Option Resource
 matched path = led path (option_map (λ r. r.value) (first router path))
 
--- the route of a path; a path that is not ASCII has none
-unfoldable pub route_of : List ℕ → Option Route
+-- what a path leads to; one that is not ASCII leads to nothing
+unfoldable pub route_of : List ℕ → Option Resource
 route_of path = if list_all is_ascii path then matched path else None
 
--- the number that is the part of the path behind so many slashes, if it has the form of a number in
--- an import's file
-abbrev pub number_in : ℕ → List ℕ → Option ℕ
-number_in n path = result_ok (number (part n path))
+-- the number that the part of the path is, if it has the form of a number in an import's file
+abbrev pub number_in : PathName → List ℕ → Option ℕ
+number_in name path = result_ok (number (part name path))
 
 -- what a text asks for; one that is no request is refused
 abbrev pub asked_or_refused : Option Request → Result Matter Unasked
@@ -179,12 +197,12 @@ asked_or_refused None = Err (Refused BadText)
 unfoldable pub matter_by : Route → List ℕ → List ℕ → Result Matter Unasked
 matter_by Page path body = Err OwnPage
 matter_by Explanations path body = Err (Explained None)
-matter_by Explanation path body = Err (Explained (Some (part 3 path)))
+matter_by Explanation path body = Err (Explained (Some (part named.Word path)))
 matter_by (Advice on) path body = Ok (matter.Advice on body)
 matter_by Commands path body = asked_or_refused (request_of body)
-matter_by Import path body = Ok (matter.Request (request.Import (part 3 path) (part 5 path) body))
-matter_by Replace path body = Ok (matter.Request (request.Replace (part 3 path) body))
-matter_by (Try replaces) path body = Ok (matter.Request (request.Try (part 3 path) replaces body))
+matter_by Import path body = Ok (matter.Request (request.Import (part named.Variant path) (part named.Label path) body))
+matter_by Replace path body = Ok (matter.Request (request.Replace (part named.Variant path) body))
+matter_by (Try replaces) path body = Ok (matter.Request (request.Try (part named.Variant path) replaces body))
 matter_by (Query asked) path body =
-    asked_or_refused (option_map request.Query (query_by (λ slashes. part slashes path) (λ slashes. number_in slashes path) asked))
-matter_by Picture path body = Ok (matter.Picture (part 3 path))
+    asked_or_refused (option_map request.Query (query_by (λ name. part name path) (λ name. number_in name path) asked))
+matter_by Picture path body = Ok (matter.Picture (part named.Variant path))

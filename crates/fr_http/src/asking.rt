@@ -7,6 +7,7 @@ ghost use Rattle.fr_http.specs.Routes.{part};
 use crate::fault::{LinkFault, Unasked};
 use crate::head::Head;
 use crate::method::Method;
+use crate::path_name::PathName;
 use crate::plan::Plan;
 use crate::routes::{Route, part};
 use fr_base::{Actor, Ask, Body, Desk, NoMemory, QueryReader, Refusal, Request, Text};
@@ -89,7 +90,7 @@ pub(crate) fn asked_matter(alloc: Global, plan: &Plan<'_>, body: &[u8]) -> Resul
         Route::Page => Err(Unasked::Page),
         Route::Explanations => Err(Unasked::Explained { word: None }),
         Route::Explanation => Err(Unasked::Explained {
-            word: Some(name(alloc, plan.path, 3)?),
+            word: Some(copy_part(alloc, plan.path, PathName::Word)?),
         }),
         Route::Advice(subject) => Ok(Matter::Advice {
             subject,
@@ -97,16 +98,16 @@ pub(crate) fn asked_matter(alloc: Global, plan: &Plan<'_>, body: &[u8]) -> Resul
         }),
         Route::Commands => Ok(Matter::Request(command(alloc, body)?)),
         Route::Import => Ok(Matter::Request(Request::Import {
-            variant: name(alloc, plan.path, 3)?,
-            label: name(alloc, plan.path, 5)?,
+            variant: copy_part(alloc, plan.path, PathName::Variant)?,
+            label: copy_part(alloc, plan.path, PathName::Label)?,
             body: Body::copy(alloc, body)?,
         })),
         Route::Replace => Ok(Matter::Request(Request::Replace {
-            variant: name(alloc, plan.path, 3)?,
+            variant: copy_part(alloc, plan.path, PathName::Variant)?,
             body: Body::copy(alloc, body)?,
         })),
         Route::Try { replaces } => Ok(Matter::Request(Request::Try {
-            variant: name(alloc, plan.path, 3)?,
+            variant: copy_part(alloc, plan.path, PathName::Variant)?,
             replaces,
             body: Body::copy(alloc, body)?,
         })),
@@ -118,7 +119,7 @@ pub(crate) fn asked_matter(alloc: Global, plan: &Plan<'_>, body: &[u8]) -> Resul
             Ok(Matter::Request(Request::Query(asked.read(&words)?)))
         }
         Route::Picture => Ok(Matter::Picture {
-            variant: name(alloc, plan.path, 3)?,
+            variant: copy_part(alloc, plan.path, PathName::Variant)?,
         }),
     }
 }
@@ -140,29 +141,29 @@ struct PathWords<'a> {
     path: &'a str,
 }
 
-// A query of a route tells a name or a number by how many slashes of the path stand before it.
-impl QueryReader<usize, usize, Text, Unasked> for PathWords<'_> {
+// The names and numbers of a query are parts of the path.
+impl QueryReader<PathName, PathName, Text, Unasked> for PathWords<'_> {
     ghost use Rattle.fr_http.specs.Asking.{CountsPart, NamesPart};
 
-    ghost reads = { λ words slashes result. NamesPart words.path.now slashes result };
+    ghost reads = { λ words name result. NamesPart words.path.now name result };
 
-    ghost counts = { λ words slashes result. CountsPart words.path.now slashes result };
+    ghost counts = { λ words name result. CountsPart words.path.now name result };
 
-    fn read_name(&self, slashes: &usize) -> Result<Text, Unasked> {
-        Ok(name(self.alloc, self.path, *slashes)?)
+    fn read_name(&self, name: &PathName) -> Result<Text, Unasked> {
+        Ok(copy_part(self.alloc, self.path, *name)?)
     }
 
-    fn read_number(&self, slashes: &usize) -> Result<u32, Unasked> {
-        let digits = part(self.path, *slashes).as_bytes();
+    fn read_number(&self, name: &PathName) -> Result<u32, Unasked> {
+        let digits = part(self.path, *name).as_bytes();
         read_number(digits).ok_or(Unasked::Refused(Refusal::BadText))
     }
 }
 
-// The name behind so many slashes of the path.
-fn name(alloc: Global, path: &str, slashes: usize) -> Result<Text, NoMemory>
-    ensures { IfOk result (λ text. text ≡ part slashes path.now) }
+// The part of the path that its pattern calls so, copied.
+fn copy_part(alloc: Global, path: &str, name: PathName) -> Result<Text, NoMemory>
+    ensures { IfOk result (λ text. text ≡ part name path.now) }
 {
-    Text::copy(alloc, part(path, slashes))
+    Text::copy(alloc, part(path, name))
 }
 
 // Why nothing is asked where a command's text is refused: for want of memory, or because it is not a

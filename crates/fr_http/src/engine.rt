@@ -2,7 +2,7 @@
 ghost use Rattle.std.specs.Prelude.{◌≡◌, IfOk, OnOk};
 ghost use Rattle.fr_http.specs.Routes.{matched, router, with_route};
 
-use crate::routes::{Route, routes};
+use crate::routes::{Resource, routes};
 use fr_base::NoMemory;
 use matchit::Router;
 use std::alloc::{AllocError, Global};
@@ -12,7 +12,7 @@ use std::marker::Model;
 #[derive(Drop)]
 pub struct Engine {
     alloc: Global,
-    routes: Router<Route>,
+    routes: Router<Resource>,
 }
 
 /// An engine has all routes, and no other.
@@ -22,9 +22,9 @@ impl Model for Engine {
     ghost use Rattle.matchit.specs.Router.{RouteOf};
     ghost use Rattle.matchit.specs.Rows.{RowsOf};
     ghost use Rattle.fr_http.specs.Routes.{router};
-    ghost use Rattle.fr_http.specs.declared.routes.Route.{Route};
+    ghost use Rattle.fr_http.specs.declared.routes.Resource.{Resource};
 
-    ghost Value = { Global × RowsOf (RouteOf Route) };
+    ghost Value = { Global × RowsOf (RouteOf Resource) };
 
     ghost view = { λ e. (e.alloc, e.routes) };
 
@@ -47,31 +47,35 @@ impl Engine {
         self.alloc
     }
 
-    /// The route that the path matches.
-    pub(crate) fn find_route(&self, path: &str) -> Option<Route>
+    /// What the path leads to.
+    pub(crate) fn find(&self, path: &str) -> Option<Resource>
         ensures { result ≡ matched path.now }
     {
-        let route = self.routes.at(path).ok().map(|found| *found.value)?;
-        if route.leads(path) { Some(route) } else { None }
+        let resource = self.routes.at(path).ok().map(|found| *found.value)?;
+        if resource.leads(path) {
+            Some(resource)
+        } else {
+            None
+        }
     }
 }
 
 // The router that has the routes.
-fn router(alloc: Global) -> Result<Router<Route>, NoMemory>
+fn router(alloc: Global) -> Result<Router<Resource>, NoMemory>
     ensures { IfOk result (λ made. made ≡ router) }
 {
     let mut router = Router::new(alloc);
-    for (text, route) in routes() {
-        add(&mut router, text, route)?;
+    for (pattern, resource) in routes() {
+        add(&mut router, pattern, resource)?;
     }
     Ok(router)
 }
 
-// Adds a route. The routes are well formed and differ, so the only error is want of memory.
-fn add(router: &mut Router<Route>, text: &str, route: Route) -> Result<(), NoMemory>
-    ensures { OnOk result (router.new ≡ with_route router.old (text.now, route)) }
+// Adds what a path leads to. The patterns are well formed and differ, so the only error is want of memory.
+fn add(router: &mut Router<Resource>, pattern: &str, resource: Resource) -> Result<(), NoMemory>
+    ensures { OnOk result (router.new ≡ with_route router.old (pattern.now, resource)) }
 {
-    if router.insert(text, route).is_err() {
+    if router.insert(pattern, resource).is_err() {
         return Err(AllocError);
     }
     Ok(())

@@ -12,6 +12,7 @@ mod input;
 mod laws;
 mod method;
 mod need;
+mod path_name;
 mod plan;
 mod receive;
 mod reply;

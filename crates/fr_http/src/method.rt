@@ -1,6 +1,6 @@
 //! The methods of the routes.
 ghost use Rattle.std.specs.Prelude.{◌≡◌};
-ghost use Rattle.fr_http.specs.Routes.{text_of_allowed, text_of_method};
+ghost use Rattle.fr_http.specs.Routes.{text_of_method};
 
 /// The method of a route.
 #[derive(Clone, Copy, PartialEq, Eq)]
@@ -31,18 +31,6 @@ impl Method {
 pub enum Allowed {
     /// This one alone.
     Only(Method),
-    /// POST, and PUT.
-    PostAndPut,
-}
-
-impl Allowed {
-    /// The methods as a reply lists them.
-    pub fn as_str(self) -> &'static str
-        ensures { result.now ≡ text_of_allowed self }
-    {
-        match self {
-            Allowed::Only(method) => method.as_str(),
-            Allowed::PostAndPut => "POST, PUT",
-        }
-    }
+    /// One of these two.
+    Either(Method, Method),
 }

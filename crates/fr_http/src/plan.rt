@@ -3,9 +3,7 @@ ghost use Rattle.std.specs.Prelude.{◌≡◌, [], ◌∷◌};
 ghost use Rattle.std.specs.Char.{is_ascii_digit};
 ghost use Rattle.std.specs.List.{list_all};
 ghost use Rattle.fr_http.specs.Outcome.{body_length, is_decimal, length_in};
-ghost use Rattle.fr_base.specs.Names.{same_text};
 ghost use Rattle.fr_http.specs.Planning.{Plans};
-ghost use Rattle.fr_http.specs.Routes.{text_of_method};
 
 use crate::engine::Engine;
 use crate::fault::Rejection;
@@ -34,13 +32,12 @@ pub(crate) fn make_plan<'a>(engine: &Engine, head: &Head<'a>) -> Result<Plan<'a>
     let Some(path) = ascii(path_of(head.target())) else {
         return Err(Rejection::NotFound);
     };
-    let Some(route) = engine.find_route(path) else {
+    let Some(resource) = engine.find(path) else {
         return Err(Rejection::NotFound);
     };
-    let route = route.by(head.method());
-    if !is_by(head, route.method()) {
-        return Err(Rejection::MethodNotAllowed(route.allowed()));
-    }
+    let Some(route) = resource.by(head.method()) else {
+        return Err(Rejection::MethodNotAllowed(resource.allowed()));
+    };
     match body_length(head, route.method()) {
         Ok(length) => Ok(Plan {
             route,
@@ -49,13 +46,6 @@ pub(crate) fn make_plan<'a>(engine: &Engine, head: &Head<'a>) -> Result<Plan<'a>
         }),
         Err(rejection) => Err(rejection),
     }
-}
-
-// Whether the request is by this method.
-fn is_by(head: &Head<'_>, method: Method) -> bool
-    ensures { result ≡ same_text head.now.0.method (text_of_method method) }
-{
-    head.method() == method.as_str().as_bytes()
 }
 
 // The length of the body that a request by this method has.

@@ -2,10 +2,11 @@
 ghost use Rattle.std.specs.Prelude.{◌≡◌, ◌++◌, IfOk, OnOk};
 ghost use Rattle.fr_base.specs.Refusals.{status_of};
 ghost use Rattle.fr_http.specs.Reply.{advice_reply, allow, answer_reply, authenticate, body_of, closing, engine_reply, explanation_reply, field_line, is_file, is_report, page_reply, phrase_of, planner_fields, planner_reply, reply_with, status_line, status_of_answer, status_of_rejection, type_of};
+ghost use Rattle.fr_http.specs.Routes.{text_of_allowed};
 ghost use Rattle.fr_http.specs.Replying.{IsReply, RepliesExplained, head_with};
 
 use crate::fault::Rejection;
-use crate::method::Method;
+use crate::method::{Allowed, Method};
 use fr_base::{Answer, NoMemory, Refusal, ReportRows, Text};
 use fr_guide::{explanation, meant_word, overview};
 use fr_page::{planner_page, policy};
@@ -42,13 +43,31 @@ fn push_allow(rejection: Rejection, out: &mut Vec<u8>) -> Result<(), NoMemory>
     ensures { OnOk result (out.new.items ≡ out.old.items ++ allow rejection) }
 {
     match rejection {
-        Rejection::MethodNotAllowed(allowed) => push_field("allow", allowed.as_str(), out),
+        Rejection::MethodNotAllowed(allowed) => {
+            push("allow: ", out)?;
+            push_methods(allowed, out)?;
+            push("\r\n", out)
+        }
         Rejection::BadRequest
         | Rejection::NotFound
         | Rejection::LengthRequired
         | Rejection::PayloadTooLarge
         | Rejection::HeadTooLarge
         | Rejection::NotImplemented => Ok(()),
+    }
+}
+
+// Appends the methods, with a comma between two.
+fn push_methods(allowed: Allowed, out: &mut Vec<u8>) -> Result<(), NoMemory>
+    ensures { OnOk result (out.new.items ≡ out.old.items ++ text_of_allowed allowed) }
+{
+    match allowed {
+        Allowed::Only(method) => push(method.as_str(), out),
+        Allowed::Either(first, second) => {
+            push(first.as_str(), out)?;
+            push(", ", out)?;
+            push(second.as_str(), out)
+        }
     }
 }
 

@@ -3,9 +3,11 @@ ghost use Rattle.std.specs.Prelude.{◌≡◌, ◌==◌, map};
 ghost use Rattle.std.specs.Char.{is_ascii};
 ghost use Rattle.std.specs.List.{list_all, position};
 ghost use Rattle.std.specs.Option.{option_map};
-ghost use Rattle.fr_http.specs.Routes.{allowed, ascii_text, chosen, export, leads, method_of, of_register, of_two, of_variant, part, path_of, table};
+ghost use Rattle.fr_http.specs.Routes.{allowed, ascii_text, chosen, export, is_by, leads, method_of, of_register, of_two, of_variant, part, path_of, table};
+ghost use Rattle.fr_http.specs.declared.routes.Resource.TheVariants.{One};
 
 use crate::method::{Allowed, Method};
+use crate::path_name::PathName;
 use fr_base::{Header, Inventory, Query, Report};
 use fr_guide::{Subject, explains, meant_word};
 use std::str;
@@ -17,7 +19,7 @@ pub enum Route {
     Page,
     /// A line on each word that is explained.
     Explanations,
-    /// What the word or number means that stands behind three slashes of the path.
+    /// What the word or number of the path means.
     Explanation,
     /// The body is a text, on which advice is wanted.
     Advice(Subject),
@@ -30,8 +32,8 @@ pub enum Route {
     /// The body is a file, and the fate of each of its rows is told: as a replacement's, or else as
     /// an import's.
     Try { replaces: bool },
-    /// A query. Each name and number in it is told by how many slashes of the path stand before it.
-    Query(Query<usize, usize>),
+    /// A query. Each name and number in it stands in the path.
+    Query(Query<PathName, PathName>),
     /// The page of a variant's plan.
     Picture,
 }
@@ -53,36 +55,53 @@ impl Route {
         }
     }
 
-    /// The methods that its path allows.
+    // Whether its requests are by this method.
+    fn is_by(self, method: &[u8]) -> bool
+        ensures { result ≡ is_by method.now self }
+    {
+        method == self.method().as_str().as_bytes()
+    }
+}
+
+/// What a path leads to: a route for each method that the path allows.
+#[derive(Clone, Copy, PartialEq, Eq)]
+pub enum Resource {
+    /// There is one method.
+    One(Route),
+    /// There are two, of which each route has its own.
+    Two(Route, Route),
+}
+
+impl Resource {
+    /// The methods that the path allows.
     pub fn allowed(self) -> Allowed
         ensures { result ≡ allowed self }
     {
         match self {
-            Route::Try { .. } => Allowed::PostAndPut,
-            route => Allowed::Only(route.method()),
+            Resource::One(route) => Allowed::Only(route.method()),
+            Resource::Two(first, second) => Allowed::Either(first.method(), second.method()),
         }
     }
 
-    /// The route by the method of the request. A file that is tried by PUT is tried as a
-    /// replacement.
-    pub(crate) fn by(self, method: &[u8]) -> Route
+    /// The route by the method of the request, if the path allows it.
+    pub(crate) fn by(self, method: &[u8]) -> Option<Route>
         ensures { result ≡ chosen method.now self }
     {
         match self {
-            Route::Try { .. } => Route::Try {
-                replaces: method == Method::Put.as_str().as_bytes(),
-            },
-            route => route,
+            Resource::One(route) if route.is_by(method) => Some(route),
+            Resource::Two(first, _) if first.is_by(method) => Some(first),
+            Resource::Two(_, second) if second.is_by(method) => Some(second),
+            _ => None,
         }
     }
 
-    /// Whether the path, which matches the route, leads to it. None leads to the explanation of a
-    /// word that is not explained.
+    /// Whether the path, which matches, leads to it. None leads to the explanation of a word that is
+    /// not explained.
     pub(crate) fn leads(self, path: &str) -> bool
         ensures { result ≡ leads path.now self }
     {
         match self {
-            Route::Explanation => explains(meant_word(part(path, 3))),
+            Resource::One(Route::Explanation) => explains(meant_word(part(path, PathName::Word))),
             _ => true,
         }
     }
@@ -127,72 +146,85 @@ fn is_ascii(bytes: &[u8]) -> bool
 }
 
 // The route for what the register holds.
-fn of_register(inventory: Inventory) -> Route
+fn of_register(inventory: Inventory) -> Resource
     ensures { result ≡ of_register inventory }
 {
-    Route::Query(Query::Register(inventory))
+    Resource::One(Route::Query(Query::Register(inventory)))
 }
 
-// The route for a report of a variant. The variant's name stands behind three slashes of the path.
-fn of_variant(report: Report<usize, usize>) -> Route
+// The route for a report of the path's variant.
+fn of_variant(report: Report<PathName, PathName>) -> Route
     ensures { result ≡ of_variant report }
 {
-    Route::Query(Query::Variant { variant: 3, report })
-}
-
-// The route for the difference of two variants. Their names stand behind three and behind five
-// slashes of the path.
-fn of_two() -> Route
-    ensures { result ≡ of_two }
-{
-    Route::Query(Query::Difference {
-        variant: 3,
-        from: 5,
+    Route::Query(Query::Variant {
+        variant: PathName::Variant,
+        report,
     })
 }
 
-// The route for the records of a variant below this header. The number of their part stands behind
-// six slashes of the path.
-fn export(header: Header) -> Route
-    ensures { result ≡ export header }
+// What the path of such a report alone leads to.
+fn report(report: Report<PathName, PathName>) -> Resource
+    ensures { result ≡ One (of_variant report) }
 {
-    of_variant(Report::Export { header, part: 6 })
+    Resource::One(of_variant(report))
 }
 
-/// The routes, each with the text of the paths that match it.
+// The route for the difference of the path's two variants.
+fn of_two() -> Resource
+    ensures { result ≡ of_two }
+{
+    Resource::One(Route::Query(Query::Difference {
+        variant: PathName::Variant,
+        from: PathName::From,
+    }))
+}
+
+// The route for the records of the path's variant below this header.
+fn export(header: Header) -> Resource
+    ensures { result ≡ export header }
+{
+    report(Report::Export {
+        header,
+        part: PathName::Part,
+    })
+}
+
+/// What each path leads to, by the pattern that it matches.
 #[tactic(auto, unfolding(crate::specs::Routes::table))]
-pub(crate) fn routes() -> [(&'static str, Route); 24]
+pub(crate) fn routes() -> [(&'static str, Resource); 24]
     ensures { map (λ entry. (entry.0.now, entry.1)) result ≡ table }
 {
+    use Resource::{One, Two};
+    use Route::*;
+
     [
-        ("/", Route::Page),
-        ("/v1/explanations", Route::Explanations),
-        ("/v1/explanations/{word}", Route::Explanation),
-        ("/v1/checks/rows", Route::Advice(Subject::Rows)),
-        ("/v1/checks/requests", Route::Advice(Subject::Requests)),
-        ("/v1/commands", Route::Commands),
+        ("/", One(Page)),
+        ("/v1/explanations", One(Explanations)),
+        ("/v1/explanations/{word}", One(Explanation)),
+        ("/v1/checks/rows", One(Advice(Subject::Rows))),
+        ("/v1/checks/requests", One(Advice(Subject::Requests))),
+        ("/v1/commands", One(Commands)),
         ("/v1/cluster", of_register(Inventory::Cluster)),
         ("/v1/variants", of_register(Inventory::Variants)),
         ("/v1/nodes", of_register(Inventory::Nodes)),
-        ("/v1/variants/{variant}/imports/{label}", Route::Import),
+        ("/v1/variants/{variant}/imports/{label}", One(Import)),
         ("/v1/variants/{variant}/since/{from}", of_two()),
-        ("/v1/variants/{variant}/grants", of_variant(Report::Grants)),
-        ("/v1/variants/{variant}/frames", of_variant(Report::Frames)),
-        (
-            "/v1/variants/{variant}/schedule",
-            of_variant(Report::Schedule),
-        ),
-        ("/v1/variants/{variant}/gaps", of_variant(Report::Gaps)),
+        ("/v1/variants/{variant}/grants", report(Report::Grants)),
+        ("/v1/variants/{variant}/frames", report(Report::Frames)),
+        ("/v1/variants/{variant}/schedule", report(Report::Schedule)),
+        ("/v1/variants/{variant}/gaps", report(Report::Gaps)),
         (
             "/v1/variants/{variant}/frames/{frame}/layout",
-            of_variant(Report::Layout { frame: 5 }),
+            report(Report::Layout {
+                frame: PathName::Frame,
+            }),
         ),
-        ("/v1/variants/{variant}/load", of_variant(Report::Load)),
+        ("/v1/variants/{variant}/load", report(Report::Load)),
         (
             "/v1/variants/{variant}/frames/{frame}/room/{repetition}",
-            of_variant(Report::Room {
-                frame: 5,
-                repetition: 7,
+            report(Report::Room {
+                frame: PathName::Frame,
+                repetition: PathName::Repetition,
             }),
         ),
         (
@@ -207,18 +239,18 @@ pub(crate) fn routes() -> [(&'static str, Route); 24]
             "/v1/variants/{variant}/exports/signals/{part}",
             export(Header::Signals),
         ),
-        ("/v1/variants/{variant}/rows", Route::Replace),
+        ("/v1/variants/{variant}/rows", One(Replace)),
         (
             "/v1/variants/{variant}/tries",
-            Route::Try { replaces: false },
+            Two(Try { replaces: false }, Try { replaces: true }),
         ),
-        ("/v1/variants/{variant}/picture", Route::Picture),
+        ("/v1/variants/{variant}/picture", One(Picture)),
     ]
 }
 
-/// The part of the path behind so many slashes, up to the next slash.
-pub(crate) fn part(path: &str, slashes: usize) -> &str
-    ensures { result.now ≡ part slashes path.now }
+/// The part of the path that its pattern calls so.
+pub(crate) fn part(path: &str, name: PathName) -> &str
+    ensures { result.now ≡ part name path.now }
 {
-    path.split('/').nth(slashes).unwrap_or("")
+    path.split('/').nth(name.place()).unwrap_or("")
 }

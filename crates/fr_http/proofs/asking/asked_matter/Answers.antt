@@ -10,7 +10,7 @@ pub returns-in_ok-read-in-Query : goal.returns-in_ok-read-in-Query
 unfolding matter_by
 returns-in_ok-read-in-Query c =
     let path = c.args.plan.now.path.now in
-    let taken = query_taken (λ slashes. part slashes path) (λ slashes. number_in slashes path) (λ e. e ≡ Fault (NoMemory false)) (λ e. e ≡ Refused BadText)
+    let taken = query_taken (λ name. part name path) (λ name. number_in name path) (λ e. e ≡ Fault (NoMemory false)) (λ e. e ≡ Refused BadText)
     c.in-Query.asked c.read.result c.read.ensures in
     search rules
 
@@ -18,6 +18,6 @@ pub returns-in_err-read-in-Query : goal.returns-in_err-read-in-Query
 unfolding matter_by
 returns-in_err-read-in-Query c =
     let path = c.args.plan.now.path.now in
-    let taken = query_taken (λ slashes. part slashes path) (λ slashes. number_in slashes path) (λ e. e ≡ Fault (NoMemory false)) (λ e. e ≡ Refused BadText)
+    let taken = query_taken (λ name. part name path) (λ name. number_in name path) (λ e. e ≡ Fault (NoMemory false)) (λ e. e ≡ Refused BadText)
     c.in-Query.asked c.read.result c.read.ensures in
     search rules

@@ -3,4 +3,4 @@ use Rattle.fr_http.proofs.RouteLaws.{inserted}
 use Rattle.fr_http.proofs.engine.add.Goals as goal
 
 pub returns : goal.returns
-returns c = inserted c.args.text.now c.args.route c.args.router.now c.insert.new.self c.insert.result (search rules) c.insert.ensures
+returns c = inserted c.args.pattern.now c.args.resource c.args.router.now c.insert.new.self c.insert.result (search rules) c.insert.ensures

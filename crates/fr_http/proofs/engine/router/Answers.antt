@@ -2,15 +2,15 @@ use Rattle.std.proofs.Common.{arith}
 use Rattle.fr_http.proofs.RouteLaws.{one_more, all_routes}
 use Rattle.fr_http.proofs.engine.router.Goals as goal
 
-pub loop-text-init : goal.loop-text-init
-loop-text-init c = c.new-router.ensures
+pub loop-pattern-init : goal.loop-pattern-init
+loop-pattern-init c = c.new-router.ensures
 
-pub loop-text-preserved : goal.loop-text-preserved
-loop-text-preserved c =
-    one_more c.routes-text-items.result c.loop-text.text-index _ c.loop-text.router c.add.new.router (omega (arith, c.loop-text-test.true, c.routes-text-items.type_inv))
-    c.loop-text.invariant c.in_ok-add.ensures
+pub loop-pattern-preserved : goal.loop-pattern-preserved
+loop-pattern-preserved c =
+    one_more c.routes-pattern-items.result c.loop-pattern.pattern-index _ c.loop-pattern.router c.add.new.router (omega (arith, c.loop-pattern-test.true, c.routes-pattern-items.type_inv))
+    c.loop-pattern.invariant c.in_ok-add.ensures
 
 pub returns : goal.returns
 returns c =
-    all_routes c.routes-text-items.result c.loop-text.text-index c.loop-text.router (omega (arith, c.loop-text-test.false, c.routes-text-items.type_inv))
-    c.routes-text-items.ensures c.loop-text.invariant
+    all_routes c.routes-pattern-items.result c.loop-pattern.pattern-index c.loop-pattern.router (omega (arith, c.loop-pattern-test.false, c.routes-pattern-items.type_inv))
+    c.routes-pattern-items.ensures c.loop-pattern.invariant
