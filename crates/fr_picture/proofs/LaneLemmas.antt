@@ -18,6 +18,7 @@ use Rattle.std.proofs.lemmas.Grind.{flat_map-append}
 use Rattle.fr_picture.specs.Rectangles.{AreApart, AreFilled, cells_in, cells_of}
 use Rattle.std.specs.List.Sorted.{IsPermutation}
 use Rattle.std.proofs.lemmas.List.Sorted.{IsPermutation-refl, IsPermutation-trans, IsPermutation-append_left, IsPermutation-append_right, IsPermutation-append_comm}
+use Rattle.fr_base.specs.declared.answer.DifferenceRow.{DifferenceRow}
 use Rattle.fr_base.specs.declared.answer.GrantRow.{GrantRow}
 use Rattle.fr_base.specs.declared.answer.Sending.{Sending}
 use Rattle.fr_base.specs.declared.channel.Channels.{Channels}
@@ -164,13 +165,13 @@ cells_stay ls k l d small e = none_more lane_cells ls k l d small (ap (λ g. cel
 
 -- ---- what each lane has, in order
 
-module _ {X : Type 0} (has : Lane → List X) where
-  stays_case : (ls : List Lane) (i k : ℕ) (l d e : Lane) → i < length ls → has l ≡ has (get_or ls i d) → (k ≡ i) ⊎ (k ≡ i → ⊥) → has (get_or (set ls i l) k e) ≡ has (get_or ls k e)
+module _ {L X : Type 0} (has : L → List X) where
+  stays_case : (ls : List L) (i k : ℕ) (l d e : L) → i < length ls → has l ≡ has (get_or ls i d) → (k ≡ i) ⊎ (k ≡ i → ⊥) → has (get_or (set ls i l) k e) ≡ has (get_or ls k e)
   stays_case ls i k l d e small same (inl here) =
       ap (λ j. has (get_or (set ls i l) j e)) here ∙ ap has (get_or-set_same ls i l e small) ∙ same ∙ ap has (get_or_default ls i d e small) ∙ ap (λ j. has (get_or ls j e)) (sym here)
   stays_case ls i k l d e small same (inr other) = ap has (get_or-set_other ls i k l e other)
 
-  stays_one : (ls : List Lane) (i k : ℕ) (l d e : Lane) → i < length ls → has l ≡ has (get_or ls i d) → has (get_or (set ls i l) k e) ≡ has (get_or ls k e)
+  stays_one : (ls : List L) (i k : ℕ) (l d e : L) → i < length ls → has l ≡ has (get_or ls i d) → has (get_or (set ls i l) k e) ≡ has (get_or ls k e)
   stays_one ls i k l d e small same = stays_case ls i k l d e small same (cases_eq k i)
 
   module _ (at : X → ℕ) where
@@ -178,7 +179,7 @@ module _ {X : Type 0} (has : Lane → List X) where
     abbrev OfLane : ℕ → List X → List X
     OfLane k rows = filter (λ x. eqb (at x) k) rows
 
-    more_case : (ls : List Lane) (i k : ℕ) (l d e : Lane) (x : X) → i < length ls → i ≡ at x → has l ≡ has (get_or ls i d) ++ x ∷ []
+    more_case : (ls : List L) (i k : ℕ) (l d e : L) (x : X) → i < length ls → i ≡ at x → has l ≡ has (get_or ls i d) ++ x ∷ []
         → ((eqb (at x) k ≡ true) × (at x ≡ k)) ⊎ ((eqb (at x) k ≡ false) × (at x ≢ k)) → has (get_or (set ls i l) k e) ≡ has (get_or ls k e) ++ OfLane k (x ∷ [])
     more_case ls i k l d e x small here more (inl own) =
         let there : k ≡ i = sym (here ∙ own.1) in
@@ -189,7 +190,7 @@ module _ {X : Type 0} (has : Lane → List X) where
         ap has (get_or-set_other ls i k l e (λ there. other.1 (sym (there ∙ here)))) ∙ sym (append-nil (has (get_or ls k e)))
         ∙ ap (λ b. has (get_or ls k e) ++ cond b (x ∷ []) []) (sym other.0)
 
-    more_one : (ls : List Lane) (i k : ℕ) (l d e : Lane) (x : X) → i < length ls → i ≡ at x → has l ≡ has (get_or ls i d) ++ x ∷ []
+    pub more_one : (ls : List L) (i k : ℕ) (l d e : L) (x : X) → i < length ls → i ≡ at x → has l ≡ has (get_or ls i d) ++ x ∷ []
         → has (get_or (set ls i l) k e) ≡ has (get_or ls k e) ++ OfLane k (x ∷ [])
     more_one ls i k l d e x small here more = more_case ls i k l d e x small here more (eqb_tells (at x) k)
 
@@ -313,17 +314,17 @@ home-more ls new l after no_grants no_rectangles h =
     ) in
     subst (AreHome 0) (sym after) (home-push ls 0 l alone h)
 
-pub drawing_of : (p : Params) (d : Drawing) (columns listed : List Place) (channels : Channels) (shift end width : ℕ) (shown : List Shows) (holds : List GrantRow) (cells : List Sending) (empty held : List Lane)
+pub drawing_of : (p : Params) (d : Drawing) (columns listed : List Place) (channels : Channels) (shift end width : ℕ) (shown : List Shows) (holds : List GrantRow) (cells : List Sending) (changes : List DifferenceRow) (empty held : List Lane)
     → channels ≡ p.channels → shift ≡ shift_of p.channels → end + shift ≡ 136 → (p.channels ≡ AB → shift ≡ end) → d.scale ≡ record { cycles = p.cycles; height = p.cycles + 5; width = width }
-    → shown ≡ shown_of (is_used holds cells) p.static_slots → width ≡ lane_width (end - 4) shown
+    → shown ≡ shown_of (is_used holds cells changes) p.static_slots → width ≡ lane_width (end - 4) shown
     → map (λ q. q.shows) columns ≡ shown → AreInOrder end end columns → OpensFirst columns → All IsNamed columns → All (IsWide width) columns → All (λ q. 4 ≤ q.x) columns → All (λ q. q.x + q.width ≤ end) columns
     → listed ≡ columns → length empty ≡ 2046 → drawn_grants empty ≡ [] → drawn_cells empty ≡ [] → All IsApart empty → All IsFilled empty → AreHome 0 empty → AreAt channels shift listed empty
     → IsPermutation (drawn_grants held) (drawn_grants empty ++ holds) → drawn_cells held ≡ drawn_cells empty → HoldMore empty holds held → HaveStill empty held → (All IsApart empty → All IsApart held)
     → (All IsFilled empty → All IsFilled held) → (AreHome 0 empty → AreHome 0 held) → ((cs : Channels) (n : ℕ) (ps : List Place) → AreAt cs n ps empty → AreAt cs n ps held)
     → vec_len d.lanes ≡ 2046 → IsPermutation (drawn_cells d.lanes.items) (drawn_cells held ++ cells) → drawn_grants d.lanes.items ≡ drawn_grants held → HaveMore held cells d.lanes.items
     → HoldStill held d.lanes.items → (All IsApart held → All IsApart d.lanes.items) → (All IsFilled held → All IsFilled d.lanes.items) → (AreHome 0 held → AreHome 0 d.lanes.items)
-    → ((cs : Channels) (n : ℕ) (ps : List Place) → AreAt cs n ps held → AreAt cs n ps d.lanes.items) → IsDrawing p holds cells d
-drawing_of p d columns listed channels shift end width shown holds cells empty held own by whole both scaled used least this o0 s0 l0 wide from ends e0 n0 g0 c0 a0 f0 h0 p0 g1 c1 t1 k1 a1 f1 h1 p1 n2 c2 g2 t2 k2 a2 f2 h2 p2 =
+    → ((cs : Channels) (n : ℕ) (ps : List Place) → AreAt cs n ps held → AreAt cs n ps d.lanes.items) → IsDrawing p holds cells changes d
+drawing_of p d columns listed channels shift end width shown holds cells changes empty held own by whole both scaled used least this o0 s0 l0 wide from ends e0 n0 g0 c0 a0 f0 h0 p0 g1 c1 t1 k1 a1 f1 h1 p1 n2 c2 g2 t2 k2 a2 f2 h2 p2 =
     let last : end ≡ 136 - shift = omega (arith, whole) in
     let space : end - 4 ≡ 132 - shift = omega (arith, whole) in
     let size : length d.lanes.items ≡ 2046 = omega (arith, d.lanes.ok, n2) in

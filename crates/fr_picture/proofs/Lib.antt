@@ -2,6 +2,7 @@ pub mod RectangleLemmas
 pub mod ColumnLemmas
 pub mod MarkLemmas
 pub mod LaneLemmas
+pub mod ChangeLemmas
 pub mod EntryLemmas
 pub mod PageLemmas
 pub mod NumberLemmas

@@ -9,8 +9,10 @@ use Rattle.std.proofs.lemmas.Bool.Decides.{eqb_tells}
 use Rattle.std.proofs.lemmas.List.{get_or_past, get_or-replicate, get_or-set_same, get_or-set_other, length-replicate}
 use Rattle.std.proofs.lemmas.List.Folds.{list_any_more}
 use Rattle.std.proofs.lemmas.List.FromFn.{map-range_with_len_more}
+use Rattle.fr_base.specs.declared.answer.DifferenceRow.{DifferenceRow}
 use Rattle.fr_base.specs.declared.answer.GrantRow.{GrantRow}
 use Rattle.fr_base.specs.declared.answer.Sending.{Sending}
+use Rattle.fr_picture.specs.Changes.{is_of_slot}
 use Rattle.fr_picture.specs.Places.{is_slot}
 use Rattle.fr_picture.specs.Shown.{first_free, is_used, shown_of, shows_at}
 use Rattle.fr_picture.specs.declared.drawing.marks.Shows.{Shows}
@@ -49,11 +51,12 @@ none_marked_case n i (inr large) = get_or_past (replicate n false) i false (omeg
 pub none_marked : (n i : ℕ) → get_or (replicate n false) i false ≡ false
 none_marked n i = none_marked_case n i (cases_lt i n)
 
-pub used_of : (holds : List GrantRow) (cells : List Sending) (n : ℕ) (none held sent : Bool) → none ≡ false → held ≡ (none || list_any (λ g. eqb g.slot n) holds)
-    → sent ≡ (held || list_any (λ s. eqb s.slot n) cells) → sent ≡ is_used holds cells n
+pub used_of : (holds : List GrantRow) (cells : List Sending) (changes : List DifferenceRow) (n : ℕ) (none held sent all : Bool) → none ≡ false → held ≡ (none || list_any (λ g. eqb g.slot n) holds)
+    → sent ≡ (held || list_any (λ s. eqb s.slot n) cells) → all ≡ (sent || list_any (is_of_slot n) changes) → all ≡ is_used holds cells changes n
 unfolding is_used
-used_of holds cells n none held sent free grants rest =
-    rest ∙ ap (λ b. b || list_any (λ s. eqb s.slot n) cells) (grants ∙ ap (λ b. b || list_any (λ g. eqb g.slot n) holds) free)
+used_of holds cells changes n none held sent all free grants rest changed =
+    changed ∙ ap (λ b. b || list_any (is_of_slot n) changes)
+    (rest ∙ ap (λ b. b || list_any (λ s. eqb s.slot n) cells) (grants ∙ ap (λ b. b || list_any (λ g. eqb g.slot n) holds) free))
 
 pub unset : (mark : Bool) → not mark ≡ false → mark ≡ true
 unset true e = refl

@@ -8,8 +8,11 @@ use Rattle.std.proofs.lemmas.Grind.{flat_map-append}
 use Rattle.std.proofs.lemmas.List.FromFn.{map-range_with_len_more}
 use Rattle.std.proofs.lemmas.List.Folds.{flat_map-map}
 use Rattle.fr_base.specs.declared.name.Name.{Name}
+use Rattle.fr_base.specs.declared.answer.DifferenceRow.{DifferenceRow}
 use Rattle.fr_base.specs.declared.answer.GrantRow.{GrantRow}
 use Rattle.fr_base.specs.declared.answer.Sending.{Sending}
+use Rattle.fr_picture.specs.Changes.{AreBySlot, rows_of}
+use Rattle.fr_picture.specs.declared.changes.SlotChanges.{SlotChanges}
 use Rattle.fr_picture.specs.Lanes.{IsDrawing}
 use Rattle.fr_picture.specs.declared.drawing.Drawing.{Drawing}
 use Rattle.fr_picture.specs.declared.frame_table.DrawnFrame.{DrawnFrame}
@@ -43,18 +46,23 @@ index_of frames entries index own same sorted stable = record {
 }
 
 -- what is known of a page, for the plan's own rows
-pub page_of : (plan : Plan) (drawing : Drawing) (index entries : List Entry) (shares listed : List Share) (holds : List GrantRow) (cells : List Sending) (frames : List DrawnFrame) (names : List Name) (count : ℕ) (text : List ℕ)
-    → holds ≡ plan.grants → cells ≡ plan.cells → names ≡ plan.suppliers.items → frames ≡ plan.frames.items → IsDrawing plan.params holds cells drawing → IsIndex frames index
-    → entries ≡ index → count ≡ plan.params.cycles → shares ≡ map (share_of names count holds cells) names → listed ≡ shares
-    → text ≡ page_text plan drawing entries listed → IsPage plan text
-page_of plan drawing index entries shares listed holds cells frames names count text e1 e2 e3 e4 drawn indexed e5 e6 e7 e8 e9 =
+pub page_of : (plan : Plan) (drawing : Drawing) (index entries : List Entry) (slots stood : List SlotChanges) (shares listed : List Share) (holds : List GrantRow) (cells : List Sending) (changes : List DifferenceRow) (frames : List DrawnFrame) (names : List Name) (count : ℕ) (text : List ℕ)
+    → holds ≡ plan.grants → cells ≡ plan.cells → names ≡ plan.suppliers.items → frames ≡ plan.frames.items → changes ≡ rows_of plan.changes
+    → IsDrawing plan.params holds cells changes drawing → IsIndex frames index → AreBySlot changes slots
+    → entries ≡ index → stood ≡ slots → count ≡ plan.params.cycles → shares ≡ map (share_of names count holds cells) names → listed ≡ shares
+    → text ≡ page_text plan drawing entries stood listed → IsPage plan text
+page_of plan drawing index entries slots stood shares listed holds cells changes frames names count text e1 e2 e3 e4 e0 drawn indexed standing e5 es e6 e7 e8 e9 =
     let full : listed ≡ shares_of plan =
     e8 ∙ e7 ∙ ap (λ n. map (share_of names n holds cells) names) e6 ∙ ap (λ gs. map (share_of names plan.params.cycles gs cells) names) e1
     ∙ ap (λ cs. map (share_of names plan.params.cycles plan.grants cs) names) e2 ∙ ap (λ ns. map (share_of ns plan.params.cycles plan.grants plan.cells) ns) e3 in
     record {
       drawing = drawing;
-      drawn = subst (λ cs. IsDrawing plan.params plan.grants cs drawing) e2 (subst (λ gs. IsDrawing plan.params gs cells drawing) e1 drawn);
+      drawn = subst (λ ds. IsDrawing plan.params plan.grants plan.cells ds drawing) e0
+          (subst (λ cs. IsDrawing plan.params plan.grants cs changes drawing) e2 (subst (λ gs. IsDrawing plan.params gs cells changes drawing) e1 drawn));
       index = index;
       indexed = subst (λ fs. IsIndex fs index) e4 indexed;
-      is = e9 ∙ ap (λ es. page_text plan drawing es listed) e5 ∙ ap (λ ss. page_text plan drawing index ss) full;
+      slots = slots;
+      by_slot = subst (λ ds. AreBySlot ds slots) e0 standing;
+      is = e9 ∙ ap (λ xs. page_text plan drawing xs stood listed) e5 ∙ ap (λ ss. page_text plan drawing index ss listed) es
+          ∙ ap (λ ss. page_text plan drawing index slots ss) full;
     }

@@ -1,5 +1,7 @@
 -- The variant of a plan among those of the register, and why there is no plan.
-use Rattle.std.proofs.Common.{◌≡◌, Bool, List, ℕ, Option, Result, Ok, Err, refl, sym, ap, subst, ◌∙◌, inl, inr}
+use Rattle.std.proofs.Common.{◌≡◌, Bool, true, false, cond, List, ℕ, Option, Some, None, Result, Ok, Err, refl, sym, ap, subst, ◌∙◌, inl, inr}
+use Rattle.std.proofs.lemmas.Option.{none-some, same_Some}
+use Rattle.std.specs.Borrow.{Bor}
 use Rattle.std.specs.Prelude.{Contains, Vec}
 use Rattle.std.specs.declared.alloc.Global.{Global}
 use Rattle.fr_base.specs.Book.{Book, file_of}
@@ -7,6 +9,7 @@ use Rattle.fr_base.specs.Cluster.{Cluster, ClusterFile}
 use Rattle.fr_base.specs.Sound.{IsSound}
 use Rattle.fr_base.specs.declared.actor.Actor.{Actor}
 use Rattle.fr_base.specs.declared.answer.Answer.{Answer}
+use Rattle.fr_base.specs.declared.answer.DifferenceRow.{DifferenceRow}
 use Rattle.fr_base.specs.declared.answer.GrantRow.{GrantRow}
 use Rattle.fr_base.specs.declared.answer.Sending.{Sending}
 use Rattle.fr_base.specs.declared.answer.VariantRow.{VariantRow}
@@ -16,12 +19,13 @@ use Rattle.fr_base.specs.declared.refusal.Refusal.{Refusal}
 use Rattle.fr_base.specs.declared.refusal.Refusal.TheVariants.{Unavailable}
 use Rattle.fr_base.specs.declared.report.Report.TheVariants.{Grants, Schedule}
 use Rattle.fr_base.specs.declared.request.Request.{Request}
+use Rattle.fr_picture.specs.declared.changes.Changes.{Changes}
 use Rattle.fr_picture.specs.declared.frame_table.DrawnFrame.{DrawnFrame}
 use Rattle.fr_picture.specs.declared.plan.Plan.{Plan}
 use Rattle.fr_picture.proofs.FrameLaws.{refuses_plan}
 use Rattle.fr_picture.specs.Frames.{AreFrames, IsOfPlan, MayRefusePlan}
-use Rattle.fr_picture.specs.Plans.{IsListed, IsPlan, supplier_of, suppliers_seen}
-use Rattle.fr_picture.specs.Reports.{Reads, Reports, Standing, asks, asks_variants, with_cells, with_grants, with_variants}
+use Rattle.fr_picture.specs.Plans.{AreChanges, IsListed, IsPicture, IsPlan, MayRefusePicture, since_of, supplier_of, suppliers_seen}
+use Rattle.fr_picture.specs.Reports.{Reads, Reports, Standing, asks, asks_difference, asks_variants, with_cells, with_difference, with_grants, with_variants}
 
 -- ---- the row
 
@@ -110,6 +114,7 @@ module _ (reader : Actor) (variant : List ℕ) where
                 grants = grants;
                 cells = cells;
                 frames = drawn;
+                changes = None;
               }))
           plan_read row params viewer known file drawn is same rowed has says named c b stood sound =
               let one = granted c b stood sound in
@@ -130,3 +135,90 @@ module _ (reader : Actor) (variant : List ℕ) where
                   frames = subst (λ (fs : List DrawnFrame). AreFrames c b reader variant fs) (sym same) three.1;
                 },
               )
+
+-- ---- the changes
+
+module _ (old new : Standing) (reader : Actor) (variant from : List ℕ) where
+  abbrev ReadsChanges : Result (Option Changes) Refusal → Type 0
+  ReadsChanges r = Reads old new r (λ c b changes. AreChanges c b reader variant (Some from) changes) (λ c b e. MayRefusePicture c b reader variant (Some from) e)
+
+  -- they are the rows of the difference
+  pub changes_read : (name : Name) (rows : List DifferenceRow) → name ≡ from → Reports old new reader (asks_difference variant from) with_difference (Ok rows)
+      → ReadsChanges (Ok (Some (record { from = name; rows = rows })))
+  changes_read name rows is reports c b stood sound =
+      let told = reports c b stood sound in
+      (told.0, (is, told.1))
+
+  -- the difference was refused
+  pub changes_refused : (r : Result (Option Changes) Refusal) (e : Refusal) → r ≡ Err e → Reports {X = List DifferenceRow} old new reader (asks_difference variant from) with_difference (Err e) → ReadsChanges r
+  changes_refused r e is reports = subst ReadsChanges (sym is) (λ c b stood sound.
+      let told = reports c b stood sound in (
+        told.0,
+        elim told.1 [
+          | inl lacked ↦ inl (inl lacked)
+          | inr refused ↦ inr refused
+        ],
+      ))
+
+  -- its name is none
+  pub changes_lacked : (rows : List DifferenceRow) → Reports old new reader (asks_difference variant from) with_difference (Ok rows) → ReadsChanges (Err Unavailable)
+  changes_lacked rows reports c b stood sound = ((reports c b stood sound).0, inl (inl refl))
+
+-- what a name is read as
+pub name_read : (is : Bool) (text name : List ℕ) (read : Option (List ℕ)) → read ≡ cond is (Some text) None → read ≡ Some name → name ≡ text
+name_read true text name read made found = same_Some name text (sym found ∙ made)
+name_read false text name read made found = absurd (none-some name (sym made ∙ found))
+
+-- they are those of the variant that is named, or none
+module _ (old new : Standing) (reader : Actor) (variant : List ℕ) (since : Option (Bor (List ℕ))) (r : Result (Option Changes) Refusal) where
+  abbrev ReadsSince : Option (List ℕ) → Type 0
+  ReadsSince from = Reads old new r (λ c b changes. AreChanges c b reader variant from changes) (λ c b e. MayRefusePicture c b reader variant from e)
+
+  pub since_some : (from : Bor (List ℕ)) → since ≡ Some from → ReadsSince (Some from.now) → ReadsSince (since_of since)
+  since_some from is reads = subst ReadsSince (ap since_of (sym is)) reads
+
+  pub since_none : since ≡ None → r ≡ Ok None → new ≡ old → ReadsSince (since_of since)
+  since_none is told same = subst ReadsSince (ap since_of (sym is))
+      (subst (λ (s : Result (Option Changes) Refusal). Reads old new s (λ c b changes. AreChanges c b reader variant None changes) (λ c b e. MayRefusePicture c b reader variant None e)) (sym told)
+      (λ c b stood sound. (subst (λ (s : Standing). s c b) (sym same) stood, refl)))
+
+-- ---- the plan with its changes
+
+module _ (reader : Actor) (variant : List ℕ) (since : Option (List ℕ)) (s0 s1 : Standing) where
+  abbrev ReadsPicture : Standing → Result Plan Refusal → Type 0
+  ReadsPicture s r = Reads s0 s r (λ c b plan. IsPicture c b reader variant since plan) (λ c b e. MayRefusePicture c b reader variant since e)
+
+  -- its changes were refused
+  pub changes_refuse : (r : Result Plan Refusal) (e : Refusal) → r ≡ Err e → Keeps s0 s1 (λ c b. MayRefusePicture c b reader variant since e) → ReadsPicture s1 r
+  changes_refuse r e is keeps = subst (ReadsPicture s1) (sym is) keeps
+
+  module _ (changes : Option Changes) (changed : Keeps s0 s1 (λ c b. AreChanges c b reader variant since changes)) (s2 : Standing) where
+    -- the plan was refused
+    pub plan_refuses : (r : Result Plan Refusal) (e : Refusal) → r ≡ Err e → Keeps s1 s2 (λ c b. MayRefusePlan c b reader variant e) → ReadsPicture s2 r
+    plan_refuses r e is keeps = subst (ReadsPicture s2) (sym is) (λ c b stood sound.
+        let told = keeps c b (changed c b stood sound).0 sound in
+        (told.0, inl told.1))
+
+    -- all of it was read
+    pub picture_read : (plan : Plan) → Keeps s1 s2 (λ c b. IsPlan c b reader variant plan) → ReadsPicture s2 (Ok (record plan { changes = changes }))
+    picture_read plan keeps c b stood sound =
+        let known = changed c b stood sound in
+        let told = keeps c b known.0 sound in
+        let is = told.1 in (
+          told.0,
+          record {
+            is_plan = record {
+              params = is.params;
+              name = is.name;
+              row = is.row;
+              listed = is.listed;
+              same = is.same;
+              viewer = is.viewer;
+              suppliers = is.suppliers;
+              grants = is.grants;
+              cells = is.cells;
+              frames = is.frames;
+            };
+            changes = known.1;
+          },
+        )

@@ -21,7 +21,7 @@ use Rattle.fr_base.specs.declared.query.Query.{Query}
 use Rattle.fr_base.specs.declared.report.Report.{Report}
 use Rattle.fr_base.specs.declared.request.Request.TheVariants as request
 use Rattle.fr_base.proofs.SoundRefusing.{gives_each, gives_unless, gives_when}
-use Rattle.fr_picture.specs.Reports.{Answered, MayRefuse, Reports, Standing, answer_to, asks}
+use Rattle.fr_picture.specs.Reports.{Answered, MayRefuse, Reports, Standing, answer_to, asks, asks_difference}
 
 -- ---- the book stays
 
@@ -118,6 +118,12 @@ module _ (old new : Standing) (actor : Actor) (asked : Query (List ℕ) ℕ) whe
 -- what is told of a variant's name is told of another that is the same
 pub report_same : (old new : Standing) (actor : Actor) (v w : List ℕ) (asked : Report (List ℕ) ℕ) (r : Result ReportRows Refusal) → w ≡ v → Reports old new actor (asks w asked) Told r → Reports old new actor (asks v asked) Told r
 report_same old new actor v w asked r alike reports = subst (λ name. Reports old new actor (asks name asked) Told r) alike reports
+
+-- the same of the names of two variants
+pub difference_same : (old new : Standing) (actor : Actor) (v w from other : List ℕ) (r : Result ReportRows Refusal) → w ≡ v → other ≡ from
+    → Reports old new actor (asks_difference w other) Told r → Reports old new actor (asks_difference v from) Told r
+difference_same old new actor v w from other r alike same reports =
+    subst (λ name. Reports old new actor (asks_difference v name) Told r) same (subst (λ name. Reports old new actor (asks_difference name other) Told r) alike reports)
 
 module _ {X : Type 0} (old new : Standing) (actor : Actor) (asked : Request) (into : X → ReportRows) where
   -- rows of this kind

@@ -1,10 +1,12 @@
 -- Text of a lane: the slot's number, a gap, the holder's mark above and below the lane, and its rectangles. A part of
 -- the drawing has its heading.
 use Rattle.std.specs.Prelude.{ℕ, ◌==◌, ◌&&◌, Bool, false, length, List, [], ◌∷◌, ◌++◌, codes, decimal, Option, Some, None, if◌then◌else◌}
-use Rattle.std.specs.List.{flat_map}
+use Rattle.std.specs.List.{enumerate_from, flat_map}
 use Rattle.fr_base.specs.Channels.{text_of_channel}
+use Rattle.fr_base.specs.declared.answer.DifferenceRow.{DifferenceRow}
 use Rattle.fr_base.specs.declared.answer.GrantRow.{GrantRow}
 use Rattle.fr_base.specs.declared.name.Name.{Name}
+use Rattle.fr_picture.specs.declared.changes.SlotChanges.{SlotChanges}
 use Rattle.fr_picture.specs.declared.drawing.columns.Scale.{Scale}
 use Rattle.fr_picture.specs.declared.drawing.lane.Lane.{Lane}
 use Rattle.fr_picture.specs.declared.drawing.marks.Shows.{Shows}
@@ -13,6 +15,8 @@ use Rattle.fr_picture.specs.declared.drawing.rectangle.Rectangle.{Rectangle}
 use Rattle.fr_picture.specs.declared.frame_index.Entry.{Entry}
 use Rattle.fr_picture.specs.declared.plan.Plan.{Plan}
 use Rattle.fr_picture.specs.declared.texts.Fixed.TheVariants.{Free, GapOfNobody, GapOfOthers, LaneEnd, LaneStart, TextEnd}
+use Rattle.fr_picture.specs.Changes.{lane_changes}
+use Rattle.fr_picture.specs.ChangeShapes.{changes_text}
 use Rattle.fr_picture.specs.Kinds.{rectangles_text}
 use Rattle.fr_picture.specs.Shares.{look_text, mark_text, number_of}
 use Rattle.fr_picture.specs.Texts.{together, fixed_text}
@@ -101,18 +105,19 @@ edge_text x = together (codes " x=" ∷ decimal x ∷ codes ">" ∷ [])
 unfoldable pub start_text : ℕ → ℕ → List ℕ
 start_text number x = fixed_text LaneStart ++ look_text number ++ edge_text x
 
--- what is drawn of a lane, in its holder's look: its grant, and over it its rectangles
-unfoldable pub drawn_text : Plan → Scale → List Entry → Lane → List ℕ
-drawn_text plan scale index l =
+-- what is drawn of a lane, in its holder's look: its grant, over it its rectangles, and over these its changes
+unfoldable pub drawn_text : Plan → Scale → List Entry → List DifferenceRow → Lane → List ℕ
+drawn_text plan scale index changed l =
     start_text (holder_of plan.suppliers.items l.grants.items) l.place.x ++ grants_text plan.suppliers.items scale.cycles l.grants.items
     ++ shows_text plan.supplier l.place.shows ++ ungranted_text l.place.shows l.grants.items ++ rectangles_text scale index l.rectangles.items
-    ++ fixed_text LaneEnd
+    ++ changes_text scale changed ++ fixed_text LaneEnd
 
 -- a lane, where there is something to draw
-unfoldable pub lane_text : Plan → Scale → List Entry → Lane → List ℕ
-lane_text plan scale index l =
+unfoldable pub lane_text : Plan → Scale → List Entry → List DifferenceRow → Lane → List ℕ
+lane_text plan scale index changed l =
     opens_text plan.variant scale.height l.place.opens ++ (if is_bare l.place.shows l.grants.items l.rectangles.items then []
-    else drawn_text plan scale index l)
+    else drawn_text plan scale index changed l)
 
-unfoldable pub lanes_text : Plan → Scale → List Entry → List Lane → List ℕ
-lanes_text plan scale index lanes = flat_map (lane_text plan scale index) lanes
+-- the lanes, each with the changes that are drawn in it
+unfoldable pub lanes_text : Plan → Scale → List Entry → List SlotChanges → List Lane → List ℕ
+lanes_text plan scale index slots lanes = flat_map (λ p. lane_text plan scale index (lane_changes slots p.0) p.1) (enumerate_from 0 lanes)

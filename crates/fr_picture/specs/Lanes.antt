@@ -1,8 +1,9 @@
 -- Lane, drawing: a lane has the grants and the rectangles of one slot and channel. A drawing's lanes have exactly the
--- grants and the cells of a schedule, each as often as it is there and in its place; each slot that is held or used is
--- shown, and the others as gaps; no two neighbours in a lane could be one.
+-- grants and the cells of a schedule, each as often as it is there and in its place; each slot that is held or used or has
+-- a change is shown, and the others as gaps; no two neighbours in a lane could be one.
 use Rattle.std.specs.Prelude.{◌≡◌, ◌+◌, ◌-◌, ◌<◌, ◌≤◌, ◌++◌, ℕ, List, IsPermutation, length, map, nat_eq, slice_index_or}
 use Rattle.std.specs.List.{filter, flat_map, All}
+use Rattle.fr_base.specs.declared.answer.DifferenceRow.{DifferenceRow}
 use Rattle.fr_base.specs.declared.answer.GrantRow.{GrantRow}
 use Rattle.fr_base.specs.declared.answer.Sending.{Sending}
 use Rattle.fr_base.specs.declared.channel.Channels.TheVariants.{AB}
@@ -63,13 +64,13 @@ IsFilled l = AreFilled l.rectangles.items
 -- cell with its frame, node and supplier. Each lane has its grants, and its cells, in their order. Each rectangle has one cycle at least.
 --
 -- The lanes stand at the columns of their slots and show what these show. The columns are in the order of the slots. They show exactly each slot
--- that is held or used, and each gap with its first and its last slot. Before the first column that opens a part each shows nothing. A part is opened
+-- that is held or used or has a change, and each gap with its first and its last slot. Before the first column that opens a part each shows nothing. A part is opened
 -- only where there is no room, and is named after the first slot that it shows. Each column begins at 4 or further right. Where the cluster has both
 -- channels, the lanes of B stand 68 further right than those of A, and behind them. The lanes end at 136 or before.
 --
 -- A column that shows a slot is as wide as a lane, one that shows a gap is 1 wide, and one that shows nothing is 0 wide. Lanes are as wide as there is
 -- room for all, from 2 to 12. A lane is as high as there are cycles.
-pub record IsDrawing (p : Params) (holds : List GrantRow) (sendings : List Sending) (d : Drawing) : Type 0 where
+pub record IsDrawing (p : Params) (holds : List GrantRow) (sendings : List Sending) (changes : List DifferenceRow) (d : Drawing) : Type 0 where
   pub grants : IsPermutation (drawn_grants d.lanes.items) holds
   pub cells : IsPermutation (drawn_cells d.lanes.items) sendings
   pub held_in_turn : (k : ℕ) (l : Lane) → k < length d.lanes.items → lane_grants (slice_index_or d.lanes.items k l) ≡ held_in k holds
@@ -80,7 +81,7 @@ pub record IsDrawing (p : Params) (holds : List GrantRow) (sendings : List Sendi
   pub columns : List Place
   pub shift : ℕ
   pub shifted : shift ≡ shift_of p.channels
-  pub shown : map (λ q. q.shows) columns ≡ shown_of (is_used holds sendings) p.static_slots
+  pub shown : map (λ q. q.shows) columns ≡ shown_of (is_used holds sendings changes) p.static_slots
   pub order : AreInOrder (136 - shift) (136 - shift) columns
   pub opened : OpensFirst columns
   pub named : All IsNamed columns
@@ -89,5 +90,5 @@ pub record IsDrawing (p : Params) (holds : List GrantRow) (sendings : List Sendi
   pub from : All (λ q. 4 ≤ q.x) columns
   pub within : All (λ q. q.x + q.width + shift ≤ 136) columns
   pub wide : All (IsWide d.scale.width) columns
-  pub room : d.scale.width ≡ lane_width (132 - shift) (shown_of (is_used holds sendings) p.static_slots)
+  pub room : d.scale.width ≡ lane_width (132 - shift) (shown_of (is_used holds sendings changes) p.static_slots)
   pub high : (d.scale.cycles ≡ p.cycles) × (d.scale.height ≡ p.cycles + 5)

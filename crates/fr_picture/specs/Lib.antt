@@ -1,9 +1,11 @@
 pub mod Rectangles
 pub mod Places
+pub mod Changes
 pub mod Shown
 pub mod Lanes
 pub mod Texts
 pub mod Kinds
+pub mod ChangeShapes
 pub mod Sets
 pub mod Styles
 pub mod Shares
@@ -11,6 +13,7 @@ pub mod LaneTexts
 pub mod Overviews
 pub mod SlotTables
 pub mod Strips
+pub mod ChangeTables
 pub mod FrameTables
 pub mod FrameIndexes
 pub mod Pages

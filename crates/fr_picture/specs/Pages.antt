@@ -1,14 +1,16 @@
 -- Page: the text is that of the variant and the cluster's figures, the legend, an overview, a drawing of exactly its grants
--- and cells, the table of slots, and the index and the table of frames.
+-- and cells, with its changes, the table of slots, that of changes, and the index and the table of frames.
 use Rattle.std.specs.Prelude.{◌≡◌, ℕ, ◌+◌, ◌*◌, Bool, List, [], ◌∷◌, ◌++◌, map, codes, decimal, Option, Some, None, if◌then◌else◌}
 use Rattle.std.specs.List.{flat_map, range_with_len}
 use Rattle.fr_base.specs.Channels.{text_of_channels}
 use Rattle.fr_base.specs.declared.channel.Channels.{Channels}
 use Rattle.fr_base.specs.declared.channel.Channels.TheVariants as channels
+use Rattle.fr_base.specs.declared.answer.DifferenceRow.{DifferenceRow}
 use Rattle.fr_base.specs.declared.name.Name.{Name}
 use Rattle.fr_base.specs.declared.params.Params.{Params}
 use Rattle.fr_base.specs.declared.params.RawParams.{RawParams}
 use Rattle.fr_picture.specs.Lanes.{IsDrawing}
+use Rattle.fr_picture.specs.declared.changes.SlotChanges.{SlotChanges}
 use Rattle.fr_picture.specs.declared.drawing.columns.Scale.{Scale}
 use Rattle.fr_picture.specs.declared.drawing.Drawing.{Drawing}
 use Rattle.fr_picture.specs.declared.drawing.lane.Lane.{Lane}
@@ -16,6 +18,8 @@ use Rattle.fr_picture.specs.declared.frame_index.Entry.{Entry}
 use Rattle.fr_picture.specs.declared.plan.Plan.{Plan}
 use Rattle.fr_picture.specs.declared.shares.Share.{Share}
 use Rattle.fr_picture.specs.declared.texts.Fixed.TheVariants as fixed
+use Rattle.fr_picture.specs.Changes.{AreBySlot, rows_of}
+use Rattle.fr_picture.specs.ChangeTables.{change_style, changes_table, since_text}
 use Rattle.fr_picture.specs.FrameIndexes.{IsIndex, index_text}
 use Rattle.fr_picture.specs.FrameTables.{frames_text}
 use Rattle.fr_picture.specs.LaneTexts.{lanes_text}
@@ -63,11 +67,12 @@ segment_figures p =
 unfoldable pub cluster_text : Params → List ℕ
 cluster_text p = cycle_figures (text_of_channels p.channels) p ++ segment_figures p
 
--- the variant's name, parent and state, the supplier whose rows the page shows, and the cluster's
--- figures
+-- the variant's name, parent and state, the supplier whose rows the page shows, the cluster's figures, and what the marks of
+-- changes mean
 unfoldable pub figures_text : Plan → List ℕ
 figures_text plan =
     heading_text plan.variant ++ parent_text plan.parent ++ state_text plan.released ++ viewer_text plan.supplier ++ cluster_text plan.params
+    ++ since_text plan.changes
 
 -- the style of the strips of payloads with so many bits
 unfoldable pub strips_text : ℕ → List ℕ
@@ -78,7 +83,9 @@ unfoldable pub sheet_text : ℕ → List ℕ
 sheet_text height = together (codes "@media print{.plan>svg{height:calc(" ∷ decimal height ∷ codes "*2.5mm)}}\n" ∷ [])
 
 unfoldable pub top_text : Plan → List ℕ
-top_text plan = head_text plan.variant ++ style_text ++ strips_text (16 * plan.params.payload_words) ++ sheet_text (plan.params.cycles + 5) ++ figures_text plan
+top_text plan =
+    head_text plan.variant ++ style_text ++ strips_text (16 * plan.params.payload_words) ++ sheet_text (plan.params.cycles + 5)
+    ++ change_style plan.changes ++ figures_text plan
 
 unfoldable pub cycle_text : ℕ → List ℕ
 cycle_text n = together (codes "<text class=names x=3.6 y=" ∷ decimal n ∷ codes ">" ∷ decimal n ∷ codes "</text>" ∷ [])
@@ -102,10 +109,10 @@ legend_end (Some supplier) = fixed_text fixed.LegendEndOfOne
 unfoldable pub suppliers_text : Plan → List Share → List ℕ
 suppliers_text plan shares = fixed_text fixed.LegendStart ++ legend_text shares ++ legend_end plan.supplier
 
-unfoldable pub drawing_text : Plan → Scale → List Entry → List Lane → List ℕ
-drawing_text plan scale index lanes =
+unfoldable pub drawing_text : Plan → Scale → List Entry → List SlotChanges → List Lane → List ℕ
+drawing_text plan scale index slots lanes =
     fixed_text fixed.ShapesStart ++ shapes_text scale ++ fixed_text fixed.NumbersStart ++ cycles_text scale.cycles ++ bands_text plan.params.channels
-    ++ lanes_text plan scale index lanes
+    ++ lanes_text plan scale index slots lanes
 
 -- the end of the index, and the head of the table of frames, which each printed page repeats
 unfoldable pub frames_head : Name → List ℕ
@@ -117,20 +124,22 @@ unfoldable pub frame_parts : Plan → List Entry → List ℕ
 frame_parts plan index =
     fixed_text fixed.IndexStart ++ index_text plan.suppliers.items index ++ frames_head plan.variant ++ frames_text plan.frames.items ++ fixed_text fixed.PageEnd
 
-unfoldable pub page_text : Plan → Drawing → List Entry → List Share → List ℕ
-page_text plan d index shares =
-    top_text plan ++ suppliers_text plan shares ++ overview_text d.scale.cycles (starts_of d.lanes.items) ++ drawing_text plan d.scale index d.lanes.items
-    ++ slot_table_text plan d.scale.cycles d.lanes.items ++ frame_parts plan index
+unfoldable pub page_text : Plan → Drawing → List Entry → List SlotChanges → List Share → List ℕ
+page_text plan d index slots shares =
+    top_text plan ++ suppliers_text plan shares ++ overview_text d.scale.cycles (starts_of d.lanes.items) ++ drawing_text plan d.scale index slots d.lanes.items
+    ++ slot_table_text plan d.scale.cycles d.lanes.items ++ changes_table plan.variant plan.changes ++ frame_parts plan index
 
 -- how full the grants of the plan's suppliers are
 abbrev pub shares_of : Plan → List Share
 shares_of plan = map (share_of plan.suppliers.items plan.params.cycles plan.grants plan.cells) plan.suppliers.items
 
--- The page of a plan: the text of a drawing that has exactly its grants and its cells, of an index of its frames, and of each of its
--- suppliers, grants and frames.
+-- The page of a plan: the text of a drawing that has exactly its grants and its cells, of its changes by slots, of an index of its
+-- frames, and of each of its suppliers, grants, changes and frames.
 pub record IsPage (plan : Plan) (text : List ℕ) : Type 0 where
   pub drawing : Drawing
-  pub drawn : IsDrawing plan.params plan.grants plan.cells drawing
+  pub drawn : IsDrawing plan.params plan.grants plan.cells (rows_of plan.changes) drawing
   pub index : List Entry
   pub indexed : IsIndex plan.frames.items index
-  pub is : text ≡ page_text plan drawing index (shares_of plan)
+  pub slots : List SlotChanges
+  pub by_slot : AreBySlot (rows_of plan.changes) slots
+  pub is : text ≡ page_text plan drawing index slots (shares_of plan)

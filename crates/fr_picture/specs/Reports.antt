@@ -11,6 +11,7 @@ use Rattle.fr_base.specs.declared.actor.Actor.{Actor}
 use Rattle.fr_base.specs.declared.answer.Answer.{Answer}
 use Rattle.fr_base.specs.declared.answer.Answer.TheVariants.{Report as Told, Refused}
 use Rattle.fr_base.specs.declared.answer.ReportRows.TheVariants as rows
+use Rattle.fr_base.specs.declared.answer.DifferenceRow.{DifferenceRow}
 use Rattle.fr_base.specs.declared.answer.GrantRow.{GrantRow}
 use Rattle.fr_base.specs.declared.answer.FrameRow.{FrameRow}
 use Rattle.fr_base.specs.declared.answer.Sending.{Sending}
@@ -19,7 +20,7 @@ use Rattle.fr_base.specs.declared.answer.SignalRow.{SignalRow}
 use Rattle.fr_base.specs.declared.answer.VariantRow.{VariantRow}
 use Rattle.fr_base.specs.declared.desk.Desk as Desk
 use Rattle.fr_base.specs.declared.query.Inventory.TheVariants.{Variants}
-use Rattle.fr_base.specs.declared.query.Query.TheVariants.{Register, Variant}
+use Rattle.fr_base.specs.declared.query.Query.TheVariants.{Register, Variant, Difference}
 use Rattle.fr_base.specs.declared.refusal.Refusal.{Refusal}
 use Rattle.fr_base.specs.declared.refusal.Refusal.TheVariants.{Unavailable}
 use Rattle.fr_base.specs.declared.report.Report.{Report}
@@ -48,6 +49,10 @@ asks variant report = Query (Variant variant report)
 abbrev pub asks_variants : Request
 asks_variants = Query (Register Variants)
 
+-- the request for the rows in which a variant differs from another one
+abbrev pub asks_difference : List ℕ → List ℕ → Request
+asks_difference variant from = Query (Difference variant from)
+
 -- the answer that has these rows, for each report
 abbrev pub with_variants : Bool → List VariantRow → Answer
 with_variants all variants = Told all (rows.Variants variants)
@@ -66,6 +71,9 @@ with_gaps all gaps = Told all (rows.Gaps gaps)
 
 abbrev pub with_signals : Bool → List SignalRow → Answer
 with_signals all signals = Told all (rows.Layout signals)
+
+abbrev pub with_difference : Bool → List DifferenceRow → Answer
+with_difference all differences = Told all (rows.Difference differences)
 
 -- An answer without rows is this refusal, or the refusal is Unavailable.
 abbrev pub MayRefuse : Answer → Refusal → Type 0

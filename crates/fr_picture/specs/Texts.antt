@@ -6,7 +6,7 @@ use Rattle.std.specs.Prelude.{◌≡◌, ◌++◌, ℕ, List, String, codes}
 use Rattle.std.specs.List.{flat_map}
 use Rattle.std.specs.String.{string_bytes}
 use Rattle.fr_picture.specs.declared.texts.Fixed.{Fixed}
-use Rattle.fr_picture.specs.declared.texts.Fixed.TheVariants.{OpenedEmpty, Never, StripStart, StripEnd, NoStrip, PathStart, CyclesStart, TitleEnd, PathEnd, LinkStart, OddShade, TagEnd, LinkEnd, TextEnd, Patterns, OverStart, LaneStart, KeyStart, FreeStart, Free, GapOfNobody, GapOfOthers, LaneEnd, GroupEnd, LegendStart, LegendEnd, LegendEndOfOne, OverviewStart, OverviewEnd, ShapesStart, NumbersStart, BandA, BandB, BandsAB, SlotRow, Comma, SlotTableEnd, IndexStart, PageEnd}
+use Rattle.fr_picture.specs.declared.texts.Fixed.TheVariants.{OpenedEmpty, Never, StripStart, StripEnd, NoStrip, PathStart, CyclesStart, TitleEnd, PathEnd, LinkStart, OddShade, TagEnd, LinkEnd, TextEnd, Patterns, OverStart, LaneStart, KeyStart, FreeStart, Free, GapOfNobody, GapOfOthers, LaneEnd, GroupEnd, LegendStart, LegendEnd, LegendEndOfOne, OverviewStart, OverviewEnd, ShapesStart, NumbersStart, BandA, BandB, BandsAB, SlotRow, Comma, SlotTableEnd, ChangeStyle, IndexStart, PageEnd}
 
 -- the text was appended to what stood there
 abbrev pub Appends : {Z : Type 0} → String Z → String Z → List ℕ → Type 0
@@ -55,5 +55,6 @@ fixed_text BandsAB = codes "</g><g id=cycles><use href=#numbers /><use href=#num
 fixed_text SlotRow = codes "<tr><td>"
 fixed_text Comma = codes ","
 fixed_text SlotTableEnd = codes "</table>\n"
+fixed_text ChangeStyle = codes ".new,.gone{fill:none;--p:none}\n.new{--edge:#060;--line:.3px}\n.gone{--edge:#a00;--line:.2px;stroke-dasharray:.5px .3px}\n.sign{text-anchor:end;font-weight:bold;transform:translate(-.15px,.1px);paint-order:stroke;stroke:#fff;stroke-width:.2px;stroke-dasharray:none}\n"
 fixed_text IndexStart = codes "<h2>Frames</h2>\n<p>By name, each with its supplier's letter and its number in the table below:</p>\n<ul class=index>\n"
 fixed_text PageEnd = codes "</table>\n</html>\n"

@@ -13,9 +13,10 @@ mod rectangle;
 
 use columns::Bands;
 pub use columns::{Place, Scale};
-use fr_base::{Channels, GrantRow, NoMemory, Params, Sending};
+use fr_base::{Channels, DifferenceRow, GrantRow, NoMemory, Params, Sending};
 pub use lane::Lane;
-use lane::{empty_lanes, lane_number};
+use lane::empty_lanes;
+pub(crate) use lane::lane_number;
 use marks::Marks;
 pub use marks::Shows;
 pub use rectangle::Rectangle;
@@ -30,16 +31,18 @@ pub struct Drawing {
     pub lanes: Vec<Lane>,
 }
 
-/// Draws the grants and the cells of a schedule.
+/// Draws the grants and the cells of a schedule. The slots of these changes are shown too.
 pub fn draw(
     alloc: Global,
     params: &Params,
     grants: &[GrantRow],
     cells: &[Sending],
+    changes: &[DifferenceRow],
 ) -> Result<Drawing, NoMemory>
-    ensures { IfOk result (λ drawing. IsDrawing params.now grants.now cells.now drawing) }
+    ensures { IfOk result
+        (λ drawing. IsDrawing params.now grants.now cells.now changes.now drawing) }
 {
-    let shown = Marks::of(grants, cells).shown(alloc, params.static_slots())?;
+    let shown = Marks::of(grants, cells, changes).shown(alloc, params.static_slots())?;
     let bands = Bands::of(params, shown.as_slice());
     let scale = bands.scale(params);
     let columns = columns::columns(alloc, &bands, shown.as_slice())?;

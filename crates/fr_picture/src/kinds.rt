@@ -244,9 +244,9 @@ fn push_shape(
     }
 }
 
-// Appends the cells of a base and a repetition: they use a shape that the page has elsewhere.
+/// Appends the cells of a base and a repetition: they use a shape that the page has elsewhere.
 #[tactic(auto, unfolding(crate::specs::Kinds::set_text))]
-fn push_set(repetition: u32, base: u8, out: &mut String) -> Result<(), NoMemory>
+pub(crate) fn push_set(repetition: u32, base: u8, out: &mut String) -> Result<(), NoMemory>
     ensures { OnOk result (Appends out.old out.new (set_text repetition base)) }
 {
     if base == 0 {

@@ -4,13 +4,15 @@ ghost use Rattle.fr_picture.specs.FrameIndexes.{AreByName};
 ghost use Rattle.fr_picture.specs.LaneTexts.{box_start, drawn_text, edge_text, foot_text, free_text, gap_text, grant_text, grants_text, heading_text, holder_of, holder_text, is_bare, lane_text, lanes_text, opens_text, part_text, shows_text, slots_text, start_text, ungranted_text, view_text};
 ghost use Rattle.fr_picture.specs.Texts.{Appends};
 
+use crate::change_shapes::push_changes;
+use crate::changes::{SlotChanges, lane_changes};
 use crate::drawing::{Lane, Rectangle, Scale, Shows};
 use crate::frame_index::Entry;
 use crate::kinds::push_rectangles;
 use crate::plan::Plan;
 use crate::shares::{number_of, push_look, push_mark};
 use crate::texts::{Fixed, push_fixed};
-use fr_base::{GrantRow, Name, NoMemory};
+use fr_base::{DifferenceRow, GrantRow, Name, NoMemory};
 use std::alloc::Global;
 
 /// Appends the plan's lanes, one after another.
@@ -20,15 +22,17 @@ pub(crate) fn push_lanes(
     plan: &Plan,
     scale: Scale,
     index: &[Entry],
+    slots: &[SlotChanges],
     lanes: &[Lane],
     out: &mut String,
 ) -> Result<(), NoMemory>
     requires by_name { AreByName index.now }
     ensures { OnOk result (Appends out.old out.new
-        (lanes_text plan.now scale index.now lanes.now)) }
+        (lanes_text plan.now scale index.now slots.now lanes.now)) }
 {
-    for lane in lanes {
-        push_lane(alloc, plan, scale, index, lane, out)?;
+    for (place, lane) in lanes.iter().enumerate() {
+        let changed = lane_changes(alloc, slots, place)?;
+        push_lane(alloc, plan, scale, index, changed.as_slice(), lane, out)?;
     }
     Ok(())
 }
@@ -39,11 +43,13 @@ fn push_lane(
     plan: &Plan,
     scale: Scale,
     index: &[Entry],
+    changed: &[DifferenceRow],
     lane: &Lane,
     out: &mut String,
 ) -> Result<(), NoMemory>
     requires by_name { AreByName index.now }
-    ensures { OnOk result (Appends out.old out.new (lane_text plan.now scale index.now lane.now)) }
+    ensures { OnOk result (Appends out.old out.new
+        (lane_text plan.now scale index.now changed.now lane.now)) }
 {
     push_opens(plan.variant, scale.height, lane.place.opens, out)?;
     if is_bare(
@@ -53,7 +59,7 @@ fn push_lane(
     ) {
         return Ok(());
     }
-    push_drawn(alloc, plan, scale, index, lane, out)
+    push_drawn(alloc, plan, scale, index, changed, lane, out)
 }
 
 // Whether there is nothing to draw: the place is inside a gap.
@@ -67,19 +73,20 @@ fn is_bare(shows: Shows, grants: &[GrantRow], rectangles: &[Rectangle]) -> bool
     }
 }
 
-// Appends what is drawn at a place, in the look of the lane's holder.
+// Appends what is drawn at a place, in the look of the lane's holder, and the changes over it.
 #[tactic(auto, unfolding(crate::specs::LaneTexts::drawn_text))]
 fn push_drawn(
     alloc: Global,
     plan: &Plan,
     scale: Scale,
     index: &[Entry],
+    changed: &[DifferenceRow],
     lane: &Lane,
     out: &mut String,
 ) -> Result<(), NoMemory>
     requires by_name { AreByName index.now }
     ensures { OnOk result (Appends out.old out.new
-        (drawn_text plan.now scale index.now lane.now)) }
+        (drawn_text plan.now scale index.now changed.now lane.now)) }
 {
     let names = plan.suppliers.as_slice();
     let grants = lane.grants.as_slice();
@@ -88,6 +95,7 @@ fn push_drawn(
     push_shows(plan.supplier, lane.place.shows, out)?;
     push_ungranted(lane.place.shows, grants, out)?;
     push_rectangles(alloc, scale, index, lane.rectangles.as_slice(), out)?;
+    push_changes(scale, changed, out)?;
     push_fixed(Fixed::LaneEnd, out)
 }
 

@@ -2,6 +2,9 @@
 //! with the static segment as inline SVG.
 #![tactic(auto)]
 
+mod change_shapes;
+mod change_table;
+mod changes;
 mod drawing;
 mod drawn_frames;
 mod frame_index;
@@ -21,6 +24,7 @@ mod slot_table;
 mod style;
 mod texts;
 
+pub use changes::{Changes, SlotChanges};
 pub use drawing::{Drawing, Lane, Place, Rectangle, Scale, Shows, draw};
 pub use frame_index::Entry;
 pub use frame_table::{DrawnFrame, worst_first};

@@ -5,6 +5,8 @@ ghost use Rattle.fr_picture.specs.FrameIndexes.{AreByName};
 ghost use Rattle.fr_picture.specs.Pages.{IsPage, bands_text, cluster_text, cycle_figures, cycle_text, cycles_text, drawing_text, figures_text, frame_parts, frames_head, head_text, heading_text, legend_end, opened_text, page_text, parent_text, segment_figures, sheet_text, state_text, strips_text, suppliers_text, top_text, viewer_text};
 ghost use Rattle.fr_picture.specs.Texts.{Appends};
 
+use crate::change_table::{push_change_style, push_changes_table, push_since};
+use crate::changes::{SlotChanges, by_slot, rows_of};
 use crate::drawing::{Drawing, Lane, Scale, draw};
 use crate::frame_index::{Entry, index, push_index};
 use crate::frame_table::push_frames;
@@ -19,7 +21,8 @@ use crate::texts::{Fixed, push, push_fixed};
 use fr_base::{Channels, Name, NoMemory, Params, RawParams};
 use std::alloc::Global;
 
-/// The page of a plan, in HTML. Its drawing has exactly the grants and the cells of the plan. A name stands in the page as it is: it has
+/// The page of a plan, in HTML. Its drawing has exactly the grants and the cells of the plan, and over them its
+/// changes. A name stands in the page as it is: it has
 /// letters, digits and underscores alone, and none of these means anything in HTML or in an attribute. `NoMemory` is the only error.
 pub fn write_page(alloc: Global, plan: &Plan) -> Result<String, NoMemory>
     ensures { IfOk result (λ text. IsPage plan.now (string_bytes text)) }
@@ -27,10 +30,19 @@ pub fn write_page(alloc: Global, plan: &Plan) -> Result<String, NoMemory>
     let grants = plan.grants.as_slice();
     let cells = plan.cells.as_slice();
     let names = plan.suppliers.as_slice();
-    let drawing = draw(alloc, &plan.params, grants, cells)?;
+    let changes = rows_of(&plan.changes);
+    let drawing = draw(alloc, &plan.params, grants, cells, changes)?;
+    let slots = by_slot(alloc, changes)?;
     let entries = index(alloc, plan.frames.as_slice())?;
     let shares = shares_of(alloc, names, plan.params.cycles(), grants, cells)?;
-    let text = write_parts(alloc, plan, &drawing, entries.as_slice(), shares.as_slice())?;
+    let text = write_parts(
+        alloc,
+        plan,
+        &drawing,
+        entries.as_slice(),
+        slots.as_slice(),
+        shares.as_slice(),
+    )?;
     Ok(text)
 }
 
@@ -41,11 +53,13 @@ fn write_parts(
     plan: &Plan,
     drawing: &Drawing,
     index: &[Entry],
+    slots: &[SlotChanges],
     shares: &[Share],
 ) -> Result<String, NoMemory>
     requires by_name { AreByName index.now }
     ensures { IfOk result (λ text.
-        string_bytes text ≡ page_text plan.now drawing.now index.now shares.now) }
+        string_bytes text
+        ≡ page_text plan.now drawing.now index.now slots.now shares.now) }
 {
     let cycles = drawing.scale.cycles;
     let lanes = drawing.lanes.as_slice();
@@ -54,8 +68,9 @@ fn write_parts(
     push_top(plan, &mut out)?;
     push_suppliers(plan, shares, &mut out)?;
     push_overview(cycles, starts.as_slice(), &mut out)?;
-    push_drawing(alloc, plan, drawing.scale, index, lanes, &mut out)?;
+    push_drawing(alloc, plan, drawing.scale, index, slots, lanes, &mut out)?;
     push_slot_table(alloc, plan, cycles, lanes, &mut out)?;
+    push_changes_table(plan.variant, &plan.changes, &mut out)?;
     push_frame_parts(plan, index, &mut out)?;
     Ok(out)
 }
@@ -69,6 +84,7 @@ fn push_top(plan: &Plan, out: &mut String) -> Result<(), NoMemory>
     push(style(), out)?;
     push_strips(16 * plan.params.payload_words(), out)?;
     push_sheet(plan.params.cycles() + 5, out)?;
+    push_change_style(&plan.changes, out)?;
     push_figures(plan, out)
 }
 
@@ -101,7 +117,7 @@ fn push_head(variant: Name, out: &mut String) -> Result<(), NoMemory>
     )
 }
 
-// Appends the variant and the figures of the cluster.
+// Appends the variant and the figures of the cluster, and what the changes are of.
 #[tactic(auto, unfolding(crate::specs::Pages::figures_text))]
 fn push_figures(plan: &Plan, out: &mut String) -> Result<(), NoMemory>
     ensures { OnOk result (Appends out.old out.new (figures_text plan.now)) }
@@ -110,7 +126,8 @@ fn push_figures(plan: &Plan, out: &mut String) -> Result<(), NoMemory>
     push_parent(plan.parent, out)?;
     push_state(plan.released, out)?;
     push_viewer(plan.supplier, out)?;
-    push_cluster(&plan.params, out)
+    push_cluster(&plan.params, out)?;
+    push_since(&plan.changes, out)
 }
 
 #[tactic(auto, unfolding(crate::specs::Pages::heading_text))]
@@ -229,19 +246,20 @@ fn push_drawing(
     plan: &Plan,
     scale: Scale,
     index: &[Entry],
+    slots: &[SlotChanges],
     lanes: &[Lane],
     out: &mut String,
 ) -> Result<(), NoMemory>
     requires by_name { AreByName index.now }
     ensures { OnOk result (Appends out.old out.new
-        (drawing_text plan.now scale index.now lanes.now)) }
+        (drawing_text plan.now scale index.now slots.now lanes.now)) }
 {
     push_fixed(Fixed::ShapesStart, out)?;
     push_shapes(scale, out)?;
     push_fixed(Fixed::NumbersStart, out)?;
     push_cycles(scale.cycles, out)?;
     push_bands(plan.params.channels(), out)?;
-    push_lanes(alloc, plan, scale, index, lanes, out)
+    push_lanes(alloc, plan, scale, index, slots, lanes, out)
 }
 
 // Appends the numbers of the cycles.

@@ -1,4 +1,5 @@
 //! What a page shows.
+use crate::changes::Changes;
 use crate::frame_table::DrawnFrame;
 use fr_base::{GrantRow, Name, Params, Rows, Sending};
 
@@ -24,4 +25,6 @@ pub struct Plan {
     pub cells: Rows<Sending>,
     /// The frames, in the order in which the page lists them.
     pub frames: Vec<DrawnFrame>,
+    /// What is new since another variant and what is gone, where the reader asked for it.
+    pub changes: Option<Changes>,
 }

@@ -4,11 +4,11 @@ ghost use Rattle.fr_base.specs.declared.answer.Answer.TheVariants.{Report as Tol
 ghost use Rattle.fr_base.specs.declared.report.Report.TheVariants.{Grants, Frames, Schedule, Gaps, Layout};
 ghost use Rattle.fr_base.specs.declared.actor.Actor.TheVariants.{Supplier};
 ghost use Rattle.fr_base.specs.declared.request.Request.TheVariants.{Query as Queries};
-ghost use Rattle.fr_picture.specs.Reports.{AsksDesk, GivesRows, asks, asks_variants, with_cells, with_frames, with_gaps, with_grants, with_signals, with_variants};
+ghost use Rattle.fr_picture.specs.Reports.{AsksDesk, GivesRows, asks, asks_difference, asks_variants, with_cells, with_difference, with_frames, with_gaps, with_grants, with_signals, with_variants};
 
 use fr_base::{
-    Actor, Ask, Desk, FrameRow, GapRow, GrantRow, Inventory, Name, NoMemory, Query, Refusal,
-    Report, ReportRows, Request, Rows, Sending, SignalRow, Text, VariantRow,
+    Actor, Ask, Desk, DifferenceRow, FrameRow, GapRow, GrantRow, Inventory, Name, NoMemory, Query,
+    Refusal, Report, ReportRows, Request, Rows, Sending, SignalRow, Text, VariantRow,
 };
 use std::alloc::Global;
 
@@ -19,6 +19,8 @@ pub struct View<'a> {
     pub reader: Actor,
     /// The variant's name, as the reader gave it.
     pub variant: &'a str,
+    /// The name of another variant, as the reader gave it, where the reader asked for what is new since that one.
+    pub since: Option<&'a str>,
 }
 
 /// The variants, as the reader sees them.
@@ -122,6 +124,39 @@ pub(crate) fn signal_rows<D: Desk>(
         ReportRows::Layout(rows) => Ok(rows),
         _ => Err(Refusal::Unavailable),
     }
+}
+
+/// The rows in which the variant differs from another one, as the reader sees them.
+pub(crate) fn differences<D: Desk>(
+    alloc: Global,
+    desk: &mut D,
+    view: &View<'_>,
+    from: &str,
+) -> Result<Rows<DifferenceRow>, Refusal>
+    ensures { AsksDesk D.Desk (GivesRows view.now.reader
+        (asks_difference view.now.variant.now from.now) with_difference)
+        desk.old desk.new result }
+{
+    match difference(alloc, desk, view.reader, view.variant, from)? {
+        ReportRows::Difference(rows) => Ok(rows),
+        _ => Err(Refusal::Unavailable),
+    }
+}
+
+// The rows of the difference of two variants, as the reader sees them.
+fn difference<D: Desk>(
+    alloc: Global,
+    desk: &mut D,
+    actor: Actor,
+    variant: &str,
+    from: &str,
+) -> Result<ReportRows, Refusal>
+    ensures { AsksDesk D.Desk (GivesRows actor (asks_difference variant.now from.now) Told)
+        desk.old desk.new result }
+{
+    let variant = Text::copy(alloc, variant)?;
+    let from = Text::copy(alloc, from)?;
+    rows_of_query(alloc, desk, actor, Query::Difference { variant, from })
 }
 
 // The rows of a report of the variant, as the reader sees them.

@@ -164,8 +164,9 @@ fn push_signals(signals: &[DrawnSignal], out: &mut String) -> Result<(), NoMemor
     Ok(())
 }
 
+/// Appends a signal's name, start, length and order.
 #[tactic(auto, unfolding(crate::specs::Strips::signal_text))]
-fn push_signal(
+pub(crate) fn push_signal(
     name: Name,
     start: u32,
     length: u32,

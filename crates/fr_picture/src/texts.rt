@@ -88,6 +88,8 @@ pub(crate) enum Fixed {
     Comma,
     /// The end of the table of slots.
     SlotTableEnd,
+    /// The style of what is new or gone.
+    ChangeStyle,
     /// The beginning of the index of frames.
     IndexStart,
     /// The end of the page.
@@ -140,6 +142,7 @@ impl Fixed {
             Fixed::SlotRow => SLOT_ROW,
             Fixed::Comma => COMMA,
             Fixed::SlotTableEnd => SLOT_TABLE_END,
+            Fixed::ChangeStyle => CHANGE_STYLE,
             Fixed::IndexStart => INDEX_START,
             Fixed::PageEnd => PAGE_END,
         }
@@ -226,6 +229,9 @@ const SLOT_ROW: &str = "<tr><td>";
 const COMMA: &str = ",";
 
 const SLOT_TABLE_END: &str = "</table>\n";
+
+const CHANGE_STYLE: &str =
+    ".new,.gone{fill:none;--p:none}\n.new{--edge:#060;--line:.3px}\n.gone{--edge:#a00;--line:.2px;stroke-dasharray:.5px .3px}\n.sign{text-anchor:end;font-weight:bold;transform:translate(-.15px,.1px);paint-order:stroke;stroke:#fff;stroke-width:.2px;stroke-dasharray:none}\n";
 
 const INDEX_START: &str =
     "<h2>Frames</h2>\n<p>By name, each with its supplier's letter and its number in the table below:</p>\n<ul class=index>\n";

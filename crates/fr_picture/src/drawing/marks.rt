@@ -1,11 +1,13 @@
-//! Which slots are held or used, and what is shown at the place of each slot.
+//! Which slots are held, used or changed, and what is shown at the place of each slot.
 ghost use Rattle.std.specs.Prelude.{◌≡◌, ℕ, ◌+◌, ◌<◌, Bool, false, ◌||◌, nat_eq, slice_index_or, IfOk};
 ghost use Rattle.std.specs.List.{list_any};
 ghost use Rattle.std.specs.Vec.{vec_len};
+ghost use Rattle.fr_picture.specs.Changes.{is_of_slot};
 ghost use Rattle.fr_picture.specs.Places.{is_gap, is_slot};
 ghost use Rattle.fr_picture.specs.Shown.{first_free, is_used, shown_of, shows_at};
 
-use fr_base::{GrantRow, NoMemory, Sending, Slot};
+use crate::changes::slot_of;
+use fr_base::{DifferenceRow, GrantRow, NoMemory, Sending, Slot};
 use std::alloc::Global;
 
 /// What is shown at a slot's place.
@@ -37,19 +39,21 @@ impl Shows {
     }
 }
 
-/// For each slot's number whether it is held or used.
+/// For each slot's number whether it is held, used or changed.
 #[derive(Drop)]
 pub(crate) struct Marks([bool; 1025]);
 
 impl Marks {
-    /// Which slots are held or used.
+    /// Which slots are held or used, or have a change.
     #[tactic(auto, unfolding(crate::specs::Shown::is_used))]
-    pub(crate) fn of(grants: &[GrantRow], cells: &[Sending]) -> Marks
-        ensures { (n : ℕ) → slice_index_or result.0 n false ≡ is_used grants.now cells.now n }
+    pub(crate) fn of(grants: &[GrantRow], cells: &[Sending], changes: &[DifferenceRow]) -> Marks
+        ensures { (n : ℕ) → slice_index_or result.0 n false
+            ≡ is_used grants.now cells.now changes.now n }
     {
         let mut marks = [false; 1025];
         mark_grants(&mut marks, grants);
         mark_cells(&mut marks, cells);
+        mark_changes(&mut marks, changes);
         Marks(marks)
     }
 
@@ -109,6 +113,29 @@ fn mark_cells(marks: &mut [bool; 1025], cells: &[Sending])
 {
     for cell in cells {
         mark(marks, cell.slot);
+    }
+}
+
+// Marks the slots of changes that are drawn.
+fn mark_changes(marks: &mut [bool; 1025], changes: &[DifferenceRow])
+    ensures { (n : ℕ)
+        → slice_index_or marks.new n false
+        ≡ (slice_index_or marks.old n false || list_any (is_of_slot n) changes.now) }
+{
+    for change in changes {
+        mark_change(marks, change);
+    }
+}
+
+// Marks the slot of the change, if it is drawn.
+#[tactic(auto, using(crate::proofs::MarkLemmas::marked_none))]
+fn mark_change(marks: &mut [bool; 1025], change: &DifferenceRow)
+    ensures { (n : ℕ)
+        → slice_index_or marks.new n false
+        ≡ (slice_index_or marks.old n false || is_of_slot n change.now) }
+{
+    if let Some(slot) = slot_of(&change.row) {
+        mark(marks, slot);
     }
 }
 
