@@ -448,6 +448,9 @@ class Drawing(AskedCase):
         self.turned_down(["picture", "car.db", "v9"], refused(10, "NoVariant"))
         self.turned_down(["picture", "car.db", "v9", "--supplier", "s1"], refused(10, "NoVariant"))
         self.turned_down(["picture", "car.db", "1v"], refused(4, "BadName"))
+        for variant, since, answer in ("v1", "v9", (10, "NoVariant")), ("v9", "v1", (10, "NoVariant")), ("v1", "1v", (4, "BadName")), ("v9", "1v", (4, "BadName")):
+            self.turned_down(["picture", "car.db", variant, "--since", since], refused(*answer))
+            self.turned_down(["picture", "car.db", variant, "--since", since, "--supplier", "s1"], refused(*answer))
         for supplier in "s4", "S1", "s 1", "":
             self.turned_down(["picture", "car.db", "v1", "--supplier", supplier], refused(14, "NoSupplier"))
 
@@ -469,6 +472,22 @@ class Drawing(AskedCase):
             (head("POST", path, "supplier01"), engine("405 Method Not Allowed", "allow: GET")),
             (head("GET", path + "/", "supplier01"), engine("404 Not Found")),
             (head("GET", "/v1/variants/v1/schedule", "supplier01"), text(b"00 0001 A f1 n1\n32 0001 A f1 n1\n")),
+        ])
+
+    def test_since_over_http(self):
+        """So it does with the page of a variant since another one."""
+        owners = {"integrator1": None, "supplier01": "s1", "supplier02": "s2", "supplier03": "s3"}
+        pages = {key: ran(["picture", "car.db", "v1", "--since", "v1", *of_supplier(supplier)], self.folder) for key, supplier in owners.items()}
+        self.see("how the pages are written", {(0, b"")}, {(status, said) for status, _, said in pages.values()})
+        path = "/v1/variants/v1/since/v1/picture"
+        self.in_turn("car.db", [
+            *((head("GET", path, key), html(page)) for key, (_, page, _) in pages.items()),
+            (head("GET", "/v1/variants/v1/since/v9/picture", "supplier01"), NO_VARIANT),
+            (head("GET", "/v1/variants/v9/since/v1/picture", "supplier01"), NO_VARIANT),
+            (head("GET", "/v1/variants/v9/since/1v/picture", "integrator1"), json(refused(4, "BadName"), "422 Unprocessable Entity")),
+            (head("GET", path), UNKNOWN),
+            (head("POST", path, "supplier01"), engine("405 Method Not Allowed", "allow: GET")),
+            (head("GET", path + "/", "supplier01"), engine("404 Not Found")),
         ])
 
     def test_full_output(self):

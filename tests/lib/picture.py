@@ -63,7 +63,7 @@ class Page(HTMLParser):
         self.metas, self.backs = {}, {}  # what the page says of itself; by its row, where each placement of a frame leads
         self.open = []
         self.hatched = []  # the cycles, each by one more, that have a line across in a granted lane
-        self.lane = self.link = self.shape = self.heading = self.titled = None
+        self.lane = self.link = self.change = self.shape = self.heading = self.titled = None
         self.boxed, self.named = False, None
         self.feed(text)
         self.close()
@@ -92,6 +92,9 @@ class Page(HTMLParser):
             assert given["role"] == "none", given
             self.boxed = False
             self.parts.append(Part(self.heading, given))
+        elif tag == "g" and self.lane is not None:
+            self.change = {**given, "title": "", "shapes": []}
+            self.lane["changes"].append(self.change)
         elif tag == "g" and self.parts and not self.tables:
             self.parts[-1].group = given["id"]
         elif tag == "a" and "nav" in self.open:
@@ -107,14 +110,14 @@ class Page(HTMLParser):
         elif tag == "path" and "g" in self.open and "pattern" not in self.open and not self.parts and "id" not in given:
             self.hatched += [int(y) for y in re.findall(r"M0 (\d+)l\d+-1", given["d"])]
         elif self.parts and tag == "svg" and not self.tables:
-            self.lane = {"tag": tag, **given, "title": "", "shapes": [], "links": []}
+            self.lane = {"tag": tag, **given, "title": "", "shapes": [], "links": [], "changes": []}
             self.parts[-1].lanes.append(self.lane)
         elif self.lane is not None and tag == "a":
             self.link = {**given, "title": "", "shapes": []}
             self.lane["links"].append(self.link)
         elif self.lane is not None and tag in ("use", "path", "text"):
             self.shape = {"tag": tag, **given, "text": ""}
-            (self.link or self.lane)["shapes"].append(self.shape)
+            (self.change or self.link or self.lane)["shapes"].append(self.shape)
         elif tag == "meta":
             self.metas |= {given["name"]: given["content"]} if "name" in given else {}
         elif tag == "a" and "td" in self.open:
@@ -144,7 +147,7 @@ class Page(HTMLParser):
         if tag in ("use", "path", "text"):
             self.shape = None
         elif tag == "g":
-            self.named = None
+            self.named = self.change = None
         elif tag == "a":
             self.link = None
         elif tag == "svg":
@@ -164,7 +167,7 @@ class Page(HTMLParser):
             self.shape["text"] += data
         elif self.lane is not None:
             assert "title" in inside, data
-            (self.link or self.lane)["title"] += data
+            (self.change or self.link or self.lane)["title"] += data
         elif "style" not in inside:
             self.text += data
 
@@ -241,6 +244,23 @@ def read(text, channels, count):
     small = [(f"#{part.heading}", f"#{part.group}", f"from {first}") for part, first in zip(page.parts, firsts)]
     assert [(to, what, said.strip()) for to, what, said in page.small] == (small if len(small) > 1 else []), page.small
     return page, lanes, gaps, free
+
+
+def changes_of(page, channels):
+    """What the drawing marks as new or gone, by slot and channel: its class, its title, its cycles, and in which of them stands which sign."""
+    found = {}
+    for part in page.parts:
+        columns = {int(lane["x"]): int(shape["text"]) for lane in part.lanes for shape in lane["shapes"] if shape["tag"] == "text" and shape["y"] == "-2"}
+        for lane in part.lanes:
+            x = int(lane["x"])
+            for change in lane["changes"]:
+                *cells, sign = change["shapes"]
+                assert (sign["tag"], sign["class"]) == ("text", "sign") and sign["x"] == str(page.shapes["1"][0][2]), change
+                down = [(int(shape.get("y", 0)), page.shapes[shape["href"][1:]]) for shape in cells]
+                cycles = sorted(c for y, boxes_of in down for _, by, _, high in boxes_of for c in range(y + by, y + by + high))
+                here = (columns[x], "B" if channels == "B" or x > SHIFT else "A")
+                found.setdefault(here, []).append((change["class"], change["title"], cycles, (int(sign["y"]), sign["text"])))
+    return found
 
 
 def number_of(link, here, labels, first, frame):

@@ -23,6 +23,7 @@ use Rattle.fr_desks.specs.FileDesk.{Held, IsLeftWith}
 use Rattle.fr_desks.specs.Sessions.{Session}
 use Rattle.fr_http.specs.Connection.{InSound}
 use Rattle.fr_picture.specs.Pages.{IsPage}
+use Rattle.fr_picture.specs.Plans.{since_of}
 use Rattle.fr_picture.specs.declared.plan.Plan.{Plan}
 use Rattle.fr_cli.specs.Answering.{Account}
 use Rattle.fr_cli.specs.Asking.{IsForReader, asked_with, query_of}
@@ -123,9 +124,9 @@ module _ {D R : Type 0} {g : Ghosts D} (desk : Desk.Ghosts R) (held : Image) (re
         (session_of [], b, x, did c b, follows, holds),
   )
 
-  drawn_leads : (reader : Option Actor) (variant : List ℕ) (drawn : Result Plan Refusal) → IsReadOfFile held rest (plans_for reader variant) drawn
-      → LeadsOn (Drawn reader variant (Some drawn))
-  drawn_leads reader variant drawn (last, is_left, read) = (
+  drawn_leads : (reader : Option Actor) (variant : List ℕ) (since : Option (List ℕ)) (drawn : Result Plan Refusal) → IsReadOfFile held rest (plans_for reader variant since) drawn
+      → LeadsOn (Drawn reader variant since (Some drawn))
+  drawn_leads reader variant since drawn (last, is_left, read) = (
     last,
     is_left.0,
     λ next is opened c b there sound.
@@ -200,19 +201,20 @@ module _ {D R : Type 0} {g : Ghosts D} (desk : Desk.Ghosts R) (held : Image) (re
     report db query (Err (failure.Fault fault)) none shown may =
         not_reported (job.Report db query) (Asked (query_of query) None) fault none shown (λ lacks. (refl, lacks)) (λ c b. inl (refl, refl)) may
 
-    drew : (db variant : Bor (List ℕ)) (supplier : Option (Bor (List ℕ))) (done : Result (Vec ℕ) Failure) (drawn : Result Plan Refusal) → Shows done s status
-        → PrintsRead (λ fault. ⊥) (λ r. r ≡ drawn) IsPage done → IsReadOfFile held rest (plans_for (reader_named supplier) variant.now) drawn → Leading (job.Picture db variant supplier)
-    drew db variant supplier done drawn shown says was =
-        led (job.Picture db variant supplier) (Drawn (reader_named supplier) variant.now (Some drawn)) (refl, refl, (done, shown, says)) (drawn_leads (reader_named supplier) variant.now drawn was)
+    drew : (db variant : Bor (List ℕ)) (since supplier : Option (Bor (List ℕ))) (done : Result (Vec ℕ) Failure) (drawn : Result Plan Refusal) → Shows done s status
+        → PrintsRead (λ fault. ⊥) (λ r. r ≡ drawn) IsPage done → IsReadOfFile held rest (plans_for (reader_named supplier) variant.now (since_of since)) drawn → Leading (job.Picture db variant since supplier)
+    drew db variant since supplier done drawn shown says was =
+        led (job.Picture db variant since supplier) (Drawn (reader_named supplier) variant.now (since_of since) (Some drawn)) (refl, refl, refl, (done, shown, says))
+        (drawn_leads (reader_named supplier) variant.now (since_of since) drawn was)
 
-    picture : (db variant : Bor (List ℕ)) (supplier : Option (Bor (List ℕ))) (done : Result (Vec ℕ) Failure) → comings.none → Shows done s status
-        → PrintsRead (IsNotReported held rest) (IsReadOfFile held rest (plans_for (reader_named supplier) variant.now)) IsPage done → Leading (job.Picture db variant supplier)
-    picture db variant supplier (Ok text) none shown (plan, was, page) = drew db variant supplier (Ok text) (Ok plan) shown (plan, refl, page) was
-    picture db variant supplier (Err (failure.RefusedRows text)) none shown wrong = absurd wrong
-    picture db variant supplier (Err (failure.Refused line)) none shown (refusal, was, said) =
-        drew db variant supplier (Err (failure.Refused line)) (Err refusal) shown (refusal, refl, said) was
-    picture db variant supplier (Err (failure.Fault fault)) none shown may =
-        not_reported (job.Picture db variant supplier) (Drawn (reader_named supplier) variant.now None) fault none shown (λ lacks. (refl, refl, lacks)) (λ c b. (refl, refl)) may
+    picture : (db variant : Bor (List ℕ)) (since supplier : Option (Bor (List ℕ))) (done : Result (Vec ℕ) Failure) → comings.none → Shows done s status
+        → PrintsRead (IsNotReported held rest) (IsReadOfFile held rest (plans_for (reader_named supplier) variant.now (since_of since))) IsPage done → Leading (job.Picture db variant since supplier)
+    picture db variant since supplier (Ok text) none shown (plan, was, page) = drew db variant since supplier (Ok text) (Ok plan) shown (plan, refl, page) was
+    picture db variant since supplier (Err (failure.RefusedRows text)) none shown wrong = absurd wrong
+    picture db variant since supplier (Err (failure.Refused line)) none shown (refusal, was, said) =
+        drew db variant since supplier (Err (failure.Refused line)) (Err refusal) shown (refusal, refl, said) was
+    picture db variant since supplier (Err (failure.Fault fault)) none shown may =
+        not_reported (job.Picture db variant since supplier) (Drawn (reader_named supplier) variant.now (since_of since) None) fault none shown (λ lacks. (refl, refl, refl, lacks)) (λ c b. (refl, refl)) may
 
     -- of a fault for which no answer to a delivery is given
     not_delivered : (db : Bor (List ℕ)) (delivery : Delivery) (fault : Fault) → comings.none → Shows (Err (failure.Fault fault)) s status
@@ -311,7 +313,7 @@ module _ {D R : Type 0} {g : Ghosts D} (desk : Desk.Ghosts R) (held : Image) (re
     job_leads (job.Serve db port count seconds) (did, none, kept) asks = serve db port count seconds did
     job_leads (job.Ask db) (done, did, ends, none, quiet) asks = ask db done quiet did ends
     job_leads (job.Report db query) (done, shown, says, none, quiet) asks = report db query done quiet.1 shown says
-    job_leads (job.Picture db variant supplier) (done, shown, says, none, quiet) asks = picture db variant supplier done quiet.1 shown says
+    job_leads (job.Picture db variant since supplier) (done, shown, says, none, quiet) asks = picture db variant since supplier done quiet.1 shown says
     job_leads (job.Deliver db delivery) (done, shown, says, kept, quiet) asks = deliver db delivery done quiet shown says
     job_leads (job.Check file) did asks = absurd asks
     job_leads (job.Explain word) did asks = absurd asks

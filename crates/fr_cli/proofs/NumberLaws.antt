@@ -88,7 +88,7 @@ numbers_of rows (ReportOn db query) is = asked query.query is.0
     asked (OfRegister Nodes) same = apart _ _ refl same
     asked (OfVariant variant of) same = report of same
     asked (OfTwo variant from) same = apart _ _ refl same
-numbers_of rows (Picture db variant supplier) is = apart _ _ refl is.0
+numbers_of rows (Picture db variant since supplier) is = apart _ _ refl is.0
 numbers_of rows (Deliver db delivery) is = delivered delivery.kind is.0
   where
     delivered : {X : Type 0} (kind : DeliveryKind) → codes "serve" ≡ word_of_delivery kind → X

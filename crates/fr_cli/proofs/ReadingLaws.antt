@@ -21,6 +21,7 @@ use Rattle.fr_cli.specs.Picturing.{plans_for}
 use Rattle.fr_cli.specs.Queries.{reader_named}
 use Rattle.fr_cli.specs.declared.telling.Telling.TheVariants as telling
 use Rattle.fr_picture.specs.Pages.{IsPage}
+use Rattle.fr_picture.specs.Plans.{since_of}
 use Rattle.std.specs.Borrow.{Bor}
 use Rattle.fr_cli.specs.declared.failure.Failure.{Failure}
 use Rattle.fr_cli.specs.declared.failure.Failure.TheVariants as failure
@@ -64,10 +65,10 @@ module _ {D : Type 0} {g : Ghosts D} {held : Image} {rest : Option (Leftover D g
   )
 
   -- so the page that is printed is that of the file
-  pub pictured_over : {R : Type 0} {desk : Desk.Ghosts R} {same : Type 0} {done : Result (Vec ℕ) Failure} (variant : Bor (List ℕ)) (supplier : Option (Bor (List ℕ)))
-      → IsDoneOver held rest desk (λ fault of. of ≡ failure.Fault fault) same (tells (telling.Picture variant supplier)) done
-      → PrintsRead (IsNotReported held rest) (IsReadOfFile held rest (plans_for (reader_named supplier) variant.now)) IsPage done
-  pictured_over variant supplier is =
-      let may = plans_for (reader_named supplier) variant.now in
-      done_over failure.Fault (PrintsRead (IsNotReported held rest) (IsReadOfFile held rest may) IsPage) (tells (telling.Picture variant supplier)) is (λ fault not kept. inl not)
+  pub pictured_over : {R : Type 0} {desk : Desk.Ghosts R} {same : Type 0} {done : Result (Vec ℕ) Failure} (variant : Bor (List ℕ)) (since supplier : Option (Bor (List ℕ)))
+      → IsDoneOver held rest desk (λ fault of. of ≡ failure.Fault fault) same (tells (telling.Picture variant since supplier)) done
+      → PrintsRead (IsNotReported held rest) (IsReadOfFile held rest (plans_for (reader_named supplier) variant.now (since_of since))) IsPage done
+  pictured_over variant since supplier is =
+      let may = plans_for (reader_named supplier) variant.now (since_of since) in
+      done_over failure.Fault (PrintsRead (IsNotReported held rest) (IsReadOfFile held rest may) IsPage) (tells (telling.Picture variant since supplier)) is (λ fault not kept. inl not)
       (λ last old new over did. reading_says _ _ _ IsPage _ (reads_file over may) (inr (refl, stays_file over did.1)) did.0)

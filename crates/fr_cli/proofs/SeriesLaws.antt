@@ -39,7 +39,7 @@ replied_run c b last (Err refusal) answer done (replied, these) = subst (λ s. R
 dealt_run : (c : Cluster) (b next last : Book) (x : Exchanged) (asked : Option Dealing) (rest : List (Ask × Answer)) → Asks c b x asked next
     → Runs c next (session_of rest) last → Runs c b (session_of (asks_at asked ++ rest)) last
 dealt_run c b next last x (Some (Answered ask method answer)) rest is run = runs_joined c b next last (ask ∷ []) (session_of rest).asks (answer ∷ []) (session_of rest).answers is.deals run
-dealt_run c b next last x (Some (Drawn reader variant drawn)) rest is run = subst (λ d. Runs c d (session_of rest) last) is.deals.0 run
+dealt_run c b next last x (Some (Drawn reader variant since drawn)) rest is run = subst (λ d. Runs c d (session_of rest) last) is.deals.0 run
 dealt_run c b next last x (Some (Advised reader subject text)) rest is run = subst (λ d. Runs c d (session_of rest) last) is.deals run
 dealt_run c b next last x None rest is run = subst (λ d. Runs c d (session_of rest) last) is.0 run
 
@@ -54,8 +54,8 @@ did_run c b last (Visits visits) done (xs, these, are, all) = subst (λ s. Runs 
 did_run c b last (Asked asks (Some answer)) done did = replied_run c b last (asks c b) answer done did
 did_run c b last (Asked asks None) done (inl none) = left_run c b last done none
 did_run c b last (Asked asks None) done (inr (answer, did)) = replied_run c b last (asks c b) answer done did
-did_run c b last (DrawnBy reader variant (Some drawn)) done did = left_run c b last done did.1
-did_run c b last (DrawnBy reader variant None) done did = left_run c b last done did
+did_run c b last (DrawnBy reader variant since (Some drawn)) done did = left_run c b last done did.1
+did_run c b last (DrawnBy reader variant since None) done did = left_run c b last done did
 
 -- what may have come behind it
 one_more : (end : End) (c : Cluster) (b next : Book) → Follows end c b next → (more : Session) × Adds end c b more next × Runs c b more next

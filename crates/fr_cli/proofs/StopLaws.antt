@@ -83,10 +83,10 @@ module _ {D K : Type 0} (g : Ghosts D) (desk : Desk.Ghosts K) (leaves : K → Le
         (it, clean, behind, before, stood, stops (Lines front told) it stood)
     lines_stop lines answers each is (Lines front told) (Visits more) never = absurd never
     lines_stop lines answers each is (Lines front told) (Asked asks answer) never = absurd never
-    lines_stop lines answers each is (Lines front told) (Drawn reader variant drawn) never = absurd never
+    lines_stop lines answers each is (Lines front told) (Drawn reader variant since drawn) never = absurd never
     lines_stop lines answers each is (Visits front) more never = absurd never
     lines_stop lines answers each is (Asked asks answer) more never = absurd never
-    lines_stop lines answers each is (Drawn reader variant drawn) more never = absurd never
+    lines_stop lines answers each is (Drawn reader variant since drawn) more never = absurd never
 
     visits_stop : (visits : List Visit) → Visited desk old new visits → IsCleanLeft last → StopsBehindEach g desk leaves held (Visits visits) old new
     visits_stop visits each is (Visits front) (Visits more) split =
@@ -98,10 +98,10 @@ module _ {D K : Type 0} (g : Ghosts D) (desk : Desk.Ghosts K) (leaves : K → Le
         (it, clean, behind, before, stood, stops (Visits front) it stood)
     visits_stop visits each is (Visits front) (Lines more others) never = absurd never
     visits_stop visits each is (Visits front) (Asked asks answer) never = absurd never
-    visits_stop visits each is (Visits front) (Drawn reader variant drawn) never = absurd never
+    visits_stop visits each is (Visits front) (Drawn reader variant since drawn) never = absurd never
     visits_stop visits each is (Lines front told) more never = absurd never
     visits_stop visits each is (Asked asks answer) more never = absurd never
-    visits_stop visits each is (Drawn reader variant drawn) more never = absurd never
+    visits_stop visits each is (Drawn reader variant since drawn) more never = absurd never
 
   -- ---- by job
 
@@ -144,7 +144,7 @@ module _ {D K : Type 0} (g : Ghosts D) (desk : Desk.Ghosts K) (leaves : K → Le
     job_stops (job.Serve db port count seconds) (did, none, kept) on = serve db port count seconds did
     job_stops (job.Ask db) (done, did, ends, none, quiet) on = ask db done quiet did ends
     job_stops (job.Report db query) did on = absurd on
-    job_stops (job.Picture db variant supplier) did on = absurd on
+    job_stops (job.Picture db variant since supplier) did on = absurd on
     job_stops (job.Deliver db delivery) did on = absurd on
     job_stops (job.Check file) did on = absurd on
     job_stops (job.Explain word) did on = absurd on

@@ -174,8 +174,9 @@ picture_job : (s : Shape) → s.args_override_self ≡ false → s.name ≡ code
 picture_job s once named db variant rest fine =
     let at = there s once rest fine (codes "DB") db in
     let of = there s once rest fine (codes "VARIANT") variant in
+    let from = first_of (codes "since") (rows_after s.rules [] rest) in
     let who = first_of (codes "supplier") (rows_after s.rules [] rest) in
-    (job.Picture (lent at.text) (lent of.text) (lent_if who), (named, at.first, of.first, lent_back who))
+    (job.Picture (lent at.text) (lent of.text) (lent_if from) (lent_if who), (named, at.first, of.first, lent_back from, lent_back who))
 
 import_job : (s : Shape) → s.args_override_self ≡ false → s.name ≡ codes "import" → has_word s.rules (codes "DB") ≡ true
     → has_word s.rules (codes "KEY") ≡ true

@@ -65,7 +65,7 @@ inventory name = with_rule (with_rule (new_app name) (word (codes "DB"))) suppli
 abbrev pub diff : App
 diff = with_rule (with_rule (with_rule (with_rule (new_app (codes "diff")) (word (codes "DB"))) (word (codes "FROM"))) (word (codes "TO"))) supplier
 
--- `grants`, `frames`, `schedule`, `gaps`, `load` and `picture`
+-- `grants`, `frames`, `schedule`, `gaps` and `load`
 abbrev pub report : Text → App
 report name = with_rule (with_rule (with_rule (new_app name) (word (codes "DB"))) (word (codes "VARIANT"))) supplier
 
@@ -75,6 +75,15 @@ layout = with_rule (report (codes "layout")) (word (codes "FRAME"))
 -- a cycle repetition
 abbrev pub repetition : Rule
 repetition = record (word (codes "REPETITION")) { parser = Some (Signed (pos 0) (pos 4294967295)) }
+
+-- a text that may be named, as a file, a path or another variant
+abbrev pub named : Text → Rule
+named name = record (new_rule name) { long = Some name; action = Some Set; value_names = 1 }
+
+-- a variant's plan as a page
+abbrev pub picture : App
+picture = with_rule (with_rule (with_rule (with_rule (new_app (codes "picture")) (word (codes "DB"))) (word (codes "VARIANT")))
+    (named (codes "since"))) supplier
 
 -- which part of the records is printed
 abbrev pub part : Rule
@@ -114,10 +123,6 @@ abbrev pub try_words : App
 try_words = with_rule (with_rule (with_rule (with_rule (with_rule (new_app (codes "try")) (word (codes "DB"))) (word (codes "KEY")))
     (word (codes "VARIANT"))) (word (codes "FILE"))) (flag (codes "replace"))
 
--- a text that may be named, as a file or a path
-abbrev pub named : Text → Rule
-named name = record (new_rule name) { long = Some name; action = Some Set; value_names = 1 }
-
 abbrev pub check : App
 check = with_rule (with_rule (with_rule (with_rule (new_app (codes "check")) (free_word (codes "CONFIG"))) (named (codes "requests")))
     (named (codes "rows"))) (named (codes "path"))
@@ -139,7 +144,7 @@ slotplan = with_subcommand (with_subcommand (with_subcommand (with_subcommand (w
     (with_subcommand (with_subcommand (with_subcommand (unasked (codes "slotplan"))
     run.top) create.top) migrate.top) serve.top) ask.top) (inventory (codes "cluster")).top) (inventory (codes "variants")).top) (inventory (codes "nodes")).top) diff.top)
     (report (codes "grants")).top) (report (codes "frames")).top) (report (codes "schedule")).top) (report (codes "gaps")).top) (report (codes "load")).top)
-    layout.top) room.top) export.top) (report (codes "picture")).top) import_words.top) replace_words.top) try_words.top) check.top) explain.top
+    layout.top) room.top) export.top) picture.top) import_words.top) replace_words.top) try_words.top) check.top) explain.top
 
 -- The command is read so, and has no argument that its subcommands have too.
 abbrev pub IsReadAs : App → Command → Type 0

@@ -12,6 +12,7 @@ use Rattle.fr_base.specs.declared.request.Ask.{Ask}
 use Rattle.fr_desks.specs.Sessions.{Session}
 use Rattle.fr_http.specs.Exchanges.{Answered, AreExchanged, Dealing, Exchanged}
 use Rattle.fr_picture.specs.Pages.{IsPage}
+use Rattle.fr_picture.specs.Plans.{since_of}
 use Rattle.fr_picture.specs.declared.plan.Plan.{Plan}
 use Rattle.fr_cli.specs.Answering.{EndsAnswer}
 use Rattle.fr_cli.specs.Asking.{asked_with, for_reader, query_of}
@@ -42,7 +43,7 @@ pub data Deed : Type 0 where
   Lines : List (List ℕ) → List Answer → Deed
   Visits : List Visit → Deed
   Asked : (Cluster → Book → Result Ask Refusal) → Option Answer → Deed
-  Drawn : Option Actor → List ℕ → Option (Result Plan Refusal) → Deed
+  Drawn : Option Actor → List ℕ → Option (List ℕ) → Option (Result Plan Refusal) → Deed
 
 -- ---- from book to book
 
@@ -74,8 +75,8 @@ Did c b (Lines lines answers) done last = AreAnswered c b lines answers last × 
 Did c b (Visits visits) done last = (xs : List Exchanged) × (map visit_of xs ≡ visits) × AreExchanged c b xs last × (done ≡ session_of (asks_by xs))
 Did c b (Asked asks (Some answer)) done last = WasReplied c b (asks c b) answer done last
 Did c b (Asked asks None) done last = WasLeft b done last ⊎ ((answer : Answer) × WasReplied c b (asks c b) answer done last)
-Did c b (Drawn reader variant (Some drawn)) done last = plans_for reader variant c b drawn × WasLeft b done last
-Did c b (Drawn reader variant None) done last = WasLeft b done last
+Did c b (Drawn reader variant since (Some drawn)) done last = plans_for reader variant since c b drawn × WasLeft b done last
+Did c b (Drawn reader variant since None) done last = WasLeft b done last
 
 -- ---- which deed a job did
 
@@ -114,10 +115,10 @@ IsDeedOf read comings s status (job.Ask db) (Lines lines answers) = WereLines s 
 IsDeedOf read comings s status (job.Serve db port count seconds) (Visits visits) = comings.at port seconds visits × (status ≡ 0 → length visits ≡ count)
 IsDeedOf read comings s status (job.Report db query) (Asked asks (Some answer)) = (asks ≡ query_of query) × IsShown s status (for_reader answer)
 IsDeedOf read comings s status (job.Report db query) (Asked asks None) = (asks ≡ query_of query) × LacksAnswer s status
-IsDeedOf read comings s status (job.Picture db variant supplier) (Drawn reader of (Some drawn)) =
-    (reader ≡ reader_named supplier) × (of ≡ variant.now) × IsDrawn s status drawn
-IsDeedOf read comings s status (job.Picture db variant supplier) (Drawn reader of None) =
-    (reader ≡ reader_named supplier) × (of ≡ variant.now) × LacksAnswer s status
+IsDeedOf read comings s status (job.Picture db variant since supplier) (Drawn reader of from (Some drawn)) =
+    (reader ≡ reader_named supplier) × (of ≡ variant.now) × (from ≡ since_of since) × IsDrawn s status drawn
+IsDeedOf read comings s status (job.Picture db variant since supplier) (Drawn reader of from None) =
+    (reader ≡ reader_named supplier) × (of ≡ variant.now) × (from ≡ since_of since) × LacksAnswer s status
 IsDeedOf read comings s status (job.Deliver db delivery) (Asked asks (Some answer)) = IsAskedOf read delivery s asks × IsShown s status answer
 IsDeedOf read comings s status (job.Deliver db delivery) (Asked asks None) = IsAskedOf read delivery s asks × LacksAnswer s status
 IsDeedOf read comings s status _ _ = ⊥

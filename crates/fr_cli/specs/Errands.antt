@@ -27,6 +27,7 @@ use Rattle.fr_cli.specs.declared.serving.Service.{Service}
 use Rattle.fr_cli.specs.declared.telling.Telling.{Telling}
 use Rattle.fr_cli.specs.declared.telling.Telling.TheVariants as telling
 use Rattle.fr_picture.specs.Pages.{IsPage}
+use Rattle.fr_picture.specs.Plans.{since_of}
 
 -- What is said of a thing that is done with a register, of whatever type: by the register before it and the one behind it.
 abbrev pub Doing : Type 0 → Type 0 → Type 1
@@ -36,8 +37,8 @@ Doing X Y = (R : Type 0) → Desk.Ghosts R → R → R → Result X Y → Type 0
 abbrev pub tells : Telling → Doing (Vec ℕ) Failure
 tells (telling.Report query) R desk old new done =
     Prints (IsForReader (IsAnswer (query_of query) (desk.clean new) (desk.stands old) (desk.stands new))) done × Stays (desk.clean new) (desk.stands old) (desk.stands new)
-tells (telling.Picture variant supplier) R desk old new done =
-    PrintsRead (λ fault. fault ≡ NoMemory) (IsRead (plans_for (reader_named supplier) variant.now) (desk.clean new) (desk.stands old) (desk.stands new)) IsPage done
+tells (telling.Picture variant since supplier) R desk old new done =
+    PrintsRead (λ fault. fault ≡ NoMemory) (IsRead (plans_for (reader_named supplier) variant.now (since_of since)) (desk.clean new) (desk.stands old) (desk.stands new)) IsPage done
     × Stays (desk.clean new) (desk.stands old) (desk.stands new)
 tells (telling.Answer key delivery body) R desk old new done =
     let asks = asked_with key.now (request_with delivery body.now) in

@@ -4,6 +4,7 @@ use Rattle.std.specs.Global.{Vec}
 use Rattle.std.specs.Io.KnownBytes.{Keeps}
 use Rattle.fr_base.specs.declared.desk.Desk as Desk
 use Rattle.fr_picture.specs.Pages.{IsPage}
+use Rattle.fr_picture.specs.Plans.{since_of}
 use Rattle.sqlite.specs.declared.file.Leftover.{Leftover}
 use Rattle.sqlite_disk.specs.declared.Disk.{Ghosts}
 use Rattle.sqlite_wal.specs.Recovery.{Image}
@@ -85,8 +86,8 @@ module _ {D R O E : Type 0} {g : Ghosts D} {printed : SinkGhosts O} {told : Sink
       × Ends done s status × read.none × comings.none
   IsPerformed (job.Report db query) s status = (done : Result (Vec ℕ) Failure) × Shows done s status
       × Says (IsNotReported held rest) (IsForReader (IsAnswerOfFile held rest (query_of query))) done × read.none × Quiet s
-  IsPerformed (job.Picture db variant supplier) s status = (done : Result (Vec ℕ) Failure) × Shows done s status
-      × PrintsRead (IsNotReported held rest) (IsReadOfFile held rest (plans_for (reader_named supplier) variant.now)) IsPage done × read.none × Quiet s
+  IsPerformed (job.Picture db variant since supplier) s status = (done : Result (Vec ℕ) Failure) × Shows done s status
+      × PrintsRead (IsNotReported held rest) (IsReadOfFile held rest (plans_for (reader_named supplier) variant.now (since_of since))) IsPage done × read.none × Quiet s
   IsPerformed (job.Deliver db delivery) s status = (done : Result (Vec ℕ) Failure) × Shows done s status
       × Says (IsNotDelivered held rest read delivery s.input.old s.input.new) (IsDeliveryToFile held rest read delivery s.input.old s.input.new) done
       × (delivery.key.now ≢ codes "-" → Keeps s.input.old s.input.new) × comings.none

@@ -85,7 +85,7 @@ abbrev pub AsksRegister : Job → Type 0
 AsksRegister (job.Serve db port count seconds) = ⊤
 AsksRegister (job.Ask db) = ⊤
 AsksRegister (job.Report db query) = ⊤
-AsksRegister (job.Picture db variant supplier) = ⊤
+AsksRegister (job.Picture db variant since supplier) = ⊤
 AsksRegister (job.Deliver db delivery) = ⊤
 AsksRegister _ = ⊥
 

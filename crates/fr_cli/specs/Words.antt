@@ -93,6 +93,10 @@ HasNames (OfTwo variant from) rows = Has (codes "TO") rows variant.now × Has (c
 abbrev pub IsQueryIn : List Row → Inquiry → Type 0
 IsQueryIn rows inquiry = HasNames inquiry.query rows × IsOfSupplier inquiry.supplier rows
 
+-- The other variant is the one that the words name, if they name one.
+abbrev pub IsSince : Option (Bor (List ℕ)) → List Row → Type 0
+IsSince since rows = option_map (λ name. name.now) since ≡ first_of (codes "since") rows
+
 -- No word stands at this place.
 abbrev pub Lacks : Text → List Row → Type 0
 Lacks name rows = first_of name rows ≡ None
@@ -136,8 +140,8 @@ IsJobOf (Serve db port count seconds) name rows = (name ≡ codes "serve") × Ha
     × HasNumber (codes "seconds") 1 3600 rows seconds
 IsJobOf (Ask db) name rows = (name ≡ codes "ask") × Has (codes "DB") rows db.now
 IsJobOf (ReportOn db query) name rows = (name ≡ word_of_job query.query) × Has (codes "DB") rows db.now × IsQueryIn rows query
-IsJobOf (Picture db variant supplier) name rows = (name ≡ codes "picture") × Has (codes "DB") rows db.now × Has (codes "VARIANT") rows variant.now
-    × IsOfSupplier supplier rows
+IsJobOf (Picture db variant since supplier) name rows = (name ≡ codes "picture") × Has (codes "DB") rows db.now × Has (codes "VARIANT") rows variant.now
+    × IsSince since rows × IsOfSupplier supplier rows
 IsJobOf (Deliver db delivery) name rows = (name ≡ word_of_delivery delivery.kind) × Has (codes "DB") rows db.now × IsDeliveryIn rows delivery
 IsJobOf (Check file) name rows = (name ≡ codes "check") × IsFileOf file rows
 IsJobOf (Explain word) name rows = (name ≡ codes "explain") × (option_map (λ w. w.now) word ≡ first_of (codes "WORD") rows)

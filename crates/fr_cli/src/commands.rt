@@ -38,7 +38,7 @@ pub fn program<'a>(alloc: Global) -> Result<Command<'a>, AllocError>
         .subcommand(layout(alloc)?)?
         .subcommand(room(alloc)?)?
         .subcommand(export(alloc)?)?
-        .subcommand(report(alloc, "picture", PICTURE_ABOUT, PICTURE_HELP)?)?
+        .subcommand(picture(alloc)?)?
         .subcommand(import(alloc)?)?
         .subcommand(replace(alloc)?)?
         .subcommand(trial(alloc)?)?
@@ -223,6 +223,25 @@ fn room<'a>(alloc: Global) -> Result<Command<'a>, AllocError>
         .arg(frame(alloc))?
         .arg(repetition(alloc))?
         .arg(owner(alloc))?;
+    Ok(command)
+}
+
+// A variant's plan as a page.
+fn picture<'a>(alloc: Global) -> Result<Command<'a>, AllocError>
+    ensures { IfOk result (IsReadAs app.picture) }
+{
+    let command = Command::new(alloc, "picture")
+        .about("Draws a variant's plan as a page of HTML, for a browser or a printer")
+        .after_help(PICTURE_HELP)
+        .arg(db(alloc))?
+        .arg(variant(alloc))?
+        .arg(named(
+            alloc,
+            "since",
+            "FROM",
+            "Marks what is new since this variant, and what is gone",
+        ))?
+        .arg(supplier(alloc))?;
     Ok(command)
 }
 
@@ -416,7 +435,7 @@ fn supplier<'a>(alloc: Global) -> Arg<'a>
         .action(ArgAction::Set)
 }
 
-// A text that may be named, as a file or a path.
+// A text that may be named, as a file, a path or another variant.
 fn named<'a>(alloc: Global, name: &'a str, value: &'a str, help: &'a str) -> Arg<'a>
     ensures { (rule_of result ≡ app.named name.entry.now) × (result.global ≡ false) }
 {
@@ -481,8 +500,6 @@ const GAPS_ABOUT: &str =
 const LAYOUT_ABOUT: &str = "Prints a frame's layout: the signals in its payload";
 
 const LOAD_ABOUT: &str = "Prints how full each slot and channel of a variant is";
-
-const PICTURE_ABOUT: &str = "Draws a variant's plan as a page of HTML, for a browser or a printer";
 
 const PROGRAM_HELP: &str = "\
 Status 0: done. Status 1: refused, or a fault; standard error says which.
@@ -623,10 +640,12 @@ Example:
 const PICTURE_HELP: &str = "\
 The page shows the static segment: cycles down, slots across, each grant and each
 frame that is sent; how full each supplier's grants are; and the frames with their
-gaps and signals. It needs no other file and no network.
+gaps and signals. It needs no other file and no network. With --since it marks what is
+new since another variant and what is gone, and lists both.
 
 Example:
   slotplan picture car.db v1 > v1.html
+  slotplan picture car.db v2 --since v1 > v2.html
   slotplan picture car.db v1 --supplier s1 > s1.html";
 
 const IMPORT_HELP: &str = "\

@@ -82,9 +82,14 @@ pub fn perform<S: Start, F: TextFiles, R: Read, O: Sink, E: Sink, L: Listener>(
         Job::Picture {
             db,
             variant,
+            since,
             supplier,
         } => {
-            let mut picture = Telling::Picture { variant, supplier };
+            let mut picture = Telling::Picture {
+                variant,
+                since,
+                supplier,
+            };
             told(over_file(rt, db, start, &mut picture), out, err)
         }
         Job::Deliver { db, delivery } => {

@@ -16,9 +16,11 @@ use fr_world::Records;
 pub(crate) enum Telling<'a> {
     /// A report.
     Report(Inquiry<'a>),
-    /// The page of a variant's plan, as the integrator sees it, or the supplier that is named.
+    /// The page of a variant's plan, as the integrator sees it, or the supplier that is named; with what is new since
+    /// another variant, where one is named.
     Picture {
         variant: &'a str,
+        since: Option<&'a str>,
         supplier: Option<&'a str>,
     },
     /// The answer to a delivery of a file with these bytes, by whoever has the key.
@@ -49,8 +51,12 @@ impl Errand for Telling<'_> {
                 let done = report_on(rt.alloc(), &mut office, query);
                 (done, office)
             }
-            Telling::Picture { variant, supplier } => {
-                let done = picture(rt.alloc(), &mut office, variant, supplier);
+            Telling::Picture {
+                variant,
+                since,
+                supplier,
+            } => {
+                let done = picture(rt.alloc(), &mut office, variant, since, supplier);
                 (done, office)
             }
             Telling::Answer {

@@ -52,10 +52,12 @@ pub enum Job<'a> {
         db: &'a str,
         query: Inquiry<'a>,
     },
-    /// Draw a variant's plan, as the integrator sees it, or the supplier that is named.
+    /// Draw a variant's plan, as the integrator sees it, or the supplier that is named; with what is new since another
+    /// variant, where one is named.
     Picture {
         db: &'a str,
         variant: &'a str,
+        since: Option<&'a str>,
         supplier: Option<&'a str>,
     },
     /// Deliver a file of rows to a register, or try it there.
@@ -277,6 +279,7 @@ fn picture_job<'a>(found: &ArgMatches<'a>) -> Option<Job<'a>>
     Some(Job::Picture {
         db: word(found, "DB")?,
         variant: word(found, "VARIANT")?,
+        since: word(found, "since"),
         supplier: word(found, "supplier"),
     })
 }

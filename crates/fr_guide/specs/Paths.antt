@@ -45,6 +45,7 @@ forms =
     ∷ of_variant (codes "rows" ∷ [])
     ∷ of_variant (codes "tries" ∷ [])
     ∷ of_variant (codes "picture" ∷ [])
+    ∷ of_variant (codes "since" ∷ codes "{from}" ∷ codes "picture" ∷ [])
     ∷ []
 
 -- whether a part of a form is in braces

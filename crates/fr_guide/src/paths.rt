@@ -175,7 +175,7 @@ fn no_form(alloc: Global, path: &str) -> Result<Vec<String>, NoMemory>
 
 // The forms that paths have.
 #[tactic(auto, unfolding(crate::specs::Paths::forms))]
-fn path_forms() -> [PathForm; 24]
+fn path_forms() -> [PathForm; 25]
     ensures { map (λ form. map (λ part. part.now) form.now) result ≡ forms }
 {
     [
@@ -244,5 +244,14 @@ fn path_forms() -> [PathForm; 24]
         &["", "v1", "variants", "{variant}", "rows"],
         &["", "v1", "variants", "{variant}", "tries"],
         &["", "v1", "variants", "{variant}", "picture"],
+        &[
+            "",
+            "v1",
+            "variants",
+            "{variant}",
+            "since",
+            "{from}",
+            "picture",
+        ],
     ]
 }

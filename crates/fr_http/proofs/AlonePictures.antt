@@ -29,9 +29,10 @@ use Rattle.fr_base.specs.declared.request.Request.{Request}
 use Rattle.fr_base.proofs.AloneCells.{same_text-itself}
 use Rattle.fr_base.proofs.AloneSteps.{step-alone}
 use Rattle.fr_base.proofs.SoundRows.{same_text-is}
-use Rattle.fr_picture.specs.Frames.{AreDrawn, AreFrames, MayRefusePlan}
-use Rattle.fr_picture.specs.Plans.{IsPlan}
+use Rattle.fr_picture.specs.Frames.{AreDrawn, AreFrames}
+use Rattle.fr_picture.specs.Plans.{AreChanges, IsPlan, MayRefusePicture}
 use Rattle.fr_picture.specs.Reports.{answer_to, asks}
+use Rattle.fr_picture.specs.declared.changes.Changes.{Changes}
 use Rattle.fr_picture.specs.declared.frame_table.DrawnFrame.{DrawnFrame}
 use Rattle.fr_picture.specs.declared.plan.Plan.{Plan}
 use Rattle.fr_http.specs.Exchanges.{MayDraw, is_own_picture, lacks_plan}
@@ -127,19 +128,35 @@ module _ (c : Cluster) (b : Book) (s : Name) where
           frames = frames_alone variant plan.frames.items is.frames;
         }
 
-    refused_alone : (variant : List ℕ) (refusal : Refusal) → lacked refusal ≡ false → MayRefusePlan c b (Supplier s) variant refusal → MayRefusePlan c (rows_of s b) (Supplier s) variant refusal
-    refused_alone variant refusal available (inl lacks) = inl lacks
-    refused_alone variant refusal available (inr (asked, of, answered)) = inr (asked, of, told_alone s asked (Refused refusal) (same_text-itself s) available answered)
+    -- what is new since another variant, and what is gone, is told alone as it is told beside others
+    changes_alone : (variant : List ℕ) (since : Option (List ℕ)) (changes : Option Changes) → AreChanges c b (Supplier s) variant since changes
+        → AreChanges c (rows_of s b) (Supplier s) variant since changes
+    changes_alone variant None changes is = is
+    changes_alone variant (Some from) None is = absurd is
+    changes_alone variant (Some from) (Some changes) (named, (all, answered)) = (named, (all, told_alone s _ _ (same_text-itself s) refl answered))
 
-    own_alone : (variant : List ℕ) (drawn : Result Plan Refusal) → lacks_plan drawn ≡ false → MayDraw c b (Supplier s) variant drawn → MayDraw c (rows_of s b) (Supplier s) variant drawn
-    own_alone variant (Ok plan) available is = plan_alone variant plan is
-    own_alone variant (Err refusal) available may = refused_alone variant refusal available may
+    refused_alone : (variant : List ℕ) (since : Option (List ℕ)) (refusal : Refusal) → lacked refusal ≡ false → MayRefusePicture c b (Supplier s) variant since refusal
+        → MayRefusePicture c (rows_of s b) (Supplier s) variant since refusal
+    refused_alone variant since refusal available (inl (inl lacks)) = inl (inl lacks)
+    refused_alone variant since refusal available (inl (inr (asked, of, answered))) =
+        inl (inr (asked, of, told_alone s asked (Refused refusal) (same_text-itself s) available answered))
+    refused_alone variant None refusal available (inr is) = absurd is
+    refused_alone variant (Some from) refusal available (inr answered) = inr (told_alone s _ (Refused refusal) (same_text-itself s) available answered)
+
+    own_alone : (variant : List ℕ) (since : Option (List ℕ)) (drawn : Result Plan Refusal) → lacks_plan drawn ≡ false → MayDraw c b (Supplier s) variant since drawn
+        → MayDraw c (rows_of s b) (Supplier s) variant since drawn
+    own_alone variant since (Ok plan) available is = record {
+      is_plan = plan_alone variant plan is.is_plan;
+      changes = changes_alone variant since plan.changes is.changes;
+    }
+    own_alone variant since (Err refusal) available may = refused_alone variant since refusal available may
 
     -- what may be drawn for the supplier may be drawn for it by the register that holds it alone
-    pub picture-alone : (reader : Actor) (variant : List ℕ) (drawn : Result Plan Refusal) → is_own_picture s reader drawn ≡ true → MayDraw c b reader variant drawn
-        → MayDraw c (rows_of s b) reader variant drawn
-    picture-alone Integrator variant drawn own may = cc
-    picture-alone (Supplier t) variant drawn own may =
+    pub picture-alone : (reader : Actor) (variant : List ℕ) (since : Option (List ℕ)) (drawn : Result Plan Refusal) → is_own_picture s reader drawn ≡ true → MayDraw c b reader variant since drawn
+        → MayDraw c (rows_of s b) reader variant since drawn
+    picture-alone Integrator variant since drawn own may = cc
+    picture-alone (Supplier t) variant since drawn own may =
         let both = and_both _ _ own in
         let is : s ≡ t = sym (same_text-is t s both.0) in
-        subst (λ u. MayDraw c (rows_of s b) (Supplier u) variant drawn) is (own_alone variant drawn (not_true _ both.1) (subst (λ u. MayDraw c b (Supplier u) variant drawn) (sym is) may))
+        subst (λ u. MayDraw c (rows_of s b) (Supplier u) variant since drawn) is
+        (own_alone variant since drawn (not_true _ both.1) (subst (λ u. MayDraw c b (Supplier u) variant since drawn) (sym is) may))

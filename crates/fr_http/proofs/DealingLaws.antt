@@ -11,9 +11,8 @@ use Rattle.fr_base.specs.declared.answer.Answer.TheVariants as answer
 use Rattle.fr_base.specs.declared.refusal.Refusal.{Refusal}
 use Rattle.fr_base.specs.declared.refusal.Refusal.TheVariants.{Unavailable}
 use Rattle.fr_base.specs.declared.request.Ask.{Ask}
-use Rattle.fr_picture.specs.Frames.{MayRefusePlan}
 use Rattle.fr_picture.specs.Pages.{IsPage}
-use Rattle.fr_picture.specs.Plans.{IsPlan}
+use Rattle.fr_picture.specs.Plans.{IsPicture, MayRefusePicture}
 use Rattle.fr_picture.specs.Reports.{Reads, Standing}
 use Rattle.fr_picture.specs.declared.plan.Plan.{Plan}
 use Rattle.fr_http.specs.Connection.{HasDealt, HasDrawn}
@@ -46,11 +45,11 @@ module _ (clean : Type 0) (old new : Standing) where
     is_reply = advises;
   }
 
-  module _ (reader : Actor) (variant : List ℕ) where
+  module _ (reader : Actor) (variant : List ℕ) (since : Option (List ℕ)) where
     -- a plan was drawn
-    pub page_dealt : (page : Vec ℕ) → HasDrawn reader variant clean old new (Ok page) → HasDealt clean old new (exchange.Picture reader variant) (page_reply page.items)
+    pub page_dealt : (page : Vec ℕ) → HasDrawn reader variant since clean old new (Ok page) → HasDealt clean old new (exchange.Picture reader variant since) (page_reply page.items)
     page_dealt page (Ok plan, is, drawn) = record {
-      dealing = Drawn reader variant (Ok plan);
+      dealing = Drawn reader variant since (Ok plan);
       is_asked = refl;
       deals = λ cl c b stood sound. let (stands, may) = drawn cl c b stood sound in (b, (refl, may), stands);
       is_reply = (page.items, is, refl);
@@ -58,31 +57,31 @@ module _ (clean : Type 0) (old new : Standing) where
     page_dealt page (Err refusal, is, drawn) = absurd cc
 
     -- there was no plan
-    pub refusal_dealt : (refusal : Refusal) → HasDrawn reader variant clean old new (Err refusal)
-        → HasDealt clean old new (exchange.Picture reader variant) (answer_reply Get (answer.Refused refusal))
+    pub refusal_dealt : (refusal : Refusal) → HasDrawn reader variant since clean old new (Err refusal)
+        → HasDealt clean old new (exchange.Picture reader variant since) (answer_reply Get (answer.Refused refusal))
     refusal_dealt refusal (Ok plan, is, drawn) = absurd is
     refusal_dealt refusal (Err same, is, drawn) =
         let e : same ≡ refusal = cc in
         record {
-          dealing = Drawn reader variant (Err refusal);
+          dealing = Drawn reader variant since (Err refusal);
           is_asked = refl;
-          deals = λ cl c b stood sound. let (stands, may) = drawn cl c b stood sound in (b, (refl, subst (λ r. MayRefusePlan c b reader variant r) e may), stands);
+          deals = λ cl c b stood sound. let (stands, may) = drawn cl c b stood sound in (b, (refl, subst (λ r. MayRefusePicture c b reader variant since r) e may), stands);
           is_reply = refl;
         }
 
     -- ---- a page, or none
 
     abbrev Read : Result Plan Refusal → Type 0
-    Read r = clean → Reads old new r (λ c b plan. IsPlan c b reader variant plan) (λ c b e. MayRefusePlan c b reader variant e)
+    Read r = clean → Reads old new r (λ c b plan. IsPicture c b reader variant since plan) (λ c b e. MayRefusePicture c b reader variant since e)
 
     -- the plan was read, and its page written
-    pub page_drawn : (plan : Plan) (page : Vec ℕ) → Read (Ok plan) → IsPage plan page.items → HasDrawn reader variant clean old new (Ok page)
+    pub page_drawn : (plan : Plan) (page : Vec ℕ) → Read (Ok plan) → IsPage plan page.items → HasDrawn reader variant since clean old new (Ok page)
     page_drawn plan page read is = (Ok plan, is, λ cl c b stood sound. read cl c b stood sound)
 
     -- there was no memory for the page
-    pub page_lacked : (plan : Plan) → Read (Ok plan) → HasDrawn reader variant clean old new (Err Unavailable)
-    page_lacked plan read = (Err Unavailable, refl, λ cl c b stood sound. ((read cl c b stood sound).0, inl refl))
+    pub page_lacked : (plan : Plan) → Read (Ok plan) → HasDrawn reader variant since clean old new (Err Unavailable)
+    page_lacked plan read = (Err Unavailable, refl, λ cl c b stood sound. ((read cl c b stood sound).0, inl (inl refl)))
 
     -- the plan was refused
-    pub plan_refused : (refusal : Refusal) → Read (Err refusal) → HasDrawn reader variant clean old new (Err refusal)
+    pub plan_refused : (refusal : Refusal) → Read (Err refusal) → HasDrawn reader variant since clean old new (Err refusal)
     plan_refused refusal read = (Err refusal, refl, λ cl c b stood sound. read cl c b stood sound)

@@ -43,7 +43,7 @@ bind_alike (Err e) f g v same is = absurd cc
 -- who asks
 abbrev sender : Exchange → Actor
 sender (exchange.Request ask method) = ask.actor
-sender (exchange.Picture reader variant) = reader
+sender (exchange.Picture reader variant since) = reader
 sender (exchange.Advice reader subject text) = reader
 
 actor_in : Actor → Result Exchange Unasked → Actor
@@ -59,7 +59,7 @@ module _ (who alone : List ℕ → Option Actor) (exchange : Exchange) (heard : 
   unfolding ◌>>=◌ ◌or◌ actor_in
   is_found None what method is = absurd cc
   is_found (Some actor) (matter.Request request) method is = ap Some (ap (actor_in actor) is)
-  is_found (Some actor) (matter.Picture variant) method is = ap Some (ap (actor_in actor) is)
+  is_found (Some actor) (matter.Picture variant since) method is = ap Some (ap (actor_in actor) is)
   is_found (Some actor) (matter.Advice subject text) method is = ap Some (ap (actor_in actor) is)
 
   held_alike : (key : Option (List ℕ)) (what : Matter) (method : Method) → asks_found (holder who key) what method ≡ Ok exchange → asks_found (holder alone key) what method ≡ Ok exchange
@@ -152,7 +152,7 @@ module _ (c : Cluster) (b last : Book) where
 
   deals-keep : IsSound c b → (dealing : Dealing) → Deals c b dealing last → IsSound c last
   deals-keep sound (Answered ask method answer) deals = step-keeps sound ask answer deals
-  deals-keep sound (Drawn reader variant drawn) deals = subst (IsSound c) (sym deals.0) sound
+  deals-keep sound (Drawn reader variant since drawn) deals = subst (IsSound c) (sym deals.0) sound
   deals-keep sound (Advised reader subject text) deals = subst (IsSound c) (sym deals) sound
 
   asks-sound : (x : Exchanged) (a : Option Dealing) → IsSound c b → Asks c b x a last → IsSound c last
@@ -174,17 +174,17 @@ module _ (s : Name) (c : Cluster) (b last : Book) where
 
   own-heard : (dealing : Dealing) → is_own s (Some dealing) ≡ true → is_heard s (Some (sender (asked_in dealing))) ≡ true
   own-heard (Answered ask method answer) own = mine-heard s ask.actor ask.request answer own
-  own-heard (Drawn reader variant drawn) own = picture-heard s reader drawn own
+  own-heard (Drawn reader variant since drawn) own = picture-heard s reader drawn own
   own-heard (Advised reader subject text) own = advice-heard s reader own
 
   deals-own : IsSound c b → (dealing : Dealing) → is_own s (Some dealing) ≡ true → Deals c b dealing last → Deals c (rows_of s b) dealing (rows_of s last)
   deals-own sound (Answered ask method answer) own deals = step-own sound ask answer own deals
-  deals-own sound (Drawn reader variant drawn) own deals = (ap (rows_of s) deals.0, picture-alone c b s sound reader variant drawn own deals.1)
+  deals-own sound (Drawn reader variant since drawn) own deals = (ap (rows_of s) deals.0, picture-alone c b s sound reader variant since drawn own deals.1)
   deals-own sound (Advised reader subject text) own deals = ap (rows_of s) deals
 
   deals-other : (dealing : Dealing) → is_own s (Some dealing) ≡ false → Deals c b dealing last → rows_of s last ≡ rows_of s b
   deals-other (Answered ask method answer) other deals = step-other ask answer other deals
-  deals-other (Drawn reader variant drawn) other deals = ap (rows_of s) deals.0
+  deals-other (Drawn reader variant since drawn) other deals = ap (rows_of s) deals.0
   deals-other (Advised reader subject text) other deals = ap (rows_of s) deals
 
   -- what asks nothing has the same reply in that register, since a key that is nobody's is nobody's there

@@ -22,7 +22,7 @@ use Rattle.std.specs.Option.{option_map}
 use Rattle.fr_http.specs.Head.{BeginsWith, HeadData, key_of, said}
 use Rattle.fr_http.specs.Outcome.{IsOutcome, Wanted, asked_by, by_engine, front, holder, interim, outcome_of, plan_of}
 use Rattle.fr_http.specs.OutcomeLaws.{asks_explanation, is_explanation, is_worded, plans_explanation, was_lacking}
-use Rattle.fr_http.specs.Routes.{asked_or_refused, matter_by, method_of, number_in, part, path_of}
+use Rattle.fr_http.specs.Routes.{asked_or_refused, matter_by, method_of, number_in, other_variant, part, path_of}
 use Rattle.fr_http.specs.Reply.{Reply, answer_reply, print}
 use Rattle.fr_http.specs.declared.asking.Exchange.{Exchange}
 use Rattle.fr_http.specs.declared.asking.Exchange.TheVariants as asked
@@ -113,7 +113,7 @@ module _ (who : List ℕ → Option Actor) where
   by_route (Try replaces) path body found method plain = found-plain found method (matter.Request (request.Try (part named.Variant path) replaces body))
   by_route (Query asked) path body found method plain =
       text-plain (option_map request.Query (query_by (λ name. part name path) (λ name. number_in name path) asked)) found method
-  by_route Picture path body found method plain = found-plain found method (matter.Picture (part named.Variant path))
+  by_route (Picture since) path body found method plain = found-plain found method (matter.Picture (part named.Variant path) (other_variant since path))
 
   by_body : (body : Option (List ℕ)) (route : Route) (path : List ℕ) (found : Option Actor) (method : Method) → is_explanation route ≡ false
       → tells ((body or Fault Truncated) >>= λ body. matter_by route path body >>= found_by found method) ≡ false
@@ -199,10 +199,10 @@ module _ (c : Cluster) (b last end : Book) (x y : Exchanged) (head : RequestHead
   asks-one (Some mine) None one two drawn lacking =
       let d = replied_too two.1 in
       absurd (true≢false (ap was_asked (alike one.before d.before (Ok (asked_in mine)) (Err d.unasked) one.outcome d.outcome).0))
-  asks-one (Some (Drawn reader variant plan)) (Some theirs) one two drawn lacking = absurd (true≢false drawn)
+  asks-one (Some (Drawn reader variant since plan)) (Some theirs) one two drawn lacking = absurd (true≢false drawn)
   asks-one (Some (Advised reader subject text)) (Some theirs) one two drawn lacking = absurd (true≢false drawn)
-  asks-one (Some (Answered ask method answer)) (Some (Drawn reader variant plan)) one two drawn lacking =
-      absurd (true≢false (ap is_request (alike one.before two.before (Ok (asked.Request ask method)) (Ok (asked.Picture reader variant)) one.outcome two.outcome).0))
+  asks-one (Some (Answered ask method answer)) (Some (Drawn reader variant since plan)) one two drawn lacking =
+      absurd (true≢false (ap is_request (alike one.before two.before (Ok (asked.Request ask method)) (Ok (asked.Picture reader variant since)) one.outcome two.outcome).0))
   asks-one (Some (Answered ask method answer)) (Some (Advised reader subject text)) one two drawn lacking =
       absurd (true≢false (ap is_request (alike one.before two.before (Ok (asked.Request ask method)) (Ok (asked.Advice reader subject text)) one.outcome two.outcome).0))
   asks-one (Some (Answered ask method answer)) (Some (Answered ask' method' answer')) one two drawn lacking =

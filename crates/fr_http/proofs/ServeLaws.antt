@@ -74,7 +74,7 @@ matter_no_fault Import path body = refl
 matter_no_fault Replace path body = refl
 matter_no_fault (Try replaces) path body = refl
 matter_no_fault (Query asked) path body = text_no_fault _
-matter_no_fault Picture path body = refl
+matter_no_fault (Picture since) path body = refl
 
 -- a route asks nothing for no fault
 pub why_not : (route : Route) (path body : List ℕ) (unasked : Unasked) → matter_by route path body ≡ Err unasked → is_fault unasked ≡ false

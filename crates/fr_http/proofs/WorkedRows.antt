@@ -54,10 +54,10 @@ pub routes :
     map route_of (
     codes "/v1/commands" ∷ codes "/v1/variants/v1/imports/a" ∷ codes "/v1/variants/v1/grants" ∷ codes "/v1/variants/v1/frames"
     ∷ codes "/v1/variants/v1/schedule" ∷ codes "/v1/variants/v1/gaps" ∷ codes "/v1/variants/v1/frames/f1/layout" ∷ codes "/v1/variants/1%20v/gaps"
-    ∷ codes "/v1/variants/v1/picture" ∷ []
+    ∷ codes "/v1/variants/v1/picture" ∷ codes "/v1/variants/v2/since/v1/picture" ∷ []
     )
     ≡ Some (One Commands) ∷ Some (One Import) ∷ Some (report Grants) ∷ Some (report Frames) ∷ Some (report Schedule) ∷ Some (report Gaps) ∷ Some (report (Layout named.Frame)) ∷ Some (report Gaps)
-    ∷ Some (One Picture) ∷ []
+    ∷ Some (One (Picture false)) ∷ Some (One (Picture true)) ∷ []
 unfolding rows
 routes = refl
 
@@ -136,10 +136,11 @@ pub matters :
     matter_by Import (codes "/v1/variants/v1/imports/a") (codes "x")
     ∷ matter_by (of_variant Schedule) (codes "/v1/variants/v1/schedule") []
     ∷ matter_by (of_variant (Layout named.Frame)) (codes "/v1/variants/v1/frames/f1/layout") []
-    ∷ matter_by Picture (codes "/v1/variants/v1/picture") []
+    ∷ matter_by (Picture false) (codes "/v1/variants/v1/picture") [] ∷ matter_by (Picture true) (codes "/v1/variants/v2/since/v1/picture") []
     ∷ []
     ≡ Ok (matter.Request (request.Import (codes "v1") (codes "a") (codes "x"))) ∷ Ok (matter.Request (request.Query (OfVariant (codes "v1") Schedule)))
-    ∷ Ok (matter.Request (request.Query (OfVariant (codes "v1") (Layout (codes "f1"))))) ∷ Ok (matter.Picture (codes "v1")) ∷ []
+    ∷ Ok (matter.Request (request.Query (OfVariant (codes "v1") (Layout (codes "f1"))))) ∷ Ok (matter.Picture (codes "v1") None)
+    ∷ Ok (matter.Picture (codes "v2") (Some (codes "v1"))) ∷ []
 unfolding rows
 matters = refl
 
@@ -249,7 +250,7 @@ asks_schedule = refl
 
 pub asks_picture :
     outcome_of who (head (codes "GET") (codes "/v1/variants/v1/picture") ((codes "X-Office-Key", codes "supplier01") ∷ [])) []
-    ≡ Ok (exchange.Picture (actor.Supplier (codes "s1")) (codes "v1"))
+    ≡ Ok (exchange.Picture (actor.Supplier (codes "s1")) (codes "v1") None)
 unfolding rows
 asks_picture = refl
 

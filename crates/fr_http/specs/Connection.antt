@@ -136,9 +136,9 @@ IsPageOf (Err refusal) page = page ≡ Err refusal
 
 -- This is the page of a plan that may be drawn, or there is none for a cause that may be. The
 -- register stands for the same book as before.
-abbrev pub HasDrawn : Actor → List ℕ → Type 0 → Standing → Standing → Result (Vec ℕ) Refusal → Type 0
-HasDrawn reader variant clean old new page =
-    (drawn : Result Picture Refusal) × IsPageOf drawn page × (clean → InSound old (λ c b. new c b × MayDraw c b reader variant drawn))
+abbrev pub HasDrawn : Actor → List ℕ → Option (List ℕ) → Type 0 → Standing → Standing → Result (Vec ℕ) Refusal → Type 0
+HasDrawn reader variant since clean old new page =
+    (drawn : Result Picture Refusal) × IsPageOf drawn page × (clean → InSound old (λ c b. new c b × MayDraw c b reader variant since drawn))
 
 -- The register dealt with the exchange. The reply was written, or nothing of it for want of memory,
 -- or a front of it where a write failed.

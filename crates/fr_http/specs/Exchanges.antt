@@ -18,9 +18,8 @@ use Rattle.fr_base.specs.declared.answer.Answer.TheVariants as answer
 use Rattle.fr_base.specs.declared.name.Name.{Name}
 use Rattle.fr_base.specs.declared.refusal.Refusal.{Refusal}
 use Rattle.fr_base.specs.declared.request.Ask.{Ask}
-use Rattle.fr_picture.specs.Frames.{MayRefusePlan}
 use Rattle.fr_picture.specs.Pages.{IsPage}
-use Rattle.fr_picture.specs.Plans.{IsPlan}
+use Rattle.fr_picture.specs.Plans.{IsPicture, MayRefusePicture}
 use Rattle.fr_picture.specs.declared.plan.Plan.{Plan}
 use Rattle.std.specs.Global.{Vec}
 use Rattle.fr_guide.specs.Advice.{IsAdvice}
@@ -44,17 +43,17 @@ use Rattle.fr_http.specs.declared.serve.Served.{Served}
 -- ---- one connection
 
 -- What the register was asked, and what it gave: a request with its method, and the answer; or the
--- picture of a variant, and the plan as the reader sees it, or why there is none; or it was asked
+-- picture of a variant, perhaps since another one, and the plan as the reader sees it, or why there is none; or it was asked
 -- whose a key is, and gave advice on a text.
 pub data Dealing : Type 0 where
   Answered : Ask → Method → Answer → Dealing
-  Drawn : Actor → List ℕ → Result Plan Refusal → Dealing
+  Drawn : Actor → List ℕ → Option (List ℕ) → Result Plan Refusal → Dealing
   Advised : Actor → Subject → List ℕ → Dealing
 
 -- the exchange that the register dealt with
 abbrev pub asked_in : Dealing → Exchange
 asked_in (Answered ask method answer) = exchange.Request ask method
-asked_in (Drawn reader variant drawn) = exchange.Picture reader variant
+asked_in (Drawn reader variant since drawn) = exchange.Picture reader variant since
 asked_in (Advised reader subject text) = exchange.Advice reader subject text
 
 -- whether the register was asked for more than whose a key is
@@ -115,24 +114,24 @@ IsTold x before reply = MatchResult x.done
     (λ served. (x.written ≡ before ++ print reply) × (served.status ≡ reply.status))
     (λ fault. IsBrokenOff fault x.written before reply)
 
--- From this book the variant's plan may be drawn as the reader sees it, or there is no plan for
--- this cause.
-abbrev pub MayDraw : Cluster → Book → Actor → List ℕ → Result Plan Refusal → Type 0
-MayDraw c b reader variant drawn = MatchResult drawn (IsPlan c b reader variant) (MayRefusePlan c b reader variant)
+-- From this book the variant's plan may be drawn as the reader sees it, with what is new in it since the variant that is
+-- named, if one is, and what is gone; or there is no plan for this cause.
+abbrev pub MayDraw : Cluster → Book → Actor → List ℕ → Option (List ℕ) → Result Plan Refusal → Type 0
+MayDraw c b reader variant since drawn = MatchResult drawn (IsPicture c b reader variant since) (MayRefusePicture c b reader variant since)
 
 -- From this book the register deals with the exchange, and the last book is the one after that. A
 -- request is answered by one step. A picture, and advice, leave the book as it is.
 abbrev pub Deals : Cluster → Book → Dealing → Book → Type 0
 Deals c b (Answered ask method answer) last = IsRun c b (ask ∷ []) (answer ∷ []) last
-Deals c b (Drawn reader variant drawn) last = (last ≡ b) × MayDraw c b reader variant drawn
+Deals c b (Drawn reader variant since drawn) last = (last ≡ b) × MayDraw c b reader variant since drawn
 Deals c b (Advised reader subject text) last = last ≡ b
 
 -- The reply is that of the answer, by the request's method; or it has the page of the plan; or it
 -- is the refusal of a GET; or it has advice.
 abbrev pub IsReplyTo : Dealing → Reply → Type 0
 IsReplyTo (Answered ask method answer) reply = reply ≡ answer_reply method answer
-IsReplyTo (Drawn reader variant (Ok plan)) reply = (page : List ℕ) × IsPage plan page × (reply ≡ page_reply page)
-IsReplyTo (Drawn reader variant (Err refusal)) reply = reply ≡ answer_reply Get (answer.Refused refusal)
+IsReplyTo (Drawn reader variant since (Ok plan)) reply = (page : List ℕ) × IsPage plan page × (reply ≡ page_reply page)
+IsReplyTo (Drawn reader variant since (Err refusal)) reply = reply ≡ answer_reply Get (answer.Refused refusal)
 IsReplyTo (Advised reader subject text) reply = AdvisesOn subject text reply
 
 -- From this book the bytes that were read demand this. The register dealt with it, and the last
@@ -212,7 +211,7 @@ is_own_advice s Integrator = false
 abbrev pub is_own : Name → Option Dealing → Bool
 is_own s None = true
 is_own s (Some (Answered ask method answer)) = is_mine s ask.actor ask.request answer
-is_own s (Some (Drawn reader variant drawn)) = is_own_picture s reader drawn
+is_own s (Some (Drawn reader variant since drawn)) = is_own_picture s reader drawn
 is_own s (Some (Advised reader subject text)) = is_own_advice s reader
 
 -- the exchanges that are the supplier's, and those that ask nothing, in order

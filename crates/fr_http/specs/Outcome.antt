@@ -109,13 +109,13 @@ holder who (Some key) = who key
 -- the exchange of this actor by this method: a request's answer; a picture, as the actor sees it; or advice on a text
 abbrev pub asked_by : Actor → Method → Matter → Exchange
 asked_by actor method (matter.Request request) = exchange.Request (record { actor = actor; request = request }) method
-asked_by actor method (matter.Picture variant) = exchange.Picture actor variant
+asked_by actor method (matter.Picture variant since) = exchange.Picture actor variant since
 asked_by actor method (matter.Advice subject text) = exchange.Advice actor subject text
 
 -- whether the register is asked for more than whose a key is
 abbrev pub is_ask : Exchange → Bool
 is_ask (exchange.Request ask method) = true
-is_ask (exchange.Picture reader variant) = true
+is_ask (exchange.Picture reader variant since) = true
 is_ask (exchange.Advice reader subject text) = false
 
 -- What is demanded, or why nothing is, by the head and by the bytes behind it. If a body is cut

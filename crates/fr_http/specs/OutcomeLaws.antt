@@ -30,7 +30,7 @@ was_lacking _ = false
 
 -- whether a picture was asked for, or advice: no definition fixes their words
 abbrev pub is_worded : Option Dealing → Bool
-is_worded (Some (Drawn reader variant drawn)) = true
+is_worded (Some (Drawn reader variant since drawn)) = true
 is_worded (Some (Advised reader subject text)) = true
 is_worded _ = false
 

@@ -56,7 +56,7 @@ method_of Replace = Put
 method_of (Try true) = Put
 method_of (Try false) = Post
 method_of (Query asked) = Get
-method_of Picture = Get
+method_of (Picture since) = Get
 method_of Page = Get
 method_of Explanations = Get
 method_of Explanation = Get
@@ -127,7 +127,8 @@ table =
     ∷ (codes "/v1/variants/{variant}/exports/signals/{part}", export header.Signals)
     ∷ (codes "/v1/variants/{variant}/rows", One Replace)
     ∷ (codes "/v1/variants/{variant}/tries", Two (Try false) (Try true))
-    ∷ (codes "/v1/variants/{variant}/picture", One Picture)
+    ∷ (codes "/v1/variants/{variant}/picture", One (Picture false))
+    ∷ (codes "/v1/variants/{variant}/since/{from}/picture", One (Picture true))
     ∷ []
 
 -- the router with one more pattern, as `matchit` reads its text and keeps it
@@ -191,6 +192,10 @@ abbrev pub asked_or_refused : Option Request → Result Matter Unasked
 asked_or_refused (Some asked) = Ok (matter.Request asked)
 asked_or_refused None = Err (Refused BadText)
 
+-- the other variant of a path that names one
+abbrev pub other_variant : Bool → List ℕ → Option (List ℕ)
+other_variant since path = if since then Some (part named.From path) else None
+
 -- What a route asks for, or why it asks nothing: the planner's page and what is explained are the engine's own. Its names
 -- and numbers are parts of the path, and the body is a command's text or a file. Where a part is not
 -- a number, the route asks for nothing.
@@ -205,4 +210,4 @@ matter_by Replace path body = Ok (matter.Request (request.Replace (part named.Va
 matter_by (Try replaces) path body = Ok (matter.Request (request.Try (part named.Variant path) replaces body))
 matter_by (Query asked) path body =
     asked_or_refused (option_map request.Query (query_by (λ name. part name path) (λ name. number_in name path) asked))
-matter_by Picture path body = Ok (matter.Picture (part named.Variant path))
+matter_by (Picture since) path body = Ok (matter.Picture (part named.Variant path) (other_variant since path))

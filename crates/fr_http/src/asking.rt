@@ -2,7 +2,7 @@
 ghost use Rattle.std.specs.Prelude.{◌≡◌, IfOk};
 ghost use Rattle.fr_http.specs.Asking.{FindsActor, MakesCommand, MakesMatter, unasked_by};
 ghost use Rattle.fr_http.specs.Outcome.{asked_by, is_ask};
-ghost use Rattle.fr_http.specs.Routes.{part};
+ghost use Rattle.fr_http.specs.Routes.{other_variant, part};
 
 use crate::fault::{LinkFault, Unasked};
 use crate::head::Head;
@@ -25,10 +25,12 @@ pub enum Exchange {
         ask: Ask,
         method: Method,
     },
-    /// The page of a variant's plan, as the reader sees it.
+    /// The page of a variant's plan, as the reader sees it, and what is new since another variant,
+    /// where one is named.
     Picture {
         reader: Actor,
         variant: Text,
+        since: Option<Text>,
     },
     /// Advice on a text.
     Advice {
@@ -52,8 +54,8 @@ impl Exchange {
 pub(crate) enum Matter {
     /// The answer to a request.
     Request(Request),
-    /// The page of a variant's plan.
-    Picture { variant: Text },
+    /// The page of a variant's plan, and what is new since another variant, where one is named.
+    Picture { variant: Text, since: Option<Text> },
     /// Advice on a text.
     Advice { subject: Subject, text: Body },
 }
@@ -68,9 +70,10 @@ impl Matter {
                 ask: Ask { actor, request },
                 method,
             },
-            Matter::Picture { variant } => Exchange::Picture {
+            Matter::Picture { variant, since } => Exchange::Picture {
                 reader: actor,
                 variant,
+                since,
             },
             Matter::Advice { subject, text } => Exchange::Advice {
                 reader: actor,
@@ -118,9 +121,21 @@ pub(crate) fn asked_matter(alloc: Global, plan: &Plan<'_>, body: &[u8]) -> Resul
             };
             Ok(Matter::Request(Request::Query(asked.read(&words)?)))
         }
-        Route::Picture => Ok(Matter::Picture {
+        Route::Picture { since } => Ok(Matter::Picture {
             variant: copy_part(alloc, plan.path, PathName::Variant)?,
+            since: other_variant(alloc, plan.path, since)?,
         }),
+    }
+}
+
+// The other variant of a path that names one.
+fn other_variant(alloc: Global, path: &str, since: bool) -> Result<Option<Text>, NoMemory>
+    ensures { IfOk result (λ other. other ≡ other_variant since path.now) }
+{
+    if since {
+        Ok(Some(copy_part(alloc, path, PathName::From)?))
+    } else {
+        Ok(None)
     }
 }
 

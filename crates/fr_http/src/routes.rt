@@ -34,8 +34,8 @@ pub enum Route {
     Try { replaces: bool },
     /// A query. Each name and number in it stands in the path.
     Query(Query<PathName, PathName>),
-    /// The page of a variant's plan.
-    Picture,
+    /// The page of a variant's plan; with what is new since another variant, where the path names one.
+    Picture { since: bool },
 }
 
 impl Route {
@@ -51,7 +51,7 @@ impl Route {
             | Route::Explanations
             | Route::Explanation
             | Route::Query(_)
-            | Route::Picture => Method::Get,
+            | Route::Picture { .. } => Method::Get,
         }
     }
 
@@ -191,7 +191,7 @@ fn export(header: Header) -> Resource
 
 /// What each path leads to, by the pattern that it matches.
 #[tactic(auto, unfolding(crate::specs::Routes::table))]
-pub(crate) fn routes() -> [(&'static str, Resource); 24]
+pub(crate) fn routes() -> [(&'static str, Resource); 25]
     ensures { map (λ entry. (entry.0.now, entry.1)) result ≡ table }
 {
     use Resource::{One, Two};
@@ -244,7 +244,14 @@ pub(crate) fn routes() -> [(&'static str, Resource); 24]
             "/v1/variants/{variant}/tries",
             Two(Try { replaces: false }, Try { replaces: true }),
         ),
-        ("/v1/variants/{variant}/picture", One(Picture)),
+        (
+            "/v1/variants/{variant}/picture",
+            One(Picture { since: false }),
+        ),
+        (
+            "/v1/variants/{variant}/since/{from}/picture",
+            One(Picture { since: true }),
+        ),
     ]
 }
 

@@ -32,6 +32,6 @@ returns c =
     let changes = with_job _ _ _ _ _ c.in_ok-subcommand-21.ensures
     (with_job _ _ _ _ _ c.in_ok-subcommand-20.ensures
     (with_job _ _ _ _ _ c.in_ok-subcommand-19.ensures
-    (with_job _ _ _ _ _ c.in_ok-subcommand-18.ensures rooms c.in_ok-report-6.ensures) c.in_ok-import.ensures) c.in_ok-replace.ensures) c.in_ok-trial.ensures in
+    (with_job _ _ _ _ _ c.in_ok-subcommand-18.ensures rooms c.in_ok-picture.ensures) c.in_ok-import.ensures) c.in_ok-replace.ensures) c.in_ok-trial.ensures in
     with_job _ _ _ _ _ c.in_ok-program.ensures
     (with_job _ _ _ _ _ c.in_ok-subcommand-22.ensures changes c.in_ok-check.ensures) c.in_ok-explain.ensures

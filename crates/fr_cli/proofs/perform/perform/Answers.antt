@@ -33,7 +33,7 @@ returns-in-Report g c =
 pub returns-in-Picture : goal.returns-in-Picture
 returns-in-Picture g c =
     let done = c.over_file-in-Picture in
-    performed _ _ _ _ _ _ _ c.in-Picture.is c.told-in-Picture.ensures.left (unfold IsPerformed in (done.result.0, search rules, pictured_over c.in-Picture.variant c.in-Picture.supplier done.ensures, search rules, (Keeps-refl (g.R.Read.remaining c.args.input.now), refl)))
+    performed _ _ _ _ _ _ _ c.in-Picture.is c.told-in-Picture.ensures.left (unfold IsPerformed in (done.result.0, search rules, pictured_over c.in-Picture.variant c.in-Picture.since c.in-Picture.supplier done.ensures, search rules, (Keeps-refl (g.R.Read.remaining c.args.input.now), refl)))
 
 pub returns-in-Deliver : goal.returns-in-Deliver
 returns-in-Deliver g c =

@@ -1,4 +1,5 @@
 use Rattle.std.proofs.Common.{rules, refl, ◌≡◌, Ok, Err, sym, subst}
+use Rattle.fr_picture.specs.Plans.{since_of}
 use Rattle.fr_http.specs.Connection.{HasDealt, HasDrawn}
 use Rattle.fr_http.specs.Reply.{answer_reply, page_reply}
 use Rattle.fr_base.specs.declared.answer.Answer.TheVariants as answer
@@ -29,13 +30,16 @@ pub returns-in-Ok-clause-given : goal.returns-in-Ok-clause-given
 returns-in-Ok-clause-given g c =
     let reader = c.in-Picture.reader in
     let variant = c.in-Picture.variant in
+    let since = c.in-Picture.since in
     let reply = page_reply c.in-Ok.page.items in
-    let is : c.args.exchange.now ≡ exchange.Picture reader variant = search rules in
+    let is : c.args.exchange.now ≡ exchange.Picture reader variant since = search rules in
     record {
       does = (
         reply,
         subst (λ o. HasDealt (g.D.Desk.clean c.picture.new.desk) (g.D.Desk.stands c.args.desk.now) (g.D.Desk.stands c.picture.new.desk) o reply) (sym is)
-            (page_dealt _ _ _ reader variant c.in-Ok.page (subst (λ v. HasDrawn reader v (g.D.Desk.clean c.picture.new.desk) (g.D.Desk.stands c.args.desk.now) (g.D.Desk.stands c.picture.new.desk) (Ok c.in-Ok.page)) c.as_str.ensures c.in-Ok.ensures.does)),
+            (page_dealt _ _ _ reader variant since c.in-Ok.page
+            (subst (λ o. HasDrawn reader variant o (g.D.Desk.clean c.picture.new.desk) (g.D.Desk.stands c.args.desk.now) (g.D.Desk.stands c.picture.new.desk) (Ok c.in-Ok.page)) c.text_of.ensures
+            (subst (λ v. HasDrawn reader v (since_of c.text_of.result) (g.D.Desk.clean c.picture.new.desk) (g.D.Desk.stands c.args.desk.now) (g.D.Desk.stands c.picture.new.desk) (Ok c.in-Ok.page)) c.as_str.ensures c.in-Ok.ensures.does))),
         c.page_reply.ensures,
       );
       falls = search rules;
@@ -45,13 +49,16 @@ pub returns-in-Err-clause-given : goal.returns-in-Err-clause-given
 returns-in-Err-clause-given g c =
     let reader = c.in-Picture.reader in
     let variant = c.in-Picture.variant in
+    let since = c.in-Picture.since in
     let reply = answer_reply Get (answer.Refused c.in-Err.refusal) in
-    let is : c.args.exchange.now ≡ exchange.Picture reader variant = search rules in
+    let is : c.args.exchange.now ≡ exchange.Picture reader variant since = search rules in
     record {
       does = (
         reply,
         subst (λ o. HasDealt (g.D.Desk.clean c.picture.new.desk) (g.D.Desk.stands c.args.desk.now) (g.D.Desk.stands c.picture.new.desk) o reply) (sym is)
-            (refusal_dealt _ _ _ reader variant c.in-Err.refusal (subst (λ v. HasDrawn reader v (g.D.Desk.clean c.picture.new.desk) (g.D.Desk.stands c.args.desk.now) (g.D.Desk.stands c.picture.new.desk) (Err c.in-Err.refusal)) c.as_str.ensures c.in-Err.ensures.does)),
+            (refusal_dealt _ _ _ reader variant since c.in-Err.refusal
+            (subst (λ o. HasDrawn reader variant o (g.D.Desk.clean c.picture.new.desk) (g.D.Desk.stands c.args.desk.now) (g.D.Desk.stands c.picture.new.desk) (Err c.in-Err.refusal)) c.text_of.ensures
+            (subst (λ v. HasDrawn reader v (since_of c.text_of.result) (g.D.Desk.clean c.picture.new.desk) (g.D.Desk.stands c.args.desk.now) (g.D.Desk.stands c.picture.new.desk) (Err c.in-Err.refusal)) c.as_str.ensures c.in-Err.ensures.does))),
         c.answer_reply-in-Err.ensures,
       );
       falls = search rules;
