@@ -4,7 +4,7 @@ use Rattle.std.proofs.Math.Seq.{take-append_seam, take-append-add}
 use Rattle.std.proofs.lemmas.List.{length-take, take_all, take-append-drop, take-append-le}
 use Rattle.std.proofs.lemmas.Bool.{le-leb, lt-leb}
 use Rattle.httparse.proofs.GrammarLemmas.{request_unique}
-use Rattle.httparse.specs.Grammar.{HasNoRequest, MayBecomeRequest, NeverHasRequest, ReadsRequest, RequestHead, print_request}
+use Rattle.httparse.specs.Grammar.{EndsInTarget, HasNoRequest, MayBecomeRequest, NeverHasRequest, ReadsRequest, RequestHead, print_request}
 use Rattle.httparse.specs.Spans.{IsRequestOf, IsRequestWithin, RequestExceeds, RequestOverflows}
 use Rattle.httparse.specs.declared.spans.HeaderSpan.{HeaderSpan}
 use Rattle.httparse.specs.declared.spans.RequestSpans.{RequestSpans}
@@ -13,18 +13,18 @@ use Rattle.httparse.specs.declared.Error.TheVariants.{HeaderName, HeaderValue, N
 use Rattle.fr_base.specs.Refusing.{◌>>=◌, ◌>>◌, ◌or◌}
 use Rattle.fr_base.specs.declared.actor.Actor.{Actor}
 use Rattle.fr_base.specs.declared.refusal.Refusal.TheVariants.{UnknownKey}
-use Rattle.fr_http.specs.Complete.{IsCut, IsEnough, IsKnown, IsOpen, Needs, needed}
+use Rattle.fr_http.specs.Complete.{IsCut, IsCutOutcome, IsEnough, IsKnown, IsOpen, Needs, needed}
 use Rattle.fr_http.specs.Head.{BeginsWith, HasNoHead, HeadData, key_of, max_fields, max_head, said}
 use Rattle.fr_http.specs.Outcome.{HeadFails, IsOutcome, Wanted, asked_by, by_engine, continue_if, due, front, holder, interim, outcome_of, plan_of}
 use Rattle.fr_http.specs.Received.{shown}
 use Rattle.fr_http.specs.Routes.{matter_by, method_of, path_of}
 use Rattle.fr_http.specs.declared.asking.Exchange.{Exchange}
 use Rattle.fr_http.specs.declared.asking.Matter.{Matter}
-use Rattle.fr_http.specs.declared.fault.LinkFault.TheVariants.{Truncated}
+use Rattle.fr_http.specs.declared.fault.LinkFault.TheVariants.{NoMemory, ReadFailed, TooManyReads, Truncated, WriteFailed}
 use Rattle.fr_http.specs.declared.fault.Rejection.{Rejection}
-use Rattle.fr_http.specs.declared.fault.Rejection.TheVariants.{BadRequest, HeadTooLarge}
+use Rattle.fr_http.specs.declared.fault.Rejection.TheVariants.{BadRequest, HeadTooLarge, LengthRequired, MethodNotAllowed, NotFound, NotImplemented, PayloadTooLarge}
 use Rattle.fr_http.specs.declared.fault.Unasked.{Unasked}
-use Rattle.fr_http.specs.declared.fault.Unasked.TheVariants.{Engine, Fault, Page, Refused}
+use Rattle.fr_http.specs.declared.fault.Unasked.TheVariants.{Engine, Explained, Fault, Page, Refused}
 use Rattle.fr_http.specs.declared.method.Method.{Method}
 use Rattle.fr_http.proofs.OutcomeLaws.{outcome-one}
 use Rattle.fr_http.proofs.ReadingLaws.{never_head, no_head, receives}
@@ -235,8 +235,38 @@ failed_known bytes Version never many over = never_known bytes (never (λ is. ab
 
 -- ---- where more has to come
 
+-- where bytes may follow that make them a head, and none can, they end in a target
+in_target : (bytes : List ℕ) → MayBecomeRequest bytes → NeverHasRequest bytes → EndsInTarget bytes
+in_target bytes (inl (more, h, reads)) never = absurd (never more h [] reads)
+in_target bytes (inr ends) never = ends
+
+-- what may be said of bytes that are no head yet
+cut_outcome : (bytes : List ℕ) (unasked : Unasked) → MayBecomeRequest bytes → length bytes < max_head → HeadFails bytes unasked → IsCutOutcome bytes (Err unasked)
+cut_outcome bytes (Fault Truncated) may short fails = inl refl
+cut_outcome bytes (Engine BadRequest) may short never = inr (inl (refl, in_target bytes may never, never))
+cut_outcome bytes (Engine HeadTooLarge) may short (inl long) = absurd (omega (arith, long, short))
+cut_outcome bytes (Engine HeadTooLarge) may short (inr many) = inr (inr (refl, many))
+cut_outcome bytes (Engine NotFound) may short fails = absurd fails
+cut_outcome bytes (Engine (MethodNotAllowed methods)) may short fails = absurd fails
+cut_outcome bytes (Engine LengthRequired) may short fails = absurd fails
+cut_outcome bytes (Engine PayloadTooLarge) may short fails = absurd fails
+cut_outcome bytes (Engine NotImplemented) may short fails = absurd fails
+cut_outcome bytes Page may short fails = absurd fails
+cut_outcome bytes (Explained word) may short fails = absurd fails
+cut_outcome bytes (Refused refusal) may short fails = absurd fails
+cut_outcome bytes (Fault ReadFailed) may short fails = absurd fails
+cut_outcome bytes (Fault TooManyReads) may short fails = absurd fails
+cut_outcome bytes (Fault (WriteFailed asked)) may short fails = absurd fails
+cut_outcome bytes (Fault (NoMemory asked)) may short fails = absurd fails
+
+cut_alone : (bytes : List ℕ) → HasNoHead bytes → MayBecomeRequest bytes → length bytes < max_head → (who : List ℕ → Option Actor) (written : List ℕ)
+    (outcome : Result Exchange Unasked) → IsOutcome who bytes written outcome → IsCutOutcome bytes outcome × (written ≡ [])
+cut_alone bytes none may short who written outcome (inl o) = absurd (none o.head o.rest o.begins)
+cut_alone bytes none may short who written outcome (inr o) = (subst (IsCutOutcome bytes) (sym o.asks) (cut_outcome bytes o.unasked may short o.fails), o.interim)
+
 pub open_bytes : (bytes : List ℕ) → HasNoRequest bytes → MayBecomeRequest bytes → length bytes < max_head → IsOpen bytes
 open_bytes bytes none may short = record {
   none = no_head bytes none;
   cut = λ who. inr (record { none = no_head bytes none; unasked = Fault Truncated; fails = (short, may); asks = refl; interim = refl });
+  only = cut_alone bytes (no_head bytes none) may short;
 }
