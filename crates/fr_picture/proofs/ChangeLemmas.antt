@@ -1,5 +1,5 @@
 -- Rows that stand at the places of their slots, and one more.
-use Rattle.std.proofs.Common.{◌≡◌, ℕ, ◌+◌, ◌<◌, Bool, cond, List, [], ◌∷◌, ◌++◌, Option, Some, None, filter, length, get_or, take, refl, sym, ap, ◌∙◌, append-nil, arith, inl, inr, ◌≤◌}
+use Rattle.std.proofs.Common.{◌≡◌, ℕ, ◌+◌, ◌<◌, Bool, cond, List, [], ◌∷◌, ◌++◌, Some, None, filter, length, get_or, take, refl, sym, ap, ◌∙◌, append-nil, arith, inl, inr, ◌≤◌}
 use Rattle.std.proofs.Math.Dec.{eqb}
 use Rattle.std.proofs.Math.ListN.{set}
 use Rattle.std.proofs.lemmas.List.{take_all, take_more}

@@ -1,13 +1,12 @@
 -- Table of changes: a row for each, with its sign, what it is, its frame or node, its supplier, and the rest of it. What a
 -- page says of changes above its drawing.
-use Rattle.std.specs.Prelude.{ℕ, ◌∷◌, ◌++◌, Bool, List, [], codes, decimal, Option, Some, None}
+use Rattle.std.specs.Prelude.{ℕ, ◌∷◌, ◌++◌, List, [], codes, decimal, Option, Some, None}
 use Rattle.std.specs.List.{flat_map}
 use Rattle.fr_base.specs.Channels.{text_of_channel, text_of_channels}
 use Rattle.fr_base.specs.declared.answer.DifferenceRow.{DifferenceRow}
 use Rattle.fr_base.specs.declared.answer.SeenRow.{SeenRow}
 use Rattle.fr_base.specs.declared.answer.SeenRow.TheVariants.{Grant, Frame, Placement, Signal, Gap}
 use Rattle.fr_base.specs.declared.name.Name.{Name}
-use Rattle.fr_base.specs.declared.signal.Signal.{Signal as SignalData}
 use Rattle.fr_picture.specs.declared.changes.Changes.{Changes}
 use Rattle.fr_picture.specs.declared.texts.Fixed.TheVariants as fixed
 use Rattle.fr_picture.specs.ChangeShapes.{sign_of}

@@ -1,4 +1,4 @@
-use Rattle.std.proofs.Common.{◌∙◌, ap, arith, length, slice_index_or}
+use Rattle.std.proofs.Common.{arith}
 use Rattle.fr_picture.proofs.ChangeLemmas.{none_stand, all_stand, standing_more}
 use Rattle.fr_picture.proofs.changes.by_slot.Goals as goal
 
