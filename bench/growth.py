@@ -131,7 +131,7 @@ def asks(key, do, /, **fields):
 def reports(plan):
     """Each report by its name, as the requests that are asked for it; of try there are two."""
     variant = f"v{plan.depth}"
-    of_variant = ("grants", "frames", "schedule", "gaps", "load", "export_frames", "export_placements", "export_signals")
+    of_variant = ("grants", "frames", "schedule", "gaps", "load", "rows", "export_frames", "export_placements", "export_signals")
     for who, key in ("integrator", "integrator1"), ("supplier", "supplier01"):
         for do in "cluster", "variants", "nodes":
             yield f"{do}, {who}", asks(key, do)
@@ -143,6 +143,7 @@ def reports(plan):
     yield "room", asks("supplier01", "room", variant=variant, frame="f1", repetition=64)
     for replace in False, True:
         yield "try" + ", replace" * replace, asks("supplier01", "try", variant=variant, replace=replace, body=file_of(plan, "more", 1))
+    yield "try, whole", asks("supplier01", "try", variant=variant, replace=True, whole=True, body=file_of(plan, "more", 1))
 
 
 def file_of(plan, frame, free):
@@ -150,6 +151,13 @@ def file_of(plan, frame, free):
     slot, channel = lane(plan, 0, plan.lanes() - free)
     placed = (f"{frame}{nth // 8},n1,{slot},{channel},{nth},64\n" for nth in range(ROWS))
     return "frame,node,slot,channels,base,repetition\n" + "".join(placed)
+
+
+def frames_of(plan, more):
+    """All frames of the first supplier, or one more."""
+    others = [f"other{frame}" for frame in range(ROWS // 8)]
+    names = [*(f"f{frame}" for frame in range(plan.frames)), *others, *["onemore"] * more]
+    return "frame,node\n" + "".join(f"{name},n1\n" for name in names)
 
 
 def changes(plan):
@@ -176,6 +184,7 @@ def changes(plan):
         *(supplier("drop_frame", variant=variant, frame=f"more{frame}") for frame in range(ROWS // 8)),
     ]
     yield "replace", lambda nth: [supplier("replace", variant=variant, body=file_of(plan, "other", 2))]
+    yield "replace, whole", lambda nth: [supplier("replace", variant=variant, body=frames_of(plan, nth % 2), whole=True)]
     yield "frames of a page that is read anew", lambda nth: [
         integrator("add_node", supplier="s1", node=f"more{nth}"), supplier("frames", variant=variant)
     ]
@@ -185,6 +194,7 @@ def changes(plan):
     yield "open_variant and release", lambda nth: [
         integrator("open_variant", variant=f"more{nth}", **{"from": "v1"}), integrator("release", variant=f"more{nth}")
     ]
+    yield "open_variant, flat", lambda nth: [integrator("open_variant", variant=f"flat{nth}", **{"from": "v1"}, flat=True)]
 
 
 # ---- what it takes

@@ -3,10 +3,10 @@
 
 One supplier has 256 frames of 8 placements, and every slot on both channels; one frame has 7, so that there is room for it. The variant is released, and
 in a variant that was opened from it each fourth frame has another placement. The room for the frame stands beside the gaps, the load beside the grants,
-the differences beside the frames of both variants, an export beside the frames. Then a file of 512 placements is sent, as a replacement and as a trial
-of one, beside the import of as many rows into a variant without frames. The plan is in a file, and `ask` answers the requests. The processor time is
-that of the whole run less that of a run without requests, each the least of three, in milliseconds a request; beside it stands the length of its answer.
-Like all of bench/, it promises nothing."""
+the rows and an export beside the frames, the differences beside the frames of both variants. Then a file of 512 placements is sent: as a replacement,
+as a trial of one, and whole, with other rows, the same rows and one row changed. It stands beside the import of as many rows into a variant without
+frames. The plan is in a file, and `ask` answers the requests. The processor time is that of the whole run less that of a run without requests, each
+the least of three, in milliseconds a request; beside it stands the length of its answer. Like all of bench/, it promises nothing."""
 import argparse
 import shutil
 import subprocess
@@ -55,9 +55,9 @@ def plan():
         yield line(KEY, "place", variant="new", frame=f"frame{frame}", **{**at, "base": at["base"] + 32})
 
 
-def rows(turn):
-    """A file of 512 placements of 64 frames. The next turn's has other cells."""
-    cells = (cell(row + turn * ROWS, FEW) for row in range(ROWS))
+def rows(turn, moved=0):
+    """A file of 512 placements of 64 frames. The next turn's has other cells; so have the last rows, where some are moved."""
+    cells = (cell(row + (turn or row >= ROWS - moved) * ROWS, FEW) for row in range(ROWS))
     records = (f"frame{row // PLACEMENTS},node0,{at['slot']},A,{at['base']},{CYCLES}" for row, at in enumerate(cells))
     return "".join(f"{it}\n" for it in ("frame,node,slot,channels,base,repetition", *records))
 
@@ -73,10 +73,11 @@ def reports(count):
         "grants": ("grants", new),
         "load": ("load", new),
         "frames": ("frames", new),
+        "rows": ("rows", new),
         "differences": ("diff", {**new, "from": "old"}),
         "export of placements": ("export_placements", dict(new, part=0)),
     }
-    beside = {"room": "gaps", "load": "grants", "differences": "frames", "export": "frames"}
+    beside = {"room": "gaps", "load": "grants", "rows": "frames", "differences": "frames", "export": "frames"}
     for name, (do, fields) in asked.items():
         asks = count // LONG if fields.get("repetition") == CYCLES else count
         yield name, beside.get(name.split()[0].strip(",")), [line(KEY, do, **fields)] * asks
@@ -87,6 +88,10 @@ def files():
     yield "import of 512 rows", None, [line(KEY, "import", variant=f"v{n}", label=f"a{n}", body=rows(0)) for n in range(VARIANTS)]
     yield "replacement", "import of 512 rows", [line(KEY, "replace", variant="v0", body=rows(n % 2)) for n in range(VARIANTS)]
     yield "trial", "import of 512 rows", [line(KEY, "try", variant="v0", body=rows(0), replace=True)] * VARIANTS
+    whole = [line(KEY, "replace", variant="v0", body=body, whole=True) for body in (rows(0), rows(1), rows(0, 1))]
+    yield "whole, other rows", "import of 512 rows", [whole[n % 2] for n in range(VARIANTS)]
+    yield "whole, the same rows", "import of 512 rows", [whole[0]] * VARIANTS
+    yield "whole, one row changed", "import of 512 rows", [whole[n % 2 * 2] for n in range(VARIANTS)]
 
 
 class Table:

@@ -4,12 +4,12 @@
 MIX is one of
   plan      each command but add_supplier and set_key, as integrator and suppliers plan; few are refused
   refused   requests that are refused, for nearly each reason that there is, over a small plan
-  queries   grants, frames, schedules, gaps, layouts and what the register holds, of a small plan, for the integrator and for suppliers
+  queries   grants, frames, schedules, gaps, layouts, rows and what the register holds, of a small plan, for the integrator and for suppliers
   place     each request is a placement, on a variant that fills up
   imports   files of up to 20 rows, of placements or signals; some come again, some have a row that is refused
   joining   plan, refused and queries, while suppliers join until no more may
-  revising  exports, loads, rooms, replacements and changed keys, between steps of the plan
-  comparing differences of variants, and tries of files, which often come themselves next; variants are released and opened between them
+  revising  exports, loads, rooms, replacements, of which some are whole, and changed keys, between steps of the plan
+  comparing rows and differences of variants, and tries of files, which often come themselves next; variants are released and opened between them
   all       plan, refused, queries and imports, mixed line by line
 """
 import argparse
@@ -25,7 +25,7 @@ SUPPLIERS = 64
 DEPTH = 16
 PAYLOAD_BITS = 16 * 16
 HELD = ("cluster", "variants", "nodes")
-QUERIES = ("grants", "frames", "schedule", "gaps", "layout")
+QUERIES = ("grants", "frames", "schedule", "gaps", "layout", "rows")
 EXPORTS = ("export_frames", "export_placements", "export_signals")
 
 
@@ -92,18 +92,20 @@ class Plan:
                 yield from (self.grant(variant, supplier, n) for n in range(NODES))
                 yield from (self.add_frame(variant, supplier, n % NODES) for n in range(frames))
 
-    def open_variant(self, parent=None):
-        """An empty variant, or one that has all that stands in its parent."""
+    def open_variant(self, parent=None, flat=False):
+        """An empty variant, or one that has all that stands in its parent; or in one that is not its parent, where it is opened flat."""
         variant = f"v{len(self.depth)}"
         self.variants.append(variant)
         if parent:
             self.parents[variant] = parent
-        self.depth[variant] = 1 + self.depth.get(parent, 0)
+        self.depth[variant] = 1 if flat else 1 + self.depth.get(parent, 0)
         self.granted[variant] = self.granted.get(parent, 0)
         for rows in (self.held, self.frames, self.placed, self.signals):
             rows.update({(variant, *key[1:]): list(of) for key, of in rows.items() if key[0] == parent})
         self.named.update({(variant, key[1]): named for key, named in self.named.items() if key[0] == parent})
         fields = {"from": parent} if parent else {}
+        if flat or self.dice.random() < 0.2:
+            fields["flat"] = flat
         return self.line(None, "open_variant", variant=variant, **fields)
 
     def release(self):
@@ -175,13 +177,54 @@ class Plan:
         return self.line(supplier, "import", **fields)
 
     def a_replacement(self, variant, supplier):
-        """A file of some frames, each with some rows; now and then with a row at its end that is none, or is another supplier's."""
+        """A file of some frames, each with some rows; now and then with a row at its end that is none, or is another supplier's. Or a whole one."""
+        if self.dice.random() < 0.4:
+            return self.a_whole_replacement(variant, supplier)
         placements = "frame,node,slot,channels,base,repetition", self.revised_placement
         header, row = self.dice.choice((("frame,node", self.frame_row), placements, placements, ("frame,signal,start,length,order", self.revised_signal)))
         frames = self.dice.sample(self.frames[variant, supplier], min(len(self.frames[variant, supplier]), self.dice.choice((0, 1, 1, 2, 3))))
         rows = [row(variant, supplier, *frame) if row != self.frame_row else row(variant, supplier) for frame in frames for _ in range(self.dice.choice((1, 1, 2, 3)))]
         rows += self.dice.choice(([], [], [], [], ["frame0"], ["nothing,nothing"], [f"{'nothing,' * header.count(',')}0"]))
         return self.line(supplier, "replace", variant=variant, body="".join(f"{line}\n" for line in [header, *rows]))
+
+    def a_whole_replacement(self, variant, supplier):
+        """A file that is sent whole: of all frames but some, of which one may be new or another node's; of placements or signals of some frames; or none of
+        these. Now and then a row is none."""
+        frames = self.frames[variant, supplier]
+        header, rows = self.dice.choice((
+            lambda: ("frame,node", self.whole_frames(variant, supplier)),
+            lambda: ("frame,node,slot,channels,base,repetition", self.whole_placements(variant, supplier)),
+            lambda: ("frame,signal,start,length,order", [self.revised_signal(variant, supplier, *it) for it in frames if self.dice.random() < 0.5]),
+            lambda: (self.dice.choice(("frame,node", "frame,node,slot,channels,base,repetition", "frame,signal,start,length,order", "frame", "")), []),
+        ))()
+        if self.dice.random() < 0.15:
+            rows.insert(self.dice.randrange(len(rows) + 1), self.dice.choice(("frame0", "nothing,nothing", f"{'nothing,' * header.count(',')}0")))
+        return self.line(supplier, "replace", variant=variant, body="".join(f"{line}\n" for line in [header, *rows]), whole=True)
+
+    def whole_frames(self, variant, supplier):
+        """Each frame with its node, but one that goes, one that moves to another node, and one that comes, where there are such."""
+        frames = self.frames[variant, supplier]
+        if self.dice.random() < 0.4:
+            frames.pop(self.dice.randrange(len(frames)))
+        if frames and self.dice.random() < 0.2:
+            frame, _ = frames.pop()
+            frames.append((frame, self.dice.randrange(NODES)))
+        if not frames or self.dice.random() < 0.3:
+            named = self.named.get((variant, supplier), 0)
+            self.named[variant, supplier] = named + 1
+            frames.append((f"frame{named}", self.dice.randrange(NODES)))
+        rows = [f"{frame},node{node}" for frame, node in frames]
+        self.dice.shuffle(rows)
+        return rows
+
+    def whole_placements(self, variant, supplier):
+        """Of some frames; they are then those that were asked for."""
+        frames = [it for it in self.frames[variant, supplier] if self.dice.random() < 0.6]
+        rows = [self.revised_placement(variant, supplier, *frame) for frame in frames for _ in range(self.dice.choice((1, 1, 2)))]
+        of_rows = (dict(zip(("frame", "slot", "channels", "base", "repetition"), (frame, int(slot), channels, int(base), int(repetition))))
+                   for frame, _, slot, channels, base, repetition in (row.split(",") for row in rows))
+        self.placed[variant, supplier] = list(of_rows)
+        return rows
 
     def revised_placement(self, variant, supplier, frame, node):
         """In a slot of the frame's node, or now and then of another one."""
@@ -199,7 +242,8 @@ class Plan:
         rows = [it for it in self.dice.sample(placed, min(len(placed), 5)) if it["frame"] in nodes]
         lines = [f"{it['frame']},node{nodes[it['frame']]},{it['slot']},{it['channels']},{it['base']},{it['repetition']}" for it in rows]
         lines.insert(self.dice.randrange(len(lines) + 1), "none")
-        return self.line(supplier, "try", variant=variant, replace=True, body="\n".join(["frame,node,slot,channels,base,repetition", *lines]))
+        given = {"whole": self.dice.random() < 0.7} if self.dice.random() < 0.5 else {}
+        return self.line(supplier, "try", variant=variant, replace=True, **given, body="\n".join(["frame,node,slot,channels,base,repetition", *lines]))
 
     def some_file(self, variant, supplier):
         """A file that is tried as an import or as a replacement; often it comes itself next, sometimes with some lines changed."""
@@ -215,7 +259,14 @@ class Plan:
             more = self.dice.choice(("", "frame0", "nothing,nothing", "0" * 11, header, *rows))
             rows.insert(self.dice.randrange(len(rows)), more)
         given = {"replace": replaces} if replaces or self.dice.random() < 0.5 else {}
+        if "whole" in fields or self.dice.random() < 0.1:
+            given["whole"] = fields.get("whole", False) if self.dice.random() < 0.95 else True
         return self.line(supplier, "try", variant=variant, **given, body="\n".join([header, *rows]))
+
+    def some_rows(self):
+        """Of a variant; now and then of one that is not there."""
+        variant = self.dice.choice(list(self.depth)) if self.dice.random() < 0.95 else self.dice.choice(("nowhere", "1v", ""))
+        return self.line(self.dice.choice((None, *self.suppliers)), "rows", variant=variant)
 
     def a_difference(self):
         """Of two variants, of which one was often opened from the other; now and then of one that is not there."""
@@ -228,15 +279,17 @@ class Plan:
         return self.line(self.dice.choice((None, *self.suppliers)), "diff", **dict(zip(("variant", "from"), both)))
 
     def comparing(self):
-        """A difference, a try, or the file that was tried; else a variant is released and another one opened from it, or a step of the plan."""
+        """Rows, a difference, a try, or the file that was tried; else a variant is released and another one opened from it, or a step of the plan."""
         if self.next:
             return self.next.pop(0)
         kind, variant, supplier = self.dice.random(), self.dice.choice(self.variants), self.dice.choice(self.suppliers)
-        if kind < 0.02 and len(self.depth) < VARIANTS and self.depth[variant] < DEPTH:
+        if kind < 0.02 and len(self.depth) < VARIANTS:
             self.variants.remove(variant)
             self.released.append(variant)
-            self.next.append(self.open_variant(variant))
+            self.next.append(self.open_variant(variant, self.depth[variant] == DEPTH or self.dice.random() < 0.25))
             return self.line(None, "release", variant=variant)
+        if kind < 0.05:
+            return self.some_rows()
         if kind < 0.22:
             return self.a_difference()
         if kind < 0.62 and self.frames.get((variant, supplier)) and all(self.held.get((variant, supplier, node)) for node in range(NODES)):
@@ -298,8 +351,8 @@ class Plan:
         if kind < 0.005 and len(self.variants) > 2:
             return self.release()
         if kind < 0.015 and len(self.depth) < VARIANTS:
-            parents = [parent for parent in self.released if self.depth[parent] < DEPTH]
-            return self.open_variant(self.dice.choice([None, *parents[-1:]]))
+            parent = self.dice.choice([None, *self.released[-1:]])
+            return self.open_variant(parent, bool(parent) and (self.depth[parent] == DEPTH or self.dice.random() < 0.3))
         if (variant, supplier, node) not in self.held or (kind < 0.1 and self.granted[variant] < 2 * SLOTS):
             return self.grant(variant, supplier, node)
         if not frames or (kind < 0.3 and len(frames) < FRAMES):
@@ -367,6 +420,9 @@ class Plan:
             lambda: self.line(None, "add_node", supplier=supplier, node="node0"),
             lambda: self.line(None, "grant", **{**grant, "node": "node3"}),
             lambda: self.line(None, "open_variant", **{"variant": "other", "from": variant}),
+            lambda: self.line(None, "open_variant", **{"variant": "other", "from": variant}, flat=True),
+            lambda: self.line(None, "open_variant", variant="other", flat=True),
+            lambda: self.line(None, "open_variant", variant="other", flat=0),
             lambda: self.line(None, "revoke", variant=variant, slot=SLOTS, channel="B", supplier=supplier),
             lambda: self.line(supplier, "unplace", **{**place, "base": self.cycles - 1}),
             lambda: self.line(supplier, "drop_frame", variant=variant, frame="nothing"),

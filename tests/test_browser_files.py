@@ -112,11 +112,11 @@ class Replacements(FileCase):
     WALK = "FRAME walkers front_camera\nAT 0017 AB {}\n"
     DIALOG = "return document.getElementById('dialog').open && document.getElementById('dialog').textContent"
 
-    def replacement(self, name, content, rows):
+    def replacement(self, name, content, rows, way="replace"):
         """A file is to take the place of what was there."""
         self.file(name, content)
         self.fates(rows)
-        self.browser.click("input[value=replace]")
+        self.browser.click(f"input[value={way}]")
         self.browser.wait("what would be gone", "return document.getElementById('gone')")
         self.rests()
         return self.seen("#gone")
@@ -181,6 +181,116 @@ class Replacements(FileCase):
         self.browser.press("Replace", "#dialog")
         self.says("1 row of walk.csv took the place")
         self.see("the register has it", True, self.WALK.format("01 02") in self.frames())
+
+
+class Whole(Replacements):
+    """A file is all that there is of its kind: what it does not have is gone, once that was shown, asked for, and read once more."""
+
+    FRAMES = "frame,node\n"
+
+    def exported(self, kind):
+        return self.api.get(CAMERA, f"variants/my29/exports/{kind}/0")
+
+    def agreed(self, words):
+        self.asked()
+        self.browser.press("Replace", "#dialog")
+        return self.says(words)
+
+    def test_placements(self):
+        placements, signals = self.exported("placements"), self.exported("signals")
+        file = "".join(line for line in placements.splitlines(True) if not line.startswith(("signs,", "walkers,"))) + "walkers,front_camera,17,AB,1,2\n"
+        would = self.replacement("week.csv", file, 8, "whole")
+        self.see("how many would be gone", "3 placements would be gone:", would[:27])
+        gone = {"signs in slot 12 A, base 0, repetition 8", "signs in slot 12 B, base 4, repetition 8", "walkers in slot 17 AB, base 0, repetition 2"}
+        self.see("these", gone, self.gone())
+        self.asked()
+        self.browser.press("Cancel", "#dialog")
+        self.rests()
+        self.see("nothing is sent where it is not wanted", placements, self.exported("placements"))
+        told = self.agreed("8 rows of week.csv are all placements now.")
+        self.see(f"{told!r} tells of nobody else", False, "Somebody" in told)
+        self.see("what is taken is what was sent", sorted(file.splitlines()), sorted(self.exported("placements").splitlines()))
+        self.see("signals stay", signals, self.exported("signals"))
+        would = self.replacement("week.csv", file, 8, "whole")
+        self.see("of the same file", "Nothing would be gone.", would)
+        self.carried("8 rows of week.csv are all placements now.")
+
+    def test_signals(self):
+        file = SIGNALS + "walkers,count,0,8,little\nsigns,kind,0,6,little\n"
+        count = self.exported("signals").count("\n") - 1
+        would = self.replacement("bits.csv", file, 2, "whole")
+        self.see("how many would be gone", f"{count - 2} signals would be gone:", would[: len(f"{count - 2} signals would be gone:")])
+        self.agreed("2 rows of bits.csv are all signals now.")
+        self.see("what is taken", SIGNALS + "signs,kind,0,6,little\nwalkers,count,0,8,little\n", self.exported("signals"))
+
+    def test_frames(self):
+        """A frame is taken out, one is renamed, and a third one comes; with a frame go its placements and signals."""
+        file = self.exported("frames").replace("walkers,front_camera\n", "").replace("signs,", "signs_2,") + "dusk,front_camera\n"
+        would = self.replacement("frames.csv", file, 10, "whole")
+        self.see("how many would be gone", "2 frames, 3 placements, 4 signals would be gone:", would[:48])
+        self.see("some of these", True, {"signs, sent by front_camera", "walkers in slot 17 AB, base 0, repetition 2", "signs, limit: 8 bits from bit 8, little"} <= self.gone())
+        told = self.agreed("10 rows of frames.csv are all frames now.")
+        self.see(f"{told!r} tells of nobody else", False, "Somebody" in told)
+        self.see("what is taken is what was sent", sorted(file.splitlines()), sorted(self.exported("frames").splitlines()))
+        rest = [line.partition(",")[0] for kind in ("placements", "signals") for line in self.exported(kind).splitlines()[1:]]
+        self.see("rows of frames that are gone", set(), {"signs", "signs_2", "walkers", "dusk"} & set(rest))
+        self.see("rows of the others", 7 + 26, len(rest))
+
+    def test_nothing_would_be_gone(self):
+        file = self.exported("frames")
+        self.see("what would be gone", "Nothing would be gone.", self.replacement("frames.csv", file, 10, "whole"))
+        self.carried("10 rows of frames.csv are all frames now.")
+        self.see("the same", file, self.exported("frames"))
+
+    def test_all_would_be_gone(self):
+        """Below a header alone all goes."""
+        would = self.replacement("none.csv", HEADER, 0, "whole")
+        self.see("how many would be gone", "10 placements would be gone:", would[:28])
+        self.agreed("0 rows of none.csv are all placements now.")
+        self.see("nothing is left", HEADER, self.exported("placements"))
+
+    def test_a_colleague(self):
+        """A row that a colleague added to a frame that would go is not taken away unseen; nor is a frame that is new."""
+        file = self.exported("frames").replace("walkers,front_camera\n", "")
+        self.replacement("frames.csv", file, 9, "whole")
+        self.asked()
+        place = {"do": "place", "variant": "my29", "frame": "walkers", "slot": 12, "channels": "A", "base": 2, "repetition": 8}
+        self.see("a colleague places it too", {"ok": "done"}, self.api.command(CAMERA, **place))
+        self.browser.press("Replace", "#dialog")
+        told = self.says("Nothing was sent: what would be gone has changed meanwhile.")
+        self.see(f"{told!r} says whose it is", True, "Somebody else changed 1 frame (walkers) meanwhile" in told)
+        self.see("it is shown now", True, "walkers in slot 12 A, base 2, repetition 8" in self.gone())
+        self.see("a colleague adds a frame", {"ok": "done"}, self.api.command(CAMERA, do="add_frame", variant="my29", frame="dusk", node="front_camera"))
+        frames = self.frames()
+        self.asked()
+        self.browser.press("Replace", "#dialog")
+        self.says("Nothing was sent: what would be gone has changed meanwhile.")
+        self.see("all is there still", frames, self.frames())
+        self.see("the new one is shown", True, "dusk, sent by front_camera" in self.gone())
+        self.agreed("9 rows of frames.csv are all frames now.")
+        self.see("what is taken", file, self.exported("frames"))
+
+    def test_last_week(self):
+        """Three files that were taken bring back what was there then."""
+        last_week = {kind: self.exported(kind) for kind in ("frames", "placements", "signals")}
+        for lines in {"do": "drop_frame", "frame": "signs"}, {"do": "add_frame", "frame": "dusk", "node": "front_camera"}, {"do": "drop_signal", "frame": "walkers", "signal": "count"}:
+            self.see("a week's work", {"ok": "done"}, self.api.command(CAMERA, variant="my29", **lines))
+        for kind, file in last_week.items():
+            rows = file.count("\n") - 1
+            would = self.replacement(f"{kind}.csv", file, rows, "whole")
+            if would == "Nothing would be gone.":
+                self.carried(f"{rows} rows of {kind}.csv are all {kind} now.")
+            else:
+                self.agreed(f"{rows} rows of {kind}.csv are all {kind} now.")
+        self.see("it is last week's", last_week, {kind: self.exported(kind) for kind in last_week})
+
+    def test_what_is_sent(self):
+        """A file that is sent whole goes by the routes for that alone, and rows are read before it goes."""
+        self.replacement("none.csv", SIGNALS, 0, "whole")
+        self.browser.requests()
+        self.agreed("0 rows of none.csv are all signals now.")
+        paths = [(it["method"], it["url"].partition("/v1/")[2]) for it in self.browser.requests() if "/v1/" in it["url"]]
+        self.see("what is asked", [("GET", "variants/my29/rows"), ("PUT", "variants/my29/rows/whole"), ("GET", "variants/my29/rows")], paths)
 
 
 class OfSpreadsheets(FileCase):
@@ -248,6 +358,7 @@ class ManyRows(FileCase):
         rows = SIGNALS + "".join(f"{frame},bit_{bit:02},{bit},1,little\n" for bit in range(60) for frame in frames)
         self.file("signals.csv", rows)
         self.see("it goes in parts", True, "in 3 parts" in self.told())
+        self.see("a part is not sent whole", [], self.browser.run("return [...document.querySelectorAll('input[value=whole]')]"))
         for number, count in self.PARTS:
             self.next_part(f"document.getElementById('label')?.value === 'signals_{number}'")
             self.carried(f"{count} rows of signals.csv imported")

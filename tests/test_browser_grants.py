@@ -214,7 +214,30 @@ class ClusterView(GrantCase):
             self.says(words)
         self.form("Openavariant", name="my28")
         self.says("Exists (19)")
+        self.browser.choose("#form-Openavariant-from", "with the rows of my28")
+        self.browser.click("#flat")
+        self.form("Openavariant", name="my29")
+        self.says("Exists (19)")
         self.see("no supplier has joined", False, "lights" in self.api.get(BOSS, "cluster"))
+
+    def test_flat(self):
+        """A variant is opened flat by a tick, which is there where it begins with the rows of another one."""
+        self.view("manage")
+        disabled = "return document.getElementById('flat').disabled"
+        self.see("a tick for an empty variant", True, self.browser.run(disabled))
+        self.browser.choose("#form-Openavariant-from", "with the rows of my28")
+        self.see("a tick for one with rows", False, self.browser.run(disabled))
+        self.browser.click("#flat")
+        self.form("Openavariant", name="flat30")
+        self.says("flat30 is open.")
+        self.see("the figures", True, self.seen("#figures").endswith("flat30: depth 1, without a parent."))
+        self.see("the variants", "flat30 - 1 open\nmy28 - 1 released\nmy29 my28 2 open\n", self.api.get(BOSS, "variants"))
+        self.see("what differs", "", self.api.get(BOSS, "variants/flat30/since/my28"))
+        self.see("the tick is gone", (True, False), (self.browser.run(disabled), self.browser.run("return document.getElementById('flat').checked")))
+        self.browser.choose("#form-Openavariant-from", "with the rows of my28")
+        self.form("Openavariant", name="my30")
+        self.says("my30 is open.")
+        self.see("one that is not flat", True, "my30 my28 2 open\n" in self.api.get(BOSS, "variants"))
 
     def test_keys(self):
         """A key that is made up has 24 letters and digits, is the supplier's from then on, and the page asks before it changes one."""

@@ -4,6 +4,8 @@ import json
 
 from tests.lib.stranger import CLUSTER, GOOD, LISTED, TOLD, StrangerCase
 
+ROWS = GOOD["rows"]
+
 EVIL = '<img src=x onerror="window.hacked=1"><script>window.hacked=1</script>'
 # Reports that no register tells, by their names.
 REPORTS = {
@@ -21,20 +23,24 @@ REPORTS = {
     ],
     "nodes": [EVIL, f"n1 {EVIL}\n", "n1\n\n"],
     "variants": [EVIL, f"{EVIL} - 1 open\n", "v1 - 1 <b>\n", f"v1 {EVIL} 2 open\n", "v1 - 1 open \n"],
-    "grants": [EVIL, f"0001 A {EVIL}\n", "9999 A n1\n", "0000 A n1\n", "0001 C n1\n"],
-    "frames": [
+    "rows": [
         EVIL,
-        f"FRAME {EVIL} n1\n",
+        *(line for word in ("constructor", "__proto__", "toString", "+ FRAME", "frame") for line in (f"{word} f1 n1\n", f"{ROWS}{word}\n")),
+        *(f"{kind} {EVIL}\n" for kind in ("GRANT 0001 A", "FRAME", "FRAME f1", "AT", "SIGNAL f1 0000 08 little", "GAP     200")),
+        *(f"GRANT {lane} n1\n" for lane in ("9999 A", "0000 A", "0001 C", "0001 AB")),
         "FRAME f1 constructor.prototype\n",
-        "AT 0001 A 00 02\n",
-        "FRAME f1 n1\nAT 0001 A 00 00\n",
-        "FRAME f1 n1\nAT 0001 A 05 02\n",
-        "FRAME f1 n1\nAT 0001 A 00 03\n",
-        "FRAME f1 n1\nAT 0002 A 00 02\n",
-        "FRAME f1 n1\nAT 0009 A 00 02\n",
-        "FRAME f1 n1\nAT 0001 A 00 02\nAT 0001 A 00 04\n",
+        "AT f1 0001 A 00 02\n",
+        "SIGNAL f1 0000 08 little x\n",
+        "GAP     200 f1\n",
+        ROWS.partition("GAP")[0],
+        *(ROWS.replace("0001 A 00 02", where) for where in ("0001 A 00 00", "0001 A 05 02", "0001 A 00 03", "0002 A 00 02", "0009 A 00 02", "0001 AB 00 02")),
+        *(ROWS.replace("     200", gap) for gap in ("     400", "   never", " 99999999999")),
+        *(ROWS.replace(line, line + more) for line, more in (("AT f1 0001 A 00 02\n", "AT f1 0001 A 00 04\n"), ("FRAME f1 n1\n", "FRAME f1 n2\n"))),
+        ROWS + "GAP     200 f1\n",
+        ROWS + "GAP   never f2\n",
+        ROWS.replace("\n", " s1\n"),
+        ROWS.replace("little x", "middle x"),
     ],
-    "gaps": [EVIL, f"GAP     200 {EVIL}\n", "GAP 99999999999 f1\n"],
 }
 # Answers to a command, each given with the status of a refusal and as if it were carried out.
 ANSWERS = [
@@ -89,17 +95,16 @@ class Hostile(HostileCase):
                 self.see(f"{what}: the page says something", True, bool(self.browser.run(TOLD)))
 
     def test_names(self):
-        """Texts that are no names, told alike by all reports, so that these fit together."""
+        """Texts that are no names, told alike in all rows, so that these fit together."""
         for name in "<b>x</b>", "f-1", "1f", "f\u0430", "f" * 33, "f1\u202e", "__proto__":
-            frames, gaps = f"FRAME {name} n1\nAT 0001 A 00 02\n", f"GAP     200 {name}\n"
-            self.answer(frames=frames, gaps=gaps)
+            self.answer(rows=ROWS.replace("f1", name))
             self.is_clean(f"the frame {name!r}", listed=0)
-            grants, frames = f"0001 A {name}\n", f"FRAME f1 {name}\nAT 0001 A 00 02\n"
-            self.answer(nodes=f"{name}\n", grants=grants, frames=frames)
+            self.answer(rows=ROWS.replace("little x", f"little {name}"))
+            self.is_clean(f"the signal {name!r}", listed=0)
+            self.answer(nodes=f"{name}\n", rows=ROWS.replace("n1", name))
             self.is_clean(f"the node {name!r}", listed=0)
             self.see(f"{name!r}: the page says something", True, bool(self.browser.run(TOLD)))
-        longest = "f" * 32
-        self.answer(frames=f"FRAME {longest} n1\nAT 0001 A 00 02\n", gaps=f"GAP     200 {longest}\n")
+        self.answer(rows=ROWS.replace("f1", "f" * 32))
         self.see("the longest name is one", 1, self.plan_of_one())
 
     def test_answers(self):
@@ -115,10 +120,9 @@ class Hostile(HostileCase):
                 self.see(f"{what}: it is no success", False, self.browser.run("return document.getElementById('message').classList.contains('good')"))
 
     def test_behind_a_plan(self):
-        """Rooms, signals, differences, fates, exports and pictures, each shown as text or refused."""
+        """Rooms, differences, fates, exports and pictures, and rows that are read anew, each shown as text or refused."""
         evil_fates = json.dumps({"ok": "try", "lines": [EVIL]})
         self.answer(
-            layout=(200, "text/html", f"0000 08 little {EVIL}\n"),
             room=(200, "text/html", EVIL),
             since=(200, "text/html", f"+ FRAME {EVIL} n1\n"),
             tries=(200, "application/json", evil_fates),
@@ -127,8 +131,6 @@ class Hostile(HostileCase):
         )
         browser = self.browser
         browser.click("#frames button")
-        browser.wait("the signals' fault", "return document.getElementById('detail').textContent.includes('line that no report has')")
-        self.is_clean("signals")
         browser.click("#show-room")
         self.says("line that no report has")
         self.is_clean("room")
@@ -143,6 +145,14 @@ class Hostile(HostileCase):
         for kind in "picture.html", "placements.csv":
             browser.press(kind, "#view-files")
             self.is_clean(kind)
+        self.answers["rows"] = f"FRAME {EVIL} n1\n"
+        self.file("evil.csv", "frame,node\n" + EVIL + ",n1\n")
+        browser.click("input[value=whole]")
+        self.says("line that no report has")
+        self.is_clean("what would be gone")
+        browser.click("#reload")
+        self.says("line that no report has")
+        self.is_clean("a plan that is read anew")
 
     def test_file_names(self):
         """A file's own name and rows are texts too."""

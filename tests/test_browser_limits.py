@@ -1,6 +1,6 @@
 """The planners' page with a plan at the limits, in a browser: 1,023 slots on both channels, 64 suppliers with 256 frames each, 130,944 placements.
 
-A register takes minutes to be asked for so many rows, so a server tells the reports of such a plan, which are made here by rule."""
+A register takes minutes to be asked for so many rows, so a server tells the rows of such a plan, which are made here by rule."""
 from tests.lib.stranger import NOT_YOURS, StrangerCase
 
 SUPPLIERS, LANES, CYCLES, PLACEMENTS = 64, 2046, 64, 8
@@ -37,22 +37,23 @@ def gap(sent):
 
 
 def reports():
-    """What a register tells its integrator of such a plan."""
-    grants, frames, gaps, count = [], [], [], 0
+    """What a register tells its integrator of such a plan. It has no signals."""
+    grants, frames, placements, gaps, count = [], [], [], [], 0
     for number, name in enumerate(NAMES):
         all_cells = cells(number)
         count += len(all_cells)
-        grants += [f"{lane // 2 + 1:04} {'AB'[lane % 2]} node_{name} {name}" for lane in range(number * 32, min(number * 32 + 32, LANES))]
+        grants += [f"GRANT {lane // 2 + 1:04} {'AB'[lane % 2]} node_{name} {name}" for lane in range(number * 32, min(number * 32 + 32, LANES))]
         for first in range(0, len(all_cells), PLACEMENTS):
             frame = f"frame_{name}_{first // PLACEMENTS:03}"
             frames.append(f"FRAME {frame} node_{name} {name}")
-            frames += [f"AT {lane // 2 + 1:04} {'AB'[lane % 2]} {cycle:02} 64" for lane, cycle in sorted(all_cells[first : first + PLACEMENTS])]
+            sent = sorted(all_cells[first : first + PLACEMENTS])
+            placements += [f"AT {frame} {lane // 2 + 1:04} {'AB'[lane % 2]} {cycle:02} 64 {name}" for lane, cycle in sent]
             gaps.append(f"GAP {gap(all_cells[first : first + PLACEMENTS]):>7} {frame} {name}")
     text = lambda lines: "".join(f"{line}\n" for line in lines)
     cluster = [*(f"{key} {value}" for key, value in FIGURES.items()), *(f"supplier {name}" for name in NAMES)]
     told = {
         "cluster": text(cluster), "nodes": text(f"node_{name} {name}" for name in NAMES), "variants": "full - 1 open\n",
-        "grants": text(grants), "frames": text(frames), "gaps": text(gaps), "room": NOT_YOURS, "layout": "",
+        "rows": text([*grants, *frames, *placements, *gaps]), "room": NOT_YOURS,
     }
     return told, count
 

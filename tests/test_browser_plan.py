@@ -321,7 +321,7 @@ class OthersAtWork(PlannerCase):
         """Reload tells what somebody else changed, and that nothing was where nothing was."""
         browser = self.enter(CAMERA)
         browser.click("#reload")
-        self.says("No frame, no lane and no variant has changed.")
+        self.says("No frame, no signal, no lane and no variant has changed.")
         self.done(CAMERA, do="drop_frame", frame="signs")
         browser.click("#reload")
         self.says("Somebody else changed 1 frame (signs) meanwhile")
@@ -356,7 +356,7 @@ class OthersAtWork(PlannerCase):
         browser.click("#reload")
         self.says("Somebody else changed 1 signal (quicker of night_view) meanwhile")
         browser.click("#reload")
-        self.says("No frame, no lane and no variant has changed, nor a signal of night_view.")
+        self.says("No frame, no signal, no lane and no variant has changed.")
 
     def test_the_grant_is_gone(self):
         browser = self.enter(CAMERA)

@@ -25,7 +25,7 @@ class SuppliersWeek(PlannerCase):
 
     def test_by_mouse(self):
         self.enter(LIGHTS, frames=False)
-        for day in self.monday, self.tuesday, self.wednesday, self.thursday, self.friday:
+        for day in self.monday, self.tuesday, self.wednesday, self.thursday, self.friday, self.next_monday:
             day(self.browser)
         self.see("what is new in sport", printed(f"call lightsKey1 {SINCE}"), self.api.get(LIGHTS, SINCE))
 
@@ -73,6 +73,28 @@ class SuppliersWeek(PlannerCase):
         self.view("files")
         browser.press("picture.html", "#view-files")
         self.see("the picture", self.api.get(LIGHTS, "variants/sport/picture"), browser.taken("sport.html"))
+
+    def next_monday(self, browser):
+        """A frame goes with its row, and last week comes back by its three files."""
+        files = {}
+        for kind in "frames", "placements", "signals":
+            browser.press(f"{kind}.csv", "#view-files")
+            files[kind] = browser.taken(f"sport_{kind}.csv")
+        self.sends_whole("frames", files["frames"].replace("high_beam,lamp_unit\n", ""), 2, "1 frame, 1 placement, 1 signal would be gone")
+        self.see("all rows", printed("call lightsKey1 variants/sport/rows"), self.api.get(LIGHTS, "variants/sport/rows"))
+        for kind, content in files.items():
+            self.sends_whole(kind, content, content.count("\n") - 1)
+
+    def sends_whole(self, kind, content, rows, gone=""):
+        """A file is all that there is of its kind; the page asks where something would be gone."""
+        self.file(f"{kind}.csv", content)
+        self.browser.click("input[value=whole]")
+        self.rests()
+        self.browser.press(f"Replace all by {rows} rows", "#view-files")
+        if gone:
+            self.browser.wait(gone, "return document.getElementById('dialog').open && document.getElementById('dialog').textContent.includes(arguments[0])", gone)
+            self.browser.press("Replace", "#dialog")
+        self.says(f"{rows} rows of {kind}.csv are all {kind} now.")
 
     def places(self, frame, base, repetition):
         """Adds a frame and places it, by keys."""

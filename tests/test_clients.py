@@ -108,12 +108,12 @@ class Reading(ClientCase):
         self.see("the other way round", ["+ SIGNAL f 0004 08 little x s1"], differences(plan, PLAN))
 
 
-class Parts(ClientCase):
-    """Exports of several parts are read to their ends: of 64 suppliers, with 2,046 frames and 6,138 signals."""
+class Many(ClientCase):
+    """A large plan is read whole: of 64 suppliers, with 2,046 frames and 6,138 signals."""
 
     seconds = 10
 
-    def test_parts(self):
+    def test_rows(self):
         cluster, requests, plan = limits(share=1, signals=3)
         self.made_of(f"{cluster}\n---\n{requests}")
         got = read(RegisterFile(self.folder / "car.db", self.program), "v1")
@@ -125,18 +125,22 @@ class Parts(ClientCase):
         self.see("signals", laid, {it.key: sorted((at.name, at.start, at.length, at.order) for at in it.signals) for it in got.frames})
 
 
-class Changing(Case):
-    """A variant that was changed between two reports makes no plan."""
+class Torn(Case):
+    """Rows that do not fit together make no plan: no register tells them."""
 
-    TOLD = {"grants": ["0001 A n1 s1"], "frames": ["f,n1,s1"], "placements": ["f,n1,1,A,0,1,s1"], "signals": ["f,x,0,1,little,s1"]}
+    ROWS = ["GRANT 0001 A n1 s1", "FRAME f n1 s1", "AT f 0001 A 00 01 s1", "SIGNAL f 0000 01 little x s1", "GAP     100 f s1"]
 
     def test_torn(self):
-        self.see("a whole plan", 1, len(read(TypedSource(**self.TOLD), "v1").frames))
-        self.see("nothing of a variant", (), read(TypedSource(grants=[], frames=[], placements=[], signals=[]), "v1").frames)
-        for changed in {"grants": []}, {"grants": ["0001 A n2 s1"]}, {"frames": []}, {"frames": ["f,n2,s1"]}, {"frames": [], "placements": []}:
-            with self.assertRaisesRegex(Fault, "v1 was changed while it was read; read it again"):
-                read(TypedSource(**{**self.TOLD, **changed}), "v1")
-            self.see(f"no plan with {changed}", True, True)
+        self.see("a whole plan", 1, len(read(TypedSource(rows=self.ROWS), "v1").frames))
+        self.see("nothing of a variant", (), read(TypedSource(rows=[]), "v1").frames)
+        for row, other in (
+            (0, ""), (0, "GRANT 0001 A n2 s1"), (0, "GRANT 0001 A n1 s2"), (1, ""), (1, "FRAME f n2 s1"), (1, "FRAME g n1 s1"), (1, "+ FRAME f n1 s1"),
+            (2, "AT f 0001 A 00 s1"), (2, "AT f 0002 A 00 01 s1"), (3, "SIGNAL g 0000 01 little x s1"), (3, "SIGNAL f zero 01 little x s1"),
+        ):
+            rows = [*self.ROWS[:row], *([other] if other else []), *self.ROWS[row + 1 :]]
+            with self.assertRaisesRegex(Fault, "what SOURCE tells is no report of a register"):
+                read(TypedSource(rows=rows), "v1")
+            self.see(f"no plan with {other!r} in place of {self.ROWS[row]!r}", True, True)
 
 
 class Pages(BaseHTTPRequestHandler):

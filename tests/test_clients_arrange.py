@@ -34,10 +34,10 @@ supplier01 {"do":"place","variant":"v1","frame":"f","slot":1,"channels":"AB","ba
 # The same, as reports tell it.
 PLAN = {
     "nodes": ["n1 s1", "n1 s2"],
-    "grants": ["0001 A n1 s1", "0001 B n1 s1", "0002 A n1 s2", "0002 B n1 s2"],
-    "frames": ["f,n1,s1", "g,n1,s1"],
-    "placements": ["f,n1,1,AB,0,2,s1", "g,n1,1,A,1,2,s1"],
-    "signals": [],
+    "rows": [
+        "GRANT 0001 A n1 s1", "GRANT 0001 B n1 s1", "GRANT 0002 A n1 s2", "GRANT 0002 B n1 s2", "FRAME f n1 s1", "FRAME g n1 s1", "AT f 0001 AB 00 02 s1",
+        "AT g 0001 A 01 02 s1", "GAP     200 f s1", "GAP     200 g s1",
+    ],
 }
 NODES = "supplier,node\ns1,n1\ns1,n2\ns2,n1\n"
 HELD = "slot,channel,supplier,node\n1,A,s1,n1\n1,B,s1,n1\n2,A,s2,n1\n2,B,s2,n1\n"
@@ -140,7 +140,7 @@ class Saying(Case):
             f"revocations: 0, nodes: 0, grants: 1, refused: 1{HINT}\n",
             grants="slot,channel,supplier,node\n3,AB,s1,n1\n",
             status=1,
-            source=TypedSource(channels="A", nodes=["n1 s1"], grants=[], frames=[], placements=[], signals=[]),
+            source=TypedSource(channels="A", nodes=["n1 s1"], rows=[]),
         )
 
 

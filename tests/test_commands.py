@@ -40,7 +40,7 @@ def over(db):
     yield from (["layout", db, "v1", "f1"], ["schedule", db, "v1", "--supplier", "s1"], ["ask", db])
     yield from ([report, db, *more] for report in ("cluster", "variants", "nodes") for more in ([], ["--supplier", "s1"]))
     yield from (["picture", db, "v1"], ["picture", db, "v1", "--supplier", "s1"])
-    yield from (["export", db, "v1", "frames"], ["load", db, "v1"], ["room", db, "v1", "f1", "4", "--supplier", "s1"])
+    yield from (["export", db, "v1", "frames"], ["load", db, "v1"], ["rows", db, "v1"], ["room", db, "v1", "f1", "4", "--supplier", "s1"])
     yield from (["diff", db, "v1", "v1"], ["diff", db, "v1", "v2", "--supplier", "s1"])
 
 

@@ -1,4 +1,4 @@
-"""Differences of variants, and tries of files: as requests, by commands and over HTTP, and what is promised of them.
+"""Rows and differences of variants, and tries of files: as requests, by commands and over HTTP, and what is promised of them.
 
 What is wanted was typed by hand from docs/FORMATS.md and docs/HTTP.md, is made by their rules, or comes from another register, naive.py; none of it is the
 program's own output, but where its answers are compared with one another."""
@@ -50,6 +50,26 @@ TURNED_ROUND = {
     "s1": b"+ AT f 0001 A 00 02\n- AT f 0001 A 00 04\n- GAP     400 f\n+ GAP     200 f\n",
     "s2": b"- SIGNAL f 0007 08 big y\n",
 }
+ROWS = {
+    None: b"""\
+GRANT 0001 A n1 s1
+GRANT 0002 A n1 s2
+FRAME f n1 s1
+FRAME g n1 s1
+FRAME f n1 s2
+AT f 0001 A 00 04 s1
+AT g 0001 A 01 04 s1
+AT f 0002 A 00 64 s2
+SIGNAL f 0000 08 little x s1
+SIGNAL f 0007 08 big y s2
+GAP     400 f s1
+GAP     400 g s1
+GAP    6400 f s2
+""",
+    "s1": b"GRANT 0001 A n1\nFRAME f n1\nFRAME g n1\nAT f 0001 A 00 04\nAT g 0001 A 01 04\nSIGNAL f 0000 08 little x\nGAP     400 f\nGAP     400 g\n",
+    "s2": b"GRANT 0002 A n1\nFRAME f n1\nAT f 0002 A 00 64\nSIGNAL f 0007 08 big y\nGAP    6400 f\n",
+}
+ROWS_BEFORE = ROWS["s1"].replace(b"AT f 0001 A 00 04", b"AT f 0001 A 00 02").replace(b"GAP     400 f", b"GAP     200 f")
 # Files for v2, each with what becomes of its lines: as an import, and as a replacement.
 MIXED = b"frame,node,slot,channels,base,repetition\nf,n1,1,A,2,4\nh,n1,1,A,1,2\nh,n1,2,A,0,1\nh,n1,1,A,3,4\nf,n1,1\n"
 FATES = b"0002 00 done\n0003 25 CellTaken 01 A g\n0004 21 NotGranted\n0005 00 done\n0006 01 BadText\n"
@@ -67,9 +87,9 @@ def lines_of(report):
 
 # ---- requests whose text is none
 
-WHOLE = {"diff": SINCE_V1, "try": dict(**IN_V2, body="frame,node\n", replace=True)}
+WHOLE = {"rows": IN_V2, "diff": SINCE_V1, "try": dict(**IN_V2, body="frame,node\n", replace=True)}
 WORDS = (
-    "diffs", "Diff", "DIFF", "diff ", "difference", "differences", "since", "tries", "Try", "TRY", "try ", "trial", "fates", "try_replace", "try_import", "",
+    "row", "Rows", "rows ", "all_rows", "diffs", "Diff", "DIFF", "diff ", "difference", "differences", "since", "tries", "Try", "TRY", "try ", "trial", "fates", "try_replace", "try_import", "",
 )
 TEXTS = None, 7, 7.5, True, False, [], ["v1"], {}, {"v1": "v1"}
 NO_FLAGS = None, 0, 1, -1, 0.0, 1.0, "true", "false", "", "yes", [], [True], {}
@@ -114,6 +134,8 @@ class Misformed(StartCase):
         file = dict(**IN_V2, body=AGAIN.decode())
         body = json.dumps(AGAIN.decode())
         pairs = [
+            told(KEY, "rows", lines_of(ROWS["s1"]), **IN_V2),
+            told(INTEGRATOR, "rows", lines_of(ROWS[None]), **IN_V2),
             told(KEY, "diff", lines_of(DIFFERENCES["s1"]), **SINCE_V1),
             told(KEY, "diff", lines_of(DIFFERENCES["s1"]), **dict(reversed(SINCE_V1.items()))),
             told(KEY, "try", before, **file),
@@ -136,6 +158,8 @@ def combined():
     """Each request with each mixture of what refuses it, of the integrator, a supplier, another one, and nobody."""
     owners = INTEGRATOR, KEY, OTHER, "supplier03", "nobody123"
     variants = "1v", "v" * 33, "", "v9", "v1", "v2", "v3"
+    for who, variant in product(owners, variants):
+        yield request(who, "rows", variant=variant)
     for who, variant, other in product(owners, variants, variants):
         yield request(who, "diff", variant=variant, **{"from": other})
     for who, variant, body in product(owners, variants, BODIES):
@@ -209,6 +233,7 @@ class BesideAnotherRegister(StartCase):
         lines.append(request(KEY, "add_frame", variant="v4", frame="g", node="n1"))
         lines.append(request(KEY, "place", variant="v4", frame="g", slot=1, channels="A", base=1, repetition=4))
         lines += [request(INTEGRATOR, "revoke", variant="v4", slot=2, channel="A", supplier="s2"), request(INTEGRATOR, "open_variant", variant="v5")]
+        lines += [request(who, "rows", variant=variant) for who, variant in product((INTEGRATOR, KEY, OTHER), variants)]
         lines += [request(who, "diff", variant=new, **{"from": old}) for who in (INTEGRATOR, KEY, OTHER) for new, old in product(variants, variants)]
         self.asked("any two variants", CLUSTER, lines)
 
@@ -242,13 +267,13 @@ def diff_of(key, old, new):
 
 
 class Differences(StartCase):
-    """A difference is just what the reports of two variants tell apart. Turned round it has the other signs. It is empty right after one was opened from the
+    """Rows are what the other reports tell of a variant. A difference is just what the rows of two variants tell apart. Turned round it has the other signs. It is empty right after one was opened from the
     other, and stays as it is where both are released."""
 
     seconds = 20
 
     def seen(self, grants, frames, signals, gaps):
-        """The rows that these reports tell, as differences have them."""
+        """The rows that these reports tell."""
         rows, placed, frame, end = [], [], "", ""
         for line in frames:
             if line.startswith("AT "):
@@ -267,6 +292,7 @@ class Differences(StartCase):
         for part in range(6):
             yield line_of(key, "export_signals", variant=variant, part=part)
         yield line_of(key, "gaps", variant=variant)
+        yield line_of(key, "rows", variant=variant)
 
     def with_differences(self, plain):
         """These lines, and behind them differences: of a variant that was just opened, and of one that was just released, from its parent."""
@@ -297,8 +323,9 @@ class Differences(StartCase):
         told = iter(answers[len(lines):])
         seen = {}
         for key, variant in product(KEYS, variants):
-            grants, frames, *signals, gaps = [next(told)["lines"] for _ in self.reports(key, variant)]
-            seen[key, variant] = self.seen(grants, frames, [record for part in signals for record in part[1:]], gaps)
+            grants, frames, *signals, gaps, rows = [next(told)["lines"] for _ in self.reports(key, variant)]
+            self.see(f"{key.decode()}: rows of {variant}", self.seen(grants, frames, [record for part in signals for record in part[1:]], gaps), rows)
+            seen[key, variant] = rows
         found = {it: next(told)["lines"] for it in pairs}
         self.see("some differ", True, sum(map(bool, found.values())) > len(found) // 3)
         for (key, old, new), rows in found.items():
@@ -360,7 +387,8 @@ class Tries(StartCase):
                 asked = {}
             if asked.get("do") in ("import", "replace"):
                 tries[len(lines) + 1] = len(lines)
-                lines.append(line_of(line.partition(b" ")[0], "try", variant=asked["variant"], body=asked["body"], replace=asked["do"] == "replace"))
+                whole = {"whole": asked["whole"]} if "whole" in asked else {}
+                lines.append(line_of(line.partition(b" ")[0], "try", variant=asked["variant"], body=asked["body"], replace=asked["do"] == "replace", **whole))
             lines.append(line)
         before, behind = run_on(self, plain, cluster), run_on(self, lines, cluster)
         self.see("answers beside tries", before, [answer for at, answer in enumerate(behind) if at not in tries.values()])
@@ -398,7 +426,22 @@ class ComparingCase(RegisterCase):
 
 
 class Commands(ComparingCase):
-    """`diff` and `try` print what the requests answer, and change nothing; `try` ends with status 1 where a line is not `done`."""
+    """`rows`, `diff` and `try` print what the requests answer, and change nothing; `try` ends with status 1 where a line is not `done`."""
+
+    def test_rows(self):
+        before = (self.folder / "car.db").read_bytes()
+        for supplier in None, "s1", "s2":
+            of = [] if supplier is None else ["--supplier", supplier]
+            self.tell(["rows", "car.db", "v2", *of], ROWS[supplier])
+            self.tell(["rows", *of, "car.db", "v2"], ROWS[supplier])
+        self.tell(["rows", "car.db", "v1", "--supplier", "s1"], ROWS_BEFORE)
+        self.turned_down(["rows", "car.db", "v9"], refused_bytes(10, "NoVariant"))
+        for variant in "1v", "", "v 1":
+            self.turned_down(["rows", "car.db", variant, "--supplier", "s1"], refused_bytes(4, "BadName"))
+        for supplier in "s3", "S1", "no name", "":
+            self.turned_down(["rows", "car.db", "1v", "--supplier", supplier], refused_bytes(14, "NoSupplier"))
+        self.fault(["rows", "none.db", "v2"], "NotARegister")
+        self.stays(before)
 
     def test_diff(self):
         before = (self.folder / "car.db").read_bytes()
@@ -464,6 +507,7 @@ class Commands(ComparingCase):
     def test_words_that_name_no_job(self):
         (self.folder / "good.csv").write_bytes(GOOD)
         for words in (
+            ["rows"], ["rows", "car.db"], ["rows", "car.db", "v2", "f"], ["rows", "car.db", "v2", "--supplier"], ["rows", "car.db", "v2", "--part", "0"],
             ["diff"], ["diff", "car.db"], ["diff", "car.db", "v1"], ["diff", "car.db", "v1", "v2", "v3"], ["diff", "car.db", "v1", "v2", "--replace"],
             ["diff", "car.db", "v1", "v2", "--supplier"],
             ["try"], ["try", "car.db", KEY, "v2"], ["try", "car.db", KEY, "v2", "week47", "good.csv"], ["try", "car.db", KEY, "v2", "good.csv", "--supplier", "s1"],
@@ -475,7 +519,7 @@ class Commands(ComparingCase):
     def test_full_output(self):
         (self.folder / "good.csv").write_bytes(GOOD)
         (self.folder / "mixed.csv").write_bytes(MIXED)
-        for words in "diff car.db v1 v2", f"try car.db {KEY} v2 good.csv", f"try car.db {KEY} v2 mixed.csv --replace":
+        for words in "rows car.db v2", "diff car.db v1 v2", f"try car.db {KEY} v2 good.csv", f"try car.db {KEY} v2 mixed.csv --replace":
             status, _, said = self.shell(f'"$1" {words} > /dev/full')
             self.see(f"{words}, and output that is full", (1, b"slotplan: WriteFailed\n"), (status, said))
 
@@ -490,6 +534,27 @@ def json_refused(number, name, status):
 
 
 NO_VARIANT, BAD_NAME = json_refused(10, "NoVariant", "404 Not Found"), json_refused(4, "BadName", "422 Unprocessable Entity")
+
+
+def rows_over_http():
+    """What each sees, and what is no such request."""
+    path = "/v1/variants/v2/rows"
+    for supplier, key in OWNERS.items():
+        yield head("GET", path, key), text(ROWS[supplier])
+        yield command(key, b'{"do":"rows","variant":"v2"}'), messages.lines("rows", ROWS[supplier])
+    yield head("GET", "/v1/variants/v1/rows", KEY), text(ROWS_BEFORE)
+    yield head("GET", path + "?x=1", KEY), text(ROWS["s1"])
+    yield head("GET", path, KEY, "Content-Length: 9"), text(ROWS["s1"])
+    yield head("GET", "/v1/variants/v9/rows", KEY), NO_VARIANT
+    for path in "1v", "v%32", "v" + "1" * 32:
+        yield head("GET", f"/v1/variants/{path}/rows", INTEGRATOR), BAD_NAME
+    yield head("GET", "/v1/variants/v2/rows"), UNKNOWN
+    yield head("GET", "/v1/variants/1v/rows", "nobody123"), UNKNOWN
+    for path in "v2/rows/", "v2/rows/all", "v2/rows/v1", "v2/Rows", "v2/row", "/rows":
+        yield head("GET", f"/v1/variants/{path}", KEY), engine("404 Not Found")
+    yield head("GET", "/v1/rows", KEY), engine("404 Not Found")
+    for method in "POST", "DELETE", "HEAD", "get":
+        yield head(method, "/v1/variants/v2/rows", KEY), engine("405 Method Not Allowed", "allow: GET, PUT")
 
 
 def differences_over_http():
@@ -558,7 +623,10 @@ def tries_over_http():
 
 
 class OverHttp(ComparingCase):
-    """A server gives differences as text, and fates in JSON, and changes nothing."""
+    """A server gives rows and differences as text, and fates in JSON, and changes nothing."""
+
+    def test_rows(self):
+        self.in_turn("car.db", list(rows_over_http()))
 
     def test_differences(self):
         self.in_turn("car.db", list(differences_over_http()))

@@ -1,4 +1,4 @@
-"""Each report, export, try and picture over a register at the limits, once: 64 suppliers with 256 frames each, and a variant of depth 16.
+"""Each report, export, try and picture, a whole replacement and a flat opening, over a register at the limits, once: 64 suppliers with 256 frames each, and a variant of depth 16.
 
 The register is made by python3's SQLite. What is wanted is worked out here by the rules of docs/FORMATS.md."""
 import sqlite3
@@ -7,7 +7,7 @@ from itertools import zip_longest
 
 from tests.lib.levels import chain
 from tests.lib.made import CYCLES, DEPTH, FRAMES, IMPORT_ROWS, LARGE, NUMBERS, SLOTS, SUPPLIERS, suppliers, suppliers_of
-from tests.lib.messages import csv, head, lines, post, put, text
+from tests.lib.messages import command, csv, head, json, lines, post, put, text
 from tests.lib.picture import KEY, Page
 from tests.lib.registers import RegisterCase
 from tests.lib.schema2 import filled
@@ -140,6 +140,17 @@ def differences():
                 yield (2, name, f"f{frame}", slot, channel, base), f"{sign} AT f{frame} {slot:04} {channel} {base:02} {CYCLES}", name
 
 
+def seen():
+    """All rows of the variant, with the gaps."""
+    for key, line, name in grants():
+        yield (0, *key), f"GRANT {line}", name
+    for name, frame, slot, channel, base in shown():
+        yield (1, name, frame), f"FRAME {frame} n1", name
+        yield (2, name, frame), f"AT {frame} {slot:04} {channel} {base:02} {CYCLES}", name
+        yield (3, name, frame), f"SIGNAL {frame} 0008 16 big x", name
+        yield (4, name, frame), f"GAP {RING:7} {frame}", name
+
+
 def report(found, supplier=None):
     """The report's lines, all with their suppliers or those of one."""
     kept = [row for row in sorted(found, key=lambda row: row[0]) if supplier in (None, row[2])]
@@ -184,7 +195,7 @@ def parts(supplier=None):
 
 def reports(supplier=None):
     """Each report of the variant with its route, to the integrator or to a supplier."""
-    found = {"grants": grants, "schedule": schedule, "gaps": gaps, "load": load, "frames/f0/layout": layout, "since/v1": differences}
+    found = {"grants": grants, "schedule": schedule, "gaps": gaps, "load": load, "rows": seen, "frames/f0/layout": layout, "since/v1": differences}
     for path, rows_of in found.items():
         yield path, report(rows_of(), supplier)
     yield "frames", framed(supplier) if supplier else report(frames())
@@ -245,6 +256,8 @@ class AtTheLimits(RegisterCase):
                 self.draws(key, supplier)
             self.reads(KEYS["s1"], f"variants/{TOP_LEVEL}/frames/f0/room/{CYCLES}", "".join(room("s1")))
             self.tries()
+            self.sends_whole()
+            self.opens_flat()
 
     def tries(self):
         """A try of an import, of which the last row is refused, and one of a replacement, each of 512 rows."""
@@ -253,6 +266,27 @@ class AtTheLimits(RegisterCase):
         self.replies("a try", post(path, KEYS["s1"], body), lines("try", f"{done}{IMPORT_ROWS + 1:04} 19 Exists\n".encode()))
         body = "".join(f"{row}\n" for row in ["frame,node,slot,channels,base,repetition", *moved_again()]).encode()
         self.replies("a try of a replacement", put(path, KEYS["s1"], body), lines("try", f"{done}{IMPORT_ROWS + 1:04} 00 done\n".encode()))
+
+    def sends_whole(self):
+        """As many placements as a file may have take the place of all; then a few frames that of all, and the others' rows stay."""
+        path, header = f"/v1/variants/{TOP_LEVEL}", "frame,node,slot,channels,base,repetition"
+        body = "".join(f"{row}\n" for row in [header, *moved_again()]).encode()
+        done = "".join(f"{line:04} 00 done\n" for line in range(2, IMPORT_ROWS + 2)).encode()
+        self.replies("a try of a whole replacement", put(f"{path}/tries/whole", KEYS["s1"], body), lines("try", done))
+        for _ in range(2):
+            self.replies("a whole replacement", put(f"{path}/rows/whole", KEYS["s1"], body), json(b'{"ok":"replaced","rows":%d}' % IMPORT_ROWS))
+        sent_rows = sorted(moved_again(), key=lambda row: [int(it) if it.isdigit() else it for it in row.split(",")])
+        self.reads(KEYS["s1"], f"variants/{TOP_LEVEL}/exports/placements/0", "".join(f"{row}\n" for row in [header, *sent_rows]), csv)
+        self.replies("a few frames", put(f"{path}/rows/whole", KEYS["s1"], b"frame,node\nf1,n1\n"), json(b'{"ok":"replaced","rows":1}'))
+        self.reads(KEYS["s1"], f"variants/{TOP_LEVEL}/exports/signals/0", "frame,signal,start,length,order\nf1,x,8,16,big\n", csv)
+        self.reads(KEYS["s2"], f"variants/{TOP_LEVEL}/rows", report(seen(), "s2"))
+
+    def opens_flat(self):
+        """The variant is released, and another one opened flat from it: nothing differs between the two."""
+        for line in f'{{"do":"release","variant":"{TOP_LEVEL}"}}', f'{{"do":"open_variant","variant":"flat","from":"{TOP_LEVEL}","flat":true}}':
+            self.replies(line, command("integrator1", line.encode()), json(b'{"ok":"done"}'))
+        self.reads("integrator1", f"variants/flat/since/{TOP_LEVEL}", "")
+        self.reads(KEYS["s2"], "variants/flat/rows", report(seen(), "s2"))
 
     def draws(self, key, supplier):
         """A page with a lane for each grant, and as many frames sent as there are."""

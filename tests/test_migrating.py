@@ -24,7 +24,7 @@ from tests.lib.states import has_frames
 WORDS = ["migrate", "car.db"]
 IMPORT = ["import", "car.db", "supplier01", "v1", "a", "header.csv"]
 OPENING = ["schedule", "car.db", "v1"], ["gaps", "car.db", "v1"], ["serve", "car.db", "1024"], IMPORT
-QUERIES = "grants", "frames", "schedule", "gaps"
+QUERIES = "grants", "frames", "schedule", "gaps", "rows"
 
 
 # ---- a register typed by hand
@@ -89,8 +89,8 @@ def asked_before(script):
 
 def copies(register):
     """Its rows in schema 1, each variant with all that it shows."""
-    tables = {table: register.rows(f"SELECT * FROM {table}") for table in ("nodes", "grants", "frames", "placements", "signals", "imports")}
-    return tables | {"variants": register.rows("SELECT name, parent, depth, released, 0 FROM variants"), "dropped": []}
+    tables = {table: register.sql(f"SELECT * FROM {table}") for table in ("nodes", "grants", "frames", "placements", "signals", "imports")}
+    return tables | {"variants": register.sql("SELECT name, parent, depth, released, 0 FROM variants"), "dropped": []}
 
 
 def shown(rows, variant):
@@ -123,9 +123,9 @@ def cluster_of(register):
 
 def questions(register):
     """What each actor may ask of each variant, and of one that is not there; and what the register holds."""
-    frames = sorted({name for name, in register.rows("SELECT name FROM frames")})
+    frames = sorted({name for name, in register.sql("SELECT name FROM frames")})
     for key in register.cluster["integrator"], *register.keys, "nobody123":
-        for variant in *(name for name, in register.rows("SELECT name FROM variants ORDER BY name")), "nowhere":
+        for variant in *(name for name, in register.sql("SELECT name FROM variants ORDER BY name")), "nowhere":
             for query in QUERIES:
                 yield f'{key} {{"do":"{query}","variant":"{variant}"}}'
             for frame in *frames[:12], "nothing":
@@ -185,7 +185,7 @@ class MigratingCase(RegisterCase):
 
     def reports(self, register):
         """The commands print what the integrator reads."""
-        for variant in *(name for name, in register.rows("SELECT name FROM variants ORDER BY name")), "nowhere":
+        for variant in *(name for name, in register.sql("SELECT name FROM variants ORDER BY name")), "nowhere":
             for report in "schedule", "gaps":
                 line = f'{register.cluster["integrator"]} {{"do":"{report}","variant":"{variant}"}}'
                 answer = register.told(line.encode())

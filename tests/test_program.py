@@ -39,11 +39,11 @@ REQUIRED = {
     "replace": "<DB> <KEY> <VARIANT> <FILE>",
     "try": "<DB> <KEY> <VARIANT> <FILE>",
     **dict.fromkeys(("cluster", "variants", "nodes"), "<DB>"),
-    **dict.fromkeys(("grants", "frames", "schedule", "gaps", "load", "picture"), "<DB> <VARIANT>"),
+    **dict.fromkeys(("grants", "frames", "schedule", "gaps", "load", "rows", "picture"), "<DB> <VARIANT>"),
 }
 
 NO_ROWS = usage("export takes ROWS that are frames, placements or signals", "Usage: slotplan <COMMAND>", "")
-NO_FILE = usage("check takes one of these: CONFIG, --requests FILE, --rows FILE, --path PATH", "Usage: slotplan <COMMAND>", "")
+NO_FILE = usage("check takes one of these: CONFIG, --requests FILE, --rows FILE, --path PATH, --register DB", "Usage: slotplan <COMMAND>", "")
 
 
 class Help(StartCase):

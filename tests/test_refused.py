@@ -104,6 +104,9 @@ class Script:
     ("differences", "tests/rows/differences_of_each_kind"),
     ("tries", "tests/rows/tries"),
     ("tries_of_replacements", "tests/rows/tries_of_replacements"),
+    ("rows", "tests/rows/rows_of_a_variant"),
+    ("whole", "tests/rows/whole_replacements"),
+    ("flat", "tests/rows/flat_openings"),
 ])
 class Scripts(RefusedCase):
     """A script's run that is refused memory answers one request Unavailable, none that is refused by its text, or ends with a word behind right lines.
@@ -183,13 +186,15 @@ PLACED, SIGNALS = b"frame,node,slot,channels,base,repetition\nf1,n1,1,A,0,64\n",
 TRIED = b"frame,node,slot,channels,base,repetition\nf1,n1,1,A,0,32\nf2,n1,1,A,0,64\nf2,n2,1,A,2,4\nf3,n1,2,A,0,1\n"
 FATES = b"0002 25 CellTaken 00 A f1\n0003 25 CellTaken 00 A f1\n0004 15 NoNode\n0005 00 done\n"
 REPLACING_FATES = FATES.replace(b"0002 25 CellTaken 00 A f1", b"0002 00 done")
-DIFFERENCE = b"+ GRANT 0001 A n1\n+ GRANT 0002 A n1\n+ FRAME f1 n1\n+ AT f1 0001 A 00 64\n+ SIGNAL f1 0000 08 little speed\n+ GAP    6400 f1\n"
+SEEN = b"GRANT 0001 A n1\nGRANT 0002 A n1\nFRAME f1 n1\nAT f1 0001 A 00 64\nSIGNAL f1 0000 08 little speed\nGAP    6400 f1\n"
+DIFFERENCE = b"".join(b"+ %s\n" % row for row in SEEN.splitlines())
 TURNED_ROUND = DIFFERENCE.replace(b"+", b"-").replace(b"\n", b" s1\n")
 LOAD, ROOM = b"0001 A 01 64 n1\n0002 A 00 64 n1\n", b"0001 A 02 01\n0002 A 02 00 01\n"
 
 OF_INTEGRATOR = {
     "open_variant": b'{"do":"open_variant","variant":"v2"}',
     "open_variant_from": b'{"do":"open_variant","variant":"v2","from":"v0"}',
+    "open_variant_flat": b'{"do":"open_variant","variant":"v2","from":"v0","flat":true}',
     "release": b'{"do":"release","variant":"v1"}',
     "add_supplier": b'{"do":"add_supplier","supplier":"s3","key":"supplier03"}',
     "set_key": b'{"do":"set_key","supplier":"s2","key":"supplier09"}',
@@ -214,8 +219,11 @@ def asked():
             yield name, command(key, line), DONE_REPLY
     yield "import", post("/v1/variants/v1/imports/week1", "supplier01", ROWS), IMPORTED_REPLY
     yield "replace", put("/v1/variants/v1/rows", "supplier01", ROWS), REPLACED_REPLY
+    yield "replace_whole", put("/v1/variants/v1/rows/whole", "supplier01", ROWS), REPLACED_REPLY
+    yield "frames_whole", put("/v1/variants/v1/rows/whole", "supplier01", b"frame,node\nf2,n1\nf3,n1\n"), REPLACED_REPLY
     yield "try", post("/v1/variants/v1/tries", "supplier01", TRIED), messages.lines("try", FATES)
     yield "try_to_replace", put("/v1/variants/v1/tries", "supplier01", TRIED), messages.lines("try", REPLACING_FATES)
+    yield "try_whole", put("/v1/variants/v1/tries/whole", "supplier01", TRIED), messages.lines("try", REPLACING_FATES)
     yield "diff", head("GET", "/v1/variants/v1/since/v0", "supplier01"), text(DIFFERENCE)
     yield "diff_of_all", head("GET", "/v1/variants/v0/since/v1", "integrator1"), text(TURNED_ROUND)
     yield "cluster", head("GET", "/v1/cluster", "supplier01"), text(FIGURE_LINES + b"supplier s1\n")
@@ -231,6 +239,8 @@ def asked():
     yield "layout", head("GET", f"{variant}/frames/f1/layout", "supplier01"), text(b"0000 08 little speed\n")
     yield "load", head("GET", f"{variant}/load", "supplier01"), text(LOAD)
     yield "room", head("GET", f"{variant}/frames/f1/room/2", "supplier01"), text(ROOM)
+    yield "rows", head("GET", f"{variant}/rows", "supplier01"), text(SEEN)
+    yield "rows_of_all", head("GET", f"{variant}/rows", "integrator1"), text(SEEN.replace(b"\n", b" s1\n"))
     yield "export", head("GET", f"{variant}/exports/placements/0", "supplier01"), csv(PLACED)
     yield "export_of_all", head("GET", f"{variant}/exports/signals/0", "integrator1"), csv(SIGNALS)
     yield "query_in_JSON", command("supplier01", b'{"do":"schedule","variant":"v1"}'), messages.json(b'{"lines":["00 0001 A f1 n1"],"ok":"schedule"}')
@@ -317,12 +327,15 @@ PLAN = {
     ("load", ["load", "car.db", "v1", "--supplier", "s1"], LOAD),
     ("room", ["room", "car.db", "v1", "f1", "2", "--supplier", "s1"], ROOM),
     ("export", ["export", "car.db", "v1", "signals"], SIGNALS),
+    ("rows", ["rows", "car.db", "v1", "--supplier", "s1"], SEEN),
     ("diff", ["diff", "car.db", "v0", "v1", "--supplier", "s1"], DIFFERENCE),
     ("diff_of_all", ["diff", "car.db", "v1", "v0"], TURNED_ROUND),
     ("try", ["try", "car.db", "supplier01", "v1", "rows.csv"], b"0002 00 done\n0003 00 done\n"),
     ("try_to_replace", ["try", "car.db", "supplier01", "v1", "rows.csv", "--replace"], b"0002 00 done\n0003 00 done\n"),
     ("import", ["import", "car.db", "supplier01", "v1", "week1", "rows.csv"], IMPORTED + b"\n"),
     ("replace", ["replace", "car.db", "supplier01", "v1", "rows.csv"], REPLACED + b"\n"),
+    ("replace_whole", ["replace", "car.db", "supplier01", "v1", "rows.csv", "--whole"], REPLACED + b"\n"),
+    ("try_whole", ["try", "car.db", "supplier01", "v1", "rows.csv", "--replace", "--whole"], b"0002 00 done\n0003 00 done\n"),
 ])
 class Commands(CommandCase):
     """A command that is refused memory prints the right text, or ends with a word or the refusal Unavailable and leaves the rows as before or after it."""

@@ -392,8 +392,8 @@ def replacements_over_http():
         yield head("PUT", rows, KEY, f"Content-Length: {length}"), engine("400 Bad Request")
     yield head("PUT", rows, KEY, "Content-Length: 1", "Content-Length: 1"), engine("400 Bad Request")
     yield head("PUT", rows, KEY, "Transfer-Encoding: chunked"), engine("501 Not Implemented")
-    for method in "GET", "POST", "DELETE", "HEAD", "put":
-        yield head(method, rows, KEY), engine("405 Method Not Allowed", "allow: PUT")
+    for method in "POST", "DELETE", "HEAD", "put", "get":
+        yield head(method, rows, KEY), engine("405 Method Not Allowed", "allow: GET, PUT")
     yield head("PUT", rows + "/", KEY), engine("404 Not Found")
     yield head("PUT", at("rows/x"), KEY), engine("404 Not Found")
     yield command(KEY, b'{"do":"replace","variant":"v1","body":"frame,node\\n"}'), json(b'{"ok":"replaced","rows":0}')

@@ -17,7 +17,7 @@ from tests.lib.server import sent
 NAME = re.compile(r"[A-Za-z][A-Za-z0-9_]{0,31}")
 KEY = re.compile(rb"[!-~]+")
 BODY = 65_536  # bytes at most
-HELD, REPORTS = ("cluster", "variants", "nodes"), ("grants", "frames", "schedule", "gaps", "load")
+HELD, REPORTS = ("cluster", "variants", "nodes"), ("grants", "frames", "schedule", "gaps", "load", "rows")
 SCRIPTS = sorted([*TOP.glob("tests/rows/*.script"), *TOP.glob("examples/*.script")])
 
 
@@ -70,9 +70,9 @@ def path_of(request):
     if do == "import":
         return "POST", f"{at}/imports/{request['label']}", request["body"]
     if do == "replace":
-        return "PUT", f"{at}/rows", request["body"]
+        return "PUT", f"{at}/rows{'/whole' * request.get('whole', False)}", request["body"]
     if do == "try":
-        return "PUT" if request.get("replace") else "POST", f"{at}/tries", request["body"]
+        return "PUT" if request.get("replace") else "POST", f"{at}/tries{'/whole' * request.get('whole', False)}", request["body"]
     return None
 
 
@@ -174,13 +174,13 @@ def report_words(request):
 
 def file_words(request):
     """The words of a file's command behind the key, if the request has one."""
-    do = request.get("do")
+    do, flags = request.get("do"), ["--whole"] if request.get("whole") else []
     if do == "import":
         return [do], [request["variant"], request["label"], "rows.csv"]
     if do == "replace":
-        return [do], [request["variant"], "rows.csv"]
+        return [do], [request["variant"], "rows.csv", *flags]
     if do == "try":
-        return [do], [request["variant"], "rows.csv", *(["--replace"] if request.get("replace") else [])]
+        return [do], [request["variant"], "rows.csv", *(["--replace"] if request.get("replace") else []), *flags]
     return None
 
 

@@ -3,12 +3,14 @@
 What is wanted was typed by hand from docs/FORMATS.md, docs/OPERATE.md and docs/HTTP.md; none of it is the program's own output."""
 import os
 import socket
+import sqlite3
 import stat
 import subprocess
 import time
-from contextlib import contextmanager, suppress
+from contextlib import closing, contextmanager, suppress
 from pathlib import Path
 
+from tests.lib import schema1
 from tests.lib.messages import DONE, command, head, json, refused, text
 from tests.lib.preload import Failing
 from tests.lib.program import SECONDS, program, with_more
@@ -385,3 +387,141 @@ class Words(StumbleCase):
             self.ends_line(f'exec "$1" explain {number}', told)
         for word in "0", "32", "024", "+24":
             self.see(f"the status of explain {word}", 1, self.shell(f'exec "$1" explain {word}')[0])
+
+
+class Hindrances(StumbleCase):
+    """`check --register` tells what stands in the way of using a register, each case as it is made, and changes nothing."""
+
+    def setUp(self):
+        super().setUp()
+        # Whoever is started as another user finds the folder, and the register is nobody else's.
+        self.folder.chmod(0o755)
+        self.begun()
+        self.db, self.log = self.folder / "car.db", self.folder / "car.db-wal"
+
+    def seen(self):
+        """What lies in the folder: each file with its bytes, and what the system says of it, but for when it was read."""
+        files = sorted(self.folder.rglob("*"))
+        bytes_of = [it.read_bytes() if stat.S_ISREG(it.lstat().st_mode) else b"" for it in files]
+        kept = [(it.lstat().st_mode, it.lstat().st_ino, it.lstat().st_nlink, it.lstat().st_mtime_ns, it.lstat().st_ctime_ns) for it in files]
+        return list(zip(map(str, files), kept, bytes_of))
+
+    def ended(self, words, other):
+        """How the program ends, as this user or as another who has no rights of its own."""
+        user = {"user": 65534, "group": 65534, "extra_groups": []} if other and os.getuid() == 0 else {}
+        got = subprocess.run([program(), *words], cwd=self.folder, capture_output=True, stdin=subprocess.DEVNULL, timeout=SECONDS, **user)
+        return got.returncode, got.stdout, got.stderr
+
+    def hinders(self, *ways, word="Unavailable", db="car.db", other=False):
+        """These stand in the way, nothing else is said, and nothing is changed; and a report ends with this word."""
+        before = self.seen()
+        said = b"".join(b"slotplan: %s\n" % way.encode() for way in ways)
+        self.see(f"check --register {db}", (int(bool(ways)), b"", said), self.ended(["check", "--register", db], other))
+        self.see("nothing is changed", before, self.seen())
+        if ways:
+            self.see(f"variants {db}", (1, b"", f"slotplan: {word}\n".encode()), self.ended(["variants", db], other))
+        else:
+            self.see(f"variants {db}", 0, self.ended(["variants", db], other)[0])
+
+    def test_nothing(self):
+        self.hinders()
+        (self.folder / "link.db").symlink_to("car.db")
+        self.hinders(db="link.db")
+        self.log.unlink()
+        self.hinders()
+        self.hinders(db=str(self.db))
+        (self.folder / "car.db-journal").write_bytes(b"")
+        self.hinders()
+
+    def test_no_such_file(self):
+        self.hinders("there is no such file", word="NotARegister", db="cra.db")
+        self.hinders("there is no such file", word="NotARegister", db="cra/car.db")
+
+    def test_no_file(self):
+        no_file = "it is a folder, a pipe or a device"
+        (self.folder / "folder.db").mkdir()
+        os.mkfifo(self.folder / "pipe.db")
+        for db in "folder.db", "pipe.db", "/dev/null":
+            self.hinders(no_file, db=db)
+
+    def test_permissions(self):
+        for file in self.db, self.log:
+            file.chmod(0o666)
+        self.hinders(other=True)
+        self.db.chmod(0o444)
+        self.hinders("you may not write it, as each command does", other=True)
+        self.db.chmod(0o222)
+        self.hinders("you may not read it", "you may not write it, as each command does", other=True)
+        self.db.chmod(0o666)
+        self.log.chmod(0)
+        self.hinders("you may not read its log, or not write it", other=True)
+        self.log.unlink()
+        self.folder.chmod(0o555)
+        self.hinders("its log is not there, and you may not make it in the folder", other=True)
+        self.folder.chmod(0o755)
+
+    def test_another_program(self):
+        in_use = "another program has it: a server, another command, or another SQLite"
+        with self.served():
+            self.hinders(in_use)
+        self.hinders()
+        with closing(sqlite3.connect(self.db, isolation_level=None)) as file:
+            file.execute("BEGIN")
+            file.execute("SELECT * FROM register").fetchall()
+            self.see("another SQLite has it", (1, b"", f"slotplan: {in_use}\n".encode()), self.ended(["check", "--register", "car.db"], False))
+
+    def test_names(self):
+        os.link(self.db, self.folder / "other.db")
+        self.hinders("it has a second name, a hard link")
+        self.hinders("it has a second name, a hard link", db="other.db")
+        (self.folder / "other.db").unlink()
+        os.link(self.log, self.folder / "other-wal")
+        self.hinders("its log has a second name, a hard link")
+
+    def test_log(self):
+        no_log = "its log is a symbolic link, a folder or a pipe"
+        self.log.rename(self.folder / "elsewhere")
+        self.log.symlink_to("elsewhere")
+        self.hinders(no_log)
+        self.log.unlink()
+        self.log.mkdir()
+        self.hinders(no_log)
+        self.log.rmdir()
+        os.mkfifo(self.log)
+        self.hinders(no_log)
+
+    def test_journal(self):
+        (self.folder / "car.db-journal").write_bytes(b"\xd9\xd5\x05\xf9\x20\xa1\x63\xd7")
+        self.hinders("a -journal lies beside it: another SQLite was ended as it changed the file")
+
+    def test_no_register(self):
+        (self.folder / "text.db").write_bytes(b"no database\n")
+        self.hinders("it is no SQLite database", word="NotARegister", db="text.db")
+        (self.folder / "empty.db").write_bytes(b"")
+        self.see("an empty file", (1, b"", b"slotplan: it is no SQLite database\n"), self.ended(["check", "--register", "empty.db"], False))
+        with closing(sqlite3.connect(self.folder / "other.db")) as file:
+            file.execute("CREATE TABLE other (id INTEGER)")
+        self.hinders("it is a database without a register", word="NotARegister", db="other.db")
+
+    def test_schema(self):
+        schema1.filled(self.folder / "old.db", {})
+        self.hinders("its schema is not 2: slotplan migrate takes one of schema 1", word="WrongSchema", db="old.db")
+
+    def test_another_table(self):
+        with closing(sqlite3.connect(self.db)) as file:
+            file.execute("CREATE TABLE other (id INTEGER)")
+        self.hinders("the database is damaged, or its tables and rows make no register")
+
+    def test_several(self):
+        os.link(self.db, self.folder / "other.db")
+        (self.folder / "car.db-journal").mkdir()
+        self.log.unlink()
+        self.log.mkdir()
+        self.hinders(
+            "it has a second name, a hard link", "a -journal lies beside it: another SQLite was ended as it changed the file",
+            "its log is a symbolic link, a folder or a pipe",
+        )
+
+    def test_explained(self):
+        for word in "Unavailable", "NotARegister":
+            self.see(f"explain {word}", True, b"slotplan check --register DB" in self.shell(f'"$1" explain {word}')[1])

@@ -14,7 +14,7 @@ from tests.lib.server import sent
 
 REQUESTS = (
     "open_variant, release, add_supplier, set_key, add_node, grant, revoke, add_frame, drop_frame, place, unplace, add_signal, drop_signal, import, replace, try, "
-    "cluster, variants, nodes, diff, grants, frames, schedule, gaps, load, layout, room, export_frames, export_placements, export_signals"
+    "cluster, variants, nodes, diff, grants, frames, schedule, gaps, load, rows, layout, room, export_frames, export_placements, export_signals"
 )
 NAME = "a name is 1 to 32 ASCII letters, digits and underscores, a letter first"
 NUMBER = "it may be a whole number from 0 to 4294967295, without quotes"

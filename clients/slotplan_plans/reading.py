@@ -1,15 +1,11 @@
 """Reads a variant from a file or a server: whatever a source tells is made a plan here, and nowhere else."""
-import csv
-from collections import defaultdict
 from contextlib import contextmanager
-from itertools import count
 
 from .faults import Fault
 from .plan import FIGURES, Cluster, Frame, Grant, Node, Placement, Plan, Signal, Variant
 
-# So many rows a part of an export has at most, and so many of them a frame.
-ROWS = 512
-ROWS_OF_A_FRAME = {"frames": 1, "placements": 8, "signals": 64}
+# The kinds of rows, and how many fields each has before the supplier.
+WIDTHS = {"GRANT": 3, "FRAME": 2, "AT": 5, "SIGNAL": 5, "GAP": 2}
 
 
 @contextmanager
@@ -17,13 +13,13 @@ def understood():
     """Whatever is told that is no report is a fault: another server may answer at an address, and another program than slotplan be named."""
     try:
         yield
-    except (ValueError, LookupError, csv.Error) as fault:
+    except (ValueError, LookupError) as fault:
         raise Fault("what SOURCE tells is no report of a register") from fault
 
 
 @understood()
 def read(source, variant):
-    """The plan of a variant. A server tells it by several reports, so an open variant that is changed meanwhile may make none: then it is a fault."""
+    """The plan of a variant. Its rows are told by one report, and so are of one moment."""
     with source.opened() as told:
         known = {it.name: it for it in variants(told)}
         if variant not in known:
@@ -57,20 +53,21 @@ def nodes(lines, whole):
 
 @understood()
 def rows(source, whole, variant):
-    """The grants of a variant, and its frames with their rows."""
-    records = lambda kind, width: with_supplier(exported(source, variant, kind), width, whole)
-    told = with_supplier(split(source.grants(variant)), 3, whole)
-    grants = tuple(Grant(int(slot), channel, holder, node) for slot, channel, node, holder in told)
-    senders = {(holder, name): node for name, node, holder in records("frames", 2)}
-    placements, signals = defaultdict(list), defaultdict(list)
-    for name, _, slot, channels, base, repetition, holder in records("placements", 6):
-        placements[holder, name].append(Placement(int(slot), channels, int(base), int(repetition)))
-    for name, signal, start, length, order, holder in records("signals", 5):
-        signals[holder, name].append(Signal(int(start), int(length), order, signal))
-    frames = tuple(Frame(*key, node, tuple(placements[key]), tuple(signals[key])) for key, node in sorted(senders.items()))
-    if not placements.keys() | signals.keys() <= senders.keys() or not are_granted(grants, frames):
-        raise Fault(f"{variant} was changed while it was read; read it again")
-    return grants, frames
+    """The grants of a variant, and its frames with their rows, all at one moment."""
+    told = {kind: [] for kind in WIDTHS}
+    for kind, *fields in (line.split() for line in source.rows(variant)):
+        told[kind].append(fields)
+    of = lambda kind: with_supplier(told[kind], WIDTHS[kind], whole)
+    grants = tuple(Grant(int(slot), channel, holder, node) for slot, channel, node, holder in of("GRANT"))
+    frames = {(holder, name): (node, [], []) for name, node, holder in of("FRAME")}
+    for name, slot, channels, base, repetition, holder in of("AT"):
+        frames[holder, name][1].append(Placement(int(slot), channels, int(base), int(repetition)))
+    for name, start, length, order, signal, holder in of("SIGNAL"):
+        frames[holder, name][2].append(Signal(int(start), int(length), order, signal))
+    made = tuple(Frame(*key, node, tuple(placements), tuple(signals)) for key, (node, placements, signals) in sorted(frames.items()))
+    if not are_granted(grants, made):
+        raise ValueError("a frame is sent where its node holds no slot")
+    return grants, made
 
 
 def are_granted(grants, frames):
@@ -82,15 +79,6 @@ def are_granted(grants, frames):
         for placed in frame.placements
         for channel in placed.channels
     )
-
-
-def exported(source, variant, kind):
-    """The rows of all parts of an export. A part has a frame's rows all or none, so one in which another frame's would have had room is the last."""
-    for part in count():
-        _, *lines = source.export(variant, kind, part)
-        yield from csv.reader(lines)
-        if len(lines) + ROWS_OF_A_FRAME[kind] <= ROWS:
-            return
 
 
 def split(lines):

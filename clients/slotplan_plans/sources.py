@@ -13,7 +13,7 @@ SECONDS = 60
 
 
 class Source:
-    """What is read: reports by their names, and exports by their kinds and parts, as lines; and the register's keys, where it tells them."""
+    """What is read: reports by their names, as lines; and the register's keys, where it tells them."""
 
     keys = None
 
@@ -31,8 +31,8 @@ class Source:
     def nodes(self):
         return self.report("nodes")
 
-    def grants(self, variant):
-        return self.report("grants", variant)
+    def rows(self, variant):
+        return self.report("rows", variant)
 
 
 class RegisterFile:
@@ -108,9 +108,6 @@ class Asked(Source):
     def report(self, name, *variant):
         return self.lines(name, **dict(zip(["variant"], variant)))
 
-    def export(self, variant, kind, part):
-        return self.lines(f"export_{kind}", variant=variant, part=part)
-
 
 class Server(Source):
     """A server of the register. It tells what the key's owner sees. The key goes to this host alone: a reply that leads elsewhere is a fault."""
@@ -148,9 +145,6 @@ class Server(Source):
 
     def report(self, name, *variant):
         return self.lines(*(("variants", *variant) if variant else ()), name)
-
-    def export(self, variant, kind, part):
-        return self.lines("variants", variant, "exports", kind, str(part))
 
     @contextmanager
     def asked(self):

@@ -88,11 +88,16 @@ function formCard(title, fields, yes, act, more = "") {
 const select = () => make("select", {});
 
 function openForm(desk) {
-  const from = select();
-  const card = formCard("Open a variant", {name: ["Name", textField({})], from: ["Begins", from]}, "Open it", ({name, from: parent}) =>
-    change(desk, {do: "open_variant", variant: name, from: parent || null}, `${name} is open.`, () => choose(desk, name)));
+  const from = select(), flat = make("input", {type: "checkbox", id: "flat"});
+  const open = ({name: variant, from: parent}) => change(desk,
+    {do: "open_variant", variant, from: parent || null, flat: Boolean(parent) && flat.checked}, `${variant} is open.`, () => choose(desk, variant));
+  const card = formCard("Open a variant", {name: ["Name", textField({})], from: ["Begins", from]}, "Open it", open,
+    make("label", {class: "check"}, flat, "flat: no parent, depth 1"));
   const parents = () => desk.variants.filter(({isReleased}) => isReleased).map(({name}) => [name, `with the rows of ${name}`]);
-  const show = () => options(from, [["", "empty"], ...parents()], from.value);
+  const look = () => { flat.disabled = !from.value; };
+  from.addEventListener("change", look);
+  card.addEventListener("reset", () => { flat.disabled = true; });
+  const show = () => { options(from, [["", "empty"], ...parents()], from.value); look(); };
   return {card, show};
 }
 

@@ -3,7 +3,7 @@ import {Times} from "./times.js";
 
 const EMPTY = {
   register: null, isIntegrator: false, me: "", cluster: null, nodes: [], variants: [],
-  variant: null, plan: null, texts: null, difference: null,
+  variant: null, plan: null, difference: null,
   frame: null, placement: null, lane: null, found: null,
   room: null, granting: null, draft: null, file: null, undo: null, view: "plan", busy: 0,
 };

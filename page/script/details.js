@@ -4,7 +4,7 @@ import {divisors} from "./cycles.js";
 import {revoke} from "./granting.js";
 import {attempt, confirmed, quiet, say} from "./messages.js";
 import {chip} from "./palette.js";
-import {showPayload} from "./payload.js";
+import {payloadOf} from "./payload.js";
 import {channelOf, laneText, slotOf} from "./plan.js";
 import {findRoom} from "./reading.js";
 import {dropFrame, unplace} from "./steps.js";
@@ -58,18 +58,15 @@ function laneDetails(desk, lane) {
     grant ? button("Show it in the plan", () => desk.reveal(slotOf(lane), channelOf(lane), 0)) : ""];
 }
 
-let turn = 0;
-
-async function showFrame(desk, palette, frame) {
-  const own = turn += 1, isOpen = desk.mayPlan(), payload = make("div", {});
+function showFrame(desk, palette, frame) {
+  const isOpen = desk.mayPlan();
   refill(byId("detail"),
     make("h2", {}, chip(palette.number(frame, frame)), frame.name),
     pairs([["node", frame.node], desk.isIntegrator && ["supplier", frame.supplier],
       ["greatest gap", frame.gap === Infinity ? "never sent" : desk.times.text(frame.gap)], ["sent in", plural(desk.plan.cellsOf(frame), "cell")]]),
     frame.placements.length ? placementTable(desk, frame, isOpen) : note("It is not placed yet."),
-    isOpen ? roomForm(desk, frame) : "", make("h3", {}, "Payload"), payload,
+    isOpen ? roomForm(desk, frame) : "", make("h3", {}, "Payload"), payloadOf(desk, frame),
     isOpen ? button("Drop the frame", () => askDrop(desk, frame), {class: "bad"}) : "");
-  await showPayload(desk, frame, payload, () => own === turn && desk.frame === frame);
 }
 
 function placementTable(desk, frame, isOpen) {

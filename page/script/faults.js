@@ -17,6 +17,3 @@ export class Lost extends Error {
 
 // The reply does not have the form that the register gives.
 export class Strange extends Error {}
-
-// Reports that were read one after another do not fit together.
-export class Torn extends Strange {}

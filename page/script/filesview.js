@@ -6,7 +6,7 @@ import {mended, takeSheet} from "./looking.js";
 import {attempt} from "./messages.js";
 import {explained} from "./refusals.js";
 import {exported} from "./reading.js";
-import {carryOut, takeFile, takeLooked, tryFile, WAYS} from "./sending.js";
+import {carryOut, takeFile, takeLooked, tryFile, WAYS, waysOf} from "./sending.js";
 import {done} from "./steps.js";
 import {grouped, plural} from "./words.js";
 
@@ -76,10 +76,11 @@ function wayBox(desk, file) {
   const take = ({target}) => { file.way = target.value; tryFile(desk); };
   const radio = ([value, way]) => make("label", {class: "check"},
     make("input", {type: "radio", name: "way", value, "aria-label": way.text(file), checked: file.way === value, onchange: take}), way.text(file));
-  return [make("div", {class: "row", role: "radiogroup", "aria-label": "What the file does"}, Object.entries(WAYS).map(radio)),
+  return [make("div", {class: "row", role: "radiogroup", "aria-label": "What the file does"}, waysOf(file).map(radio)),
     file.parts ? make("p", {}, "A file has at most 512 rows and 65,536 bytes. "
       + `This one goes in ${file.parts.length} parts, each whole frames; this is part ${file.part + 1}. `
-      + "Each part is carried out whole or not at all, but not all of them together.") : ""];
+      + "Each part is carried out whole or not at all, but not all of them together. "
+      + "To take rows out, send the frames first, as all frames.") : ""];
 }
 
 function fateBox(desk, file) {

@@ -1,30 +1,38 @@
-// What a replacement would take away: rows of the frames that a file names, which the file does not put there again.
+// What a file would take away that takes the place of what was there: rows that the register has, and the file has not.
 import {make} from "./dom.js";
-import {exported} from "./reading.js";
+import {readRows} from "./reports.js";
 import {bitsText, longPlaceText, plural} from "./words.js";
 
-// By the kind of a file: a row as the register has it, numbers without leading zeros; and its words.
-const ROW_FORMS = {
-  placements: {
-    plain: ([frame, , slot, channels, base, repetition]) =>
-      ({frame, slot: Number(slot), channels, base: Number(base), repetition: Number(repetition)}),
-    text: row => `${row.frame} in ${longPlaceText(row)}`,
-  },
-  signals: {
-    plain: ([frame, name, start, length, order]) => ({frame, name, start: Number(start), length: Number(length), order}),
-    text: row => `${row.frame}, ${bitsText(row)}`,
-  },
+// The kinds of rows that a file may take away, in words.
+const TEXTS = {
+  frame: ({frame, node}) => `${frame}, sent by ${node}`,
+  placement: row => `${row.frame} in ${longPlaceText(row)}`,
+  signal: row => `${row.frame}, ${bitsText(row)}`,
+};
+const goneText = row => TEXTS[row.kind](row);
+
+// By the kind of a file: its rows as the register tells them, numbers without leading zeros.
+const FILED = {
+  frames: ([frame, node]) => ({kind: "frame", frame, node}),
+  placements: ([frame, , slot, channels, base, repetition]) =>
+    ({kind: "placement", frame, slot: Number(slot), channels, base: Number(base), repetition: Number(repetition)}),
+  signals: ([frame, name, start, length, order]) => ({kind: "signal", frame, name, start: Number(start), length: Number(length), order}),
 };
 
-// Reads the rows that are there, and gives the words of those that the rows of a file, below its header, would take away.
-export async function rowsGone(desk, {kind, shown}) {
-  if (!ROW_FORMS[kind]) return [];
-  const {plain, text} = ROW_FORMS[kind], rows = shown.slice(1).map(plain);
-  const stay = new Set(rows.map(text)), named = new Set(rows.map(({frame}) => frame));
-  const {records} = await exported(desk, kind);
-  return records.map(record => plain(record.split(","))).filter(({frame}) => named.has(frame)).map(text).filter(row => !stay.has(row));
+// Reads the rows that are there, and gives those that the rows of a file, below its header, would take away: of all frames where it is whole, else of
+// those that it names. With a frame go its placements and signals.
+export async function rowsGone(desk, {kind, shown}, isWhole) {
+  const filed = shown.slice(1).map(FILED[kind]), stay = new Set(filed.map(goneText)), named = new Set(filed.map(({frame}) => frame));
+  const there = readRows(await desk.register.read(desk.path("rows")), desk.me).filter(row => TEXTS[row.kind]);
+  const missing = there.filter(row => `${row.kind}s` === kind && (isWhole || named.has(row.frame)) && !stay.has(goneText(row)));
+  if (kind !== "frames") return missing.map(asGone);
+  const frames = new Set(isWhole ? missing.map(({frame}) => frame) : []);
+  return there.filter(({frame}) => frames.has(frame)).map(asGone);
 }
 
-export const isSameGone = (one, other) => one.length === other.length && one.every((row, at) => row === other[at]);
-export const goneCount = ({kind, gone}) => plural(gone.length, kind.slice(0, -1));
-export const goneList = ({gone}) => make("ul", {class: "scroll"}, gone.map(row => make("li", {}, row)));
+const asGone = row => ({kind: row.kind, text: goneText(row)});
+
+export const isSameGone = (one, other) => one.length === other.length && one.every(({text}, at) => text === other[at].text);
+export const goneCount = ({gone}) => Object.keys(TEXTS).map(kind => [gone.filter(one => one.kind === kind).length, kind])
+  .filter(([count]) => count).map(([count, kind]) => plural(count, kind)).join(", ");
+export const goneList = ({gone}) => make("ul", {class: "scroll"}, gone.map(({text}) => make("li", {}, text)));

@@ -77,7 +77,7 @@ export function send(desk, changes) {
       if (count) fault.isOwn = ownOf(desk, changes.slice(0, count));
       throw fault;
     }
-    const others = await reread(desk, {known: ["frames", "gaps"], isOwn: ownOf(desk, changes)});
+    const others = await reread(desk, {isOwn: ownOf(desk, changes)});
     const text = changes.length === 1 ? changeText(changes[0]) : `All ${plural(count, "change")} are carried out.`;
     done(desk, text + bySomebody(others), () => send(desk, inverse(changes)));
   }).then(() => count);

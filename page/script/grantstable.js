@@ -68,7 +68,7 @@ function changesTo(plan, lanes, isWhole) {
 async function showChanges(desk, text, isWhole, box) {
   const {lanes, faults} = wantedIn(desk, text);
   if (faults.length) { refill(box, make("ul", {class: "fault"}, faults.slice(0, 20).map(fault => make("li", {}, fault)))); return; }
-  await reread(desk, {known: ["frames", "gaps"]});
+  await reread(desk);
   const changes = changesTo(desk.plan, lanes, isWhole);
   showList(desk, box, changes, 0);
 }

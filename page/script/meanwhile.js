@@ -18,12 +18,16 @@ function changesBetween(before, after) {
   return {frames: [...gone, ...frames], lanes};
 }
 
-// The signals that differ, of frames whose signals were read both times.
+const isSameSignal = (one, other) => ["name", "start", "length", "order"].every(field => one[field] === other[field]);
+const areSame = (some, others) => some.length === others.length && some.every((one, at) => isSameSignal(one, others[at]));
+
+// The signals that differ, of frames that are there both times. A report has the signals of a frame in order.
 function signalsBetween(before, after, isOwn) {
   const found = [], texts = signals => new Map(signals.map(one => [one.name, bitsText(one)]));
   for (const frame of after.frames) {
-    if (!before.signalsOf(frame) || !after.signalsOf(frame)) continue;
-    const old = texts(before.signalsOf(frame)), now = texts(after.signalsOf(frame));
+    const then = before.byKey.get(keyOf(frame))?.signals;
+    if (!then || areSame(then, frame.signals)) continue;
+    const old = texts(then), now = texts(frame.signals);
     for (const name of new Set([...old.keys(), ...now.keys()])) {
       if (old.get(name) !== now.get(name) && !isOwn(frame, name)) found.push(`${name} of ${frame.name}`);
     }

@@ -49,12 +49,12 @@ async function readAgain(desk, {isChange, isOwn}) {
   try {
     const changed = await refresh(desk, isOwn);
     if (!isChange) return bySomebody(changed);
-    return changed ? ` What has changed: ${changed}.` : nothingChanged(desk);
+    return changed ? ` What has changed: ${changed}.` : nothingChanged;
   } catch { return " It could not be read again."; }
 }
 
 // What is said where nothing has changed that was read again.
-export const nothingChanged = ({frame}) => ` No frame, no lane and no variant has changed${frame ? `, nor a signal of ${frame.name}` : ""}.`;
+export const nothingChanged = " No frame, no signal, no lane and no variant has changed.";
 
 // Asks in a window. What `content` gives stands between the title and the buttons; with a word, that has to be typed.
 export function confirmed(title, content, yes, word = null) {

@@ -1,32 +1,19 @@
 // The payload of a frame bit by bit, and the signals in it.
 import {bitCount, bitsOf, usedBits} from "./bits.js";
 import {button, make, note, options, table, tableRow, textField} from "./dom.js";
-import {Lost, Refused, Strange} from "./faults.js";
 import {confirmed} from "./messages.js";
 import {colourOf, softened} from "./palette.js";
 import {keyOf} from "./plan.js";
-import {signalsOf} from "./reading.js";
 import {addSignal, dropSignal} from "./steps.js";
 import {bitsText, grouped, plural} from "./words.js";
 
-// Fills a box with the payload of a frame once its signals are read, if it is still wanted then.
-export async function showPayload(desk, frame, box, isWanted) {
-  const isOpen = desk.mayPlan();
-  box.replaceChildren(note("Signals are read ..."));
-  let signals;
-  box.setAttribute("aria-busy", "true");
-  try { signals = await signalsOf(desk, frame); } catch (fault) {
-    if (!(fault instanceof Refused || fault instanceof Lost || fault instanceof Strange)) throw fault;
-    box.replaceChildren(make("p", {class: "fault"}, fault.message));
-    return;
-  } finally { box.removeAttribute("aria-busy"); }
-  if (!isWanted()) return;
+export function payloadOf(desk, frame) {
+  const {signals} = frame, isOpen = desk.mayPlan();
   const matrix = make("div", {class: "scroll", tabindex: "0", role: "group", "aria-label": `Payload of ${frame.name}`});
-  box.replaceChildren(note(`${plural(signals.length, "signal")}, ${usedBits(signals)} of ${grouped(bitCount(desk.cluster))} bits. `
-    + "The most significant bit of a byte stands left."), matrix);
-  if (signals.length) box.append(signalTable(desk, frame, signals, isOpen));
-  if (isOpen) box.append(signalForm(desk, frame, signals, matrix));
-  else matrix.replaceChildren(bitTable(desk.cluster, signals, null, null));
+  if (!isOpen) matrix.append(bitTable(desk.cluster, signals, null, null));
+  return [note(`${plural(signals.length, "signal")}, ${usedBits(signals)} of ${grouped(bitCount(desk.cluster))} bits. `
+    + "The most significant bit of a byte stands left."), matrix,
+    signals.length ? signalTable(desk, frame, signals, isOpen) : "", isOpen ? signalForm(desk, frame, signals, matrix) : ""];
 }
 
 function signalTable(desk, frame, signals, isOpen) {

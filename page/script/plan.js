@@ -1,6 +1,6 @@
-// The plan of a variant: its grants, its frames with their placements and gaps, and what is sent in each cell.
+// The plan of a variant: its grants, its frames with their placements, signals and gaps, and what is sent in each cell.
 import {cyclesOf, gapOf} from "./cycles.js";
-import {Strange, Torn} from "./faults.js";
+import {Strange} from "./faults.js";
 
 export const channelsIn = channels => channels.split("");
 // Lanes have numbers: those of a slot stand together, A before B.
@@ -12,21 +12,20 @@ export const laneText = lane => `${slotOf(lane)} ${channelOf(lane)}`;
 export const keyOf = ({supplier, name}) => `${supplier} ${name}`;
 
 export class Plan {
-  constructor(cluster, grants, frames, gaps) {
+  // `rows` are all that the variant has, at one moment.
+  constructor(cluster, rows) {
     const lanes = cluster.static_slots * 2;
     this.cluster = cluster;
     this.cycles = cluster.cycles;
     this.grants = new Array(lanes).fill(null);
     this.load = new Uint8Array(lanes);
     this.cells = new Int32Array(lanes * this.cycles);
-    this.frames = frames;
+    this.frames = [];
     this.byKey = new Map();
     this.placements = [];
-    this.signals = new Map();
     this.suppliers = new Map(cluster.suppliers.map((name, at) => [name, at]));
-    for (const {slot, channel, node, supplier} of grants) this.grants[laneOf(this.checkedSlot(slot), channel)] = {node, supplier};
-    frames.forEach((frame, at) => this.add(frame, at));
-    this.addGaps(gaps);
+    for (const row of rows) this[row.kind](row);
+    if (this.frames.some(({gap}) => gap === null)) throw new Strange("The server sent a frame without its gap.");
     this.addShades();
   }
 
@@ -35,38 +34,53 @@ export class Plan {
     return slot;
   }
 
-  add(frame, at) {
-    if (this.byKey.has(keyOf(frame))) throw new Strange(`The frame ${frame.name} was sent twice.`);
-    this.byKey.set(keyOf(frame), Object.assign(frame, {at, gap: null}));
-    for (const placement of frame.placements) {
-      const {base, repetition} = placement;
-      if (this.cycles % repetition !== 0 || base >= repetition) throw new Strange("The server sent a placement without cycles.");
-      Object.assign(placement, {frame, shade: -1});
-      this.placements.push(placement);
-      for (const channel of channelsIn(placement.channels)) this.fill(placement, channel);
-    }
+  grant({slot, channels, node, supplier}) { this.grants[laneOf(this.checkedSlot(slot), channels)] = {node, supplier}; }
+
+  frame({frame: name, node, supplier}) {
+    const key = keyOf({supplier, name}), frame = {name, node, supplier, at: this.frames.length, placements: [], signals: [], gap: null};
+    if (this.byKey.has(key)) throw new Strange(`The frame ${name} was sent twice.`);
+    this.byKey.set(key, frame);
+    this.frames.push(frame);
+  }
+
+  // The frame that a row names. Rows of one frame stand together.
+  frameOf({supplier, frame}) {
+    if (this.last?.name !== frame || this.last.supplier !== supplier) this.last = this.frameNamed(supplier, frame);
+    if (!this.last) throw new Strange(`The server sent a row without its frame: ${frame}.`);
+    return this.last;
+  }
+
+  placement(row) {
+    const {slot, channels, base, repetition} = row, placement = {slot, channels, base, repetition, frame: this.frameOf(row), shade: -1};
+    if (this.cycles % repetition !== 0 || base >= repetition) throw new Strange("The server sent a placement without cycles.");
+    placement.frame.placements.push(placement);
+    this.placements.push(placement);
+    for (const channel of channelsIn(channels)) this.fill(placement, channel);
   }
 
   fill(placement, channel) {
     const {frame} = placement, lane = laneOf(this.checkedSlot(placement.slot), channel), grant = this.grants[lane];
     const where = `slot ${placement.slot} on ${channel}`;
-    if (grant?.node !== frame.node || grant.supplier !== frame.supplier) throw new Torn(`${frame.name}'s node does not hold ${where}.`);
+    if (grant?.node !== frame.node || grant.supplier !== frame.supplier) throw new Strange(`${frame.name}'s node does not hold ${where}.`);
     for (let cycle = placement.base; cycle < this.cycles; cycle += placement.repetition) {
       const cell = lane * this.cycles + cycle;
-      if (this.cells[cell]) throw new Torn(`Two frames are sent in cycle ${cycle}, ${where}.`);
+      if (this.cells[cell]) throw new Strange(`Two frames are sent in cycle ${cycle}, ${where}.`);
       this.cells[cell] = this.placements.length;
       this.load[lane] += 1;
     }
   }
 
+  signal(row) {
+    const {name, start, length, order} = row;
+    this.frameOf(row).signals.push({name, start, length, order});
+  }
+
   // Each frame has its gap, and it is that of its placements.
-  addGaps(gaps) {
-    if (gaps.length !== this.frames.length) throw new Torn("The frames and their gaps do not fit together.");
-    for (const {gap, name, supplier} of gaps) {
-      const frame = this.frameNamed(supplier, name);
-      if (frame?.gap !== null || gap !== gapOf(frame.placements, this.cluster)) throw new Torn(`The gap of ${name} is not that of its placements.`);
-      frame.gap = gap;
-    }
+  gap(row) {
+    const frame = this.frameOf(row);
+    const isOwn = frame.gap === null && row.gap === gapOf(frame.placements, this.cluster);
+    if (!isOwn) throw new Strange(`The gap of ${frame.name} is not that of its placements.`);
+    frame.gap = row.gap;
   }
 
   // What is sent side by side in a lane has two shades in turn.
@@ -92,8 +106,4 @@ export class Plan {
 
   lanesHeld() { return this.grants.reduce((sum, grant) => sum + (grant ? 1 : 0), 0); }
   cellsSent() { return this.load.reduce((sum, used) => sum + used, 0); }
-
-  // The signals of a frame, where they were read.
-  signalsOf(frame) { return this.signals.get(keyOf(frame)); }
-  keepSignals(frame, signals) { this.signals.set(keyOf(frame), signals); }
 }

@@ -1,10 +1,9 @@
-// What is read of the register: the cluster, a variant's plan, the room for a frame, differences and signals.
-import {Refused, Strange, Torn} from "./faults.js";
+// What is read of the register: the cluster, a variant's plan, the room for a frame, differences and exports.
+import {Refused, Strange} from "./faults.js";
 import {joined, meanwhile, meanwhileInAll} from "./meanwhile.js";
 import {channelsIn, laneOf, Plan} from "./plan.js";
 import {Register} from "./register.js";
-import {linesOf, readCluster, readDifference, readExport, readFrames, readGaps, readGrants, readNodes, readRoom, readSignals,
-  readVariants} from "./reports.js";
+import {readCluster, readDifference, readExport, readNodes, readRoom, readRows, readVariants} from "./reports.js";
 
 // Takes up a key. No report says whose it is: this request of room is refused in each case, and the integrator's refusal is its own.
 export async function enter(desk, key) {
@@ -28,51 +27,32 @@ export async function readRegister(desk, known = null) {
   desk.tell("register");
 }
 
-const REPORTS = ["grants", "frames", "gaps"];
+// All of a variant at one moment.
+const readPlan = async (desk, variant) => new Plan(desk.cluster, readRows(await desk.register.read(`variants/${variant}/rows`), desk.me));
 
-function planOf({cluster, me}, texts) {
-  return new Plan(cluster, readGrants(texts.grants, me), readFrames(texts.frames, me), readGaps(texts.gaps, me));
-}
-
-// The plan of a variant and the texts that it was read of. These are told one after another, and somebody may change the plan in between: then
-// they may not fit together, and are read once more. A text that is known is not read, unless it does not fit.
-async function readPlan(desk, variant, known) {
-  for (let isFirst = true; ; isFirst = false) {
-    const texts = isFirst ? {...known} : {};
-    for (const report of REPORTS) texts[report] ??= await desk.register.read(`variants/${variant}/${report}`);
-    try { return {texts, plan: planOf(desk, texts)}; } catch (fault) {
-      if (!(fault instanceof Torn) || !isFirst) throw fault;
-    }
-  }
-}
-
-// Shows a plan that was read; what was chosen stays chosen, if it is there. Signals that were read are read again, or are kept.
-async function take(desk, {plan, texts}, before, keepsSignals) {
+// Shows a plan that was read; what was chosen stays chosen, if it is there.
+async function take(desk, plan) {
   const {frame, room, difference} = desk;
-  if (keepsSignals) plan.signals = before.signals;
-  Object.assign(desk, {plan, texts, placement: null, frame: frame && plan.frameNamed(frame.supplier, frame.name)});
-  if (desk.frame && before?.signalsOf(desk.frame)) await signalsOf(desk, desk.frame);
+  Object.assign(desk, {plan, placement: null, frame: frame && plan.frameNamed(frame.supplier, frame.name)});
   if (difference) await compare(desk, difference.from);
   if (room) await findRoom(desk, room.repetition, room.channels);
   desk.tell("plan");
 }
 
 export async function choose(desk, variant) {
-  const turn = desk.turn += 1, read = await readPlan(desk, variant, {});
+  const turn = desk.turn += 1, plan = await readPlan(desk, variant);
   if (desk.turn !== turn) return;
   if (variant !== desk.variant) Object.assign(desk, {difference: null, granting: null, room: null, lane: null, file: null});
   desk.variant = variant;
   desk.canUndo();
-  await take(desk, read, null, false);
+  await take(desk, plan);
 }
 
-// Reads the plan again after a change, but for the reports of `known`, and says what somebody else changed; `isOwn` and `isOwnSignal` are those of
-// `meanwhile`.
-export async function reread(desk, {known = [], keepsSignals = false, isOwn, isOwnSignal} = {}) {
-  const {plan: before, turn, texts, variant} = desk;
-  const read = await readPlan(desk, variant, Object.fromEntries(known.map(report => [report, texts[report]])));
+// Reads the plan again after a change, and says what somebody else changed; `isOwn` and `isOwnSignal` are those of `meanwhile`.
+export async function reread(desk, {isOwn, isOwnSignal} = {}) {
+  const {plan: before, turn, variant} = desk, plan = await readPlan(desk, variant);
   if (desk.turn !== turn || desk.variant !== variant) return "";
-  await take(desk, read, before, keepsSignals);
+  await take(desk, plan);
   return meanwhile(before, desk.plan, isOwn, isOwnSignal);
 }
 
@@ -115,14 +95,6 @@ export async function compare(desk, from) {
   desk.difference = {from, rows, cells, lanes, kind: null};
 }
 
-export async function signalsOf(desk, frame) {
-  const {plan} = desk, known = plan.signalsOf(frame);
-  if (known) return known;
-  const signals = readSignals(await desk.register.read(desk.path(`frames/${frame.name}/layout`)), desk.me);
-  plan.keepSignals(frame, signals.filter(({supplier}) => supplier === frame.supplier));
-  return plan.signalsOf(frame);
-}
-
 // More parts than the largest plan has.
 const MOST_PARTS = 4096;
 
@@ -135,16 +107,5 @@ export async function exported(desk, kind) {
     if (part === MOST_PARTS) throw new Strange("The server sent an export without an end.");
     if (!read.records.length) return {records, parts: part, text: [header, ...records].join("\n") + "\n"};
     for (const record of read.records) records.push(record);
-  }
-}
-
-// The signals of all frames; they come by the export alone.
-export async function readAllSignals(desk) {
-  const {plan} = desk, {text} = await exported(desk, "signals");
-  for (const frame of plan.frames) plan.keepSignals(frame, []);
-  for (const line of linesOf(text).slice(1)) {
-    const [name, signal, start, length, order, supplier] = line.split(",");
-    const frame = plan.frameNamed(supplier ?? desk.me, name);
-    if (frame) plan.signalsOf(frame).push({name: signal, start: Number(start), length: Number(length), order});
   }
 }

@@ -14,7 +14,7 @@ const REFUSALS = {
   10: ["NoVariant", "There is no such variant.", "Load the list of variants again."],
   11: ["Released", "The variant is released and never changes.", "Work goes on in a variant that is opened from it."],
   12: ["NotReleased", "The parent is not released.", "Release it first, or open the variant empty."],
-  13: ["TooDeep", "The parent has depth 16, which is the most.", ""],
+  13: ["TooDeep", "The parent has depth 16, which is the most.", "Tick flat: then it opens without a parent."],
   14: ["NoSupplier", "There is no such supplier.", ""],
   15: ["NoNode", "The supplier has no such node.", "The integrator adds nodes."],
   16: ["NoFrame", "There is no such frame in the variant.", "It may have been dropped meanwhile."],

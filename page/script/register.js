@@ -11,14 +11,13 @@ export class Register {
   }
 
   // The register answers one request after another, so they wait here for their turn.
-  ask(method, path, body) {
-    const turn = this.last.then(() => this.send(method, path, body));
+  ask(method, path, body, isChange = method !== "GET") {
+    const turn = this.last.then(() => this.send(method, path, body, isChange));
     this.last = turn.catch(() => {});
     return turn;
   }
 
-  async send(method, path, body) {
-    const isChange = method !== "GET" && !path.endsWith("/tries");
+  async send(method, path, body, isChange) {
     const {status, text} = await reply(method, path, body, {"X-Office-Key": this.key}).catch(() => { throw new Lost(isChange); });
     if (status === 200) return text;
     const answer = parsed(text);
@@ -31,15 +30,17 @@ export class Register {
   async command(request) { return answerOf("done", await this.ask("POST", "commands", JSON.stringify(request))); }
 
   // What would become of each row of a file, and what comes of it.
-  async tried(variant, file, replaces) {
-    return answerOf("try", await this.ask(replaces ? "PUT" : "POST", `variants/${variant}/tries`, file));
+  async tried(variant, file, {replaces, isWhole}) {
+    return answerOf("try", await this.ask(replaces ? "PUT" : "POST", `variants/${variant}/tries${isWhole ? "/whole" : ""}`, file, false));
   }
 
   async imported(variant, label, file) {
     return answerOf("imported", await this.ask("POST", `variants/${variant}/imports/${label}`, file));
   }
 
-  async replaced(variant, file) { return answerOf("replaced", await this.ask("PUT", `variants/${variant}/rows`, file)); }
+  async replaced(variant, file, isWhole) {
+    return answerOf("replaced", await this.ask("PUT", `variants/${variant}/rows${isWhole ? "/whole" : ""}`, file));
+  }
 }
 
 async function reply(method, path, body, headers) {

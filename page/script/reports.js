@@ -11,17 +11,12 @@ const FORMS = {
   cluster: form("(\\w+) (AB|A|B|\\d{1,10}|NAME)"),
   variant: form(`NAME (-|${NAME}) (\\d{1,2}) (open|released)`),
   node: form("NAME" + OWNER),
-  grant: form("(\\d{4}) ([AB]) NAME" + OWNER),
-  frame: form("FRAME NAME NAME" + OWNER),
-  placement: form("AT (\\d{4}) (AB|A|B) (\\d\\d) (\\d\\d)"),
-  gap: form("GAP +(never|\\d{1,7}) NAME" + OWNER),
-  signal: form("(\\d{4}) (\\d\\d) (little|big) NAME" + OWNER),
   room: form("(\\d{4}) (AB|A|B) (\\d\\d)((?: \\d\\d)+)"),
   fate: form("(\\d{4,}) (\\d\\d) (\\w{1,20})(?: (\\d\\d) ([AB]) NAME| (\\d{4}) NAME)?"),
 };
 
-// The rows of a difference by their kinds: form, and what its fields are.
-const ROWS = {
+// The rows of a variant by their kinds: form, and what its fields are.
+const ROWS = new Map(Object.entries({
   GRANT: [form("GRANT (\\d{4}) ([AB]) NAME" + OWNER), (slot, channels, node, supplier) =>
     ({kind: "grant", slot: Number(slot), channels, node, supplier})],
   FRAME: [form("FRAME NAME NAME" + OWNER), (frame, node, supplier) => ({kind: "frame", frame, node, supplier})],
@@ -29,8 +24,9 @@ const ROWS = {
     ({kind: "placement", frame, slot: Number(slot), channels, base: Number(base), repetition: Number(repetition), supplier})],
   SIGNAL: [form("SIGNAL NAME (\\d{4}) (\\d\\d) (little|big) NAME" + OWNER), (frame, start, length, order, name, supplier) =>
     ({kind: "signal", frame, start: Number(start), length: Number(length), order, name, supplier})],
-  GAP: [form("GAP +(never|\\d{1,7}) NAME" + OWNER), (gap, frame, supplier) => ({kind: "gap", frame, gap: gapOfText(gap), supplier})],
-};
+  GAP: [form("GAP +(never|\\d{1,7}) NAME" + OWNER), (gap, frame, supplier) =>
+    ({kind: "gap", frame, gap: gap === "never" ? Infinity : Number(gap), supplier})],
+}));
 
 const EXPORTS = {
   frames: ["frame,node", form("NAME,NAME(?:,NAME)?")],
@@ -45,7 +41,7 @@ const LEAST_AND_MOST = {
 
 export const isName = text => new RegExp(`^${NAME}$`).test(text);
 
-export function linesOf(text) {
+function linesOf(text) {
   if (text === "") return [];
   return (text.endsWith("\n") ? text.slice(0, -1) : text).split("\n");
 }
@@ -57,7 +53,6 @@ function fieldsOf(shape, line) {
 }
 
 const rowsOf = (text, shape) => linesOf(text).map(line => fieldsOf(shape, line));
-const gapOfText = text => text === "never" ? Infinity : Number(text);
 
 export function readCluster(text) {
   const cluster = {suppliers: []};
@@ -84,31 +79,6 @@ function ownerOf(supplier, me) {
 
 export const readNodes = (text, me) => rowsOf(text, FORMS.node).map(([node, supplier]) => ({node, supplier: ownerOf(supplier, me)}));
 
-export const readGrants = (text, me) => rowsOf(text, FORMS.grant).map(([slot, channel, node, supplier]) =>
-  ({slot: Number(slot), channel, node, supplier: ownerOf(supplier, me)}));
-
-// The frames, each with its placements.
-export function readFrames(text, me) {
-  const frames = [];
-  for (const line of linesOf(text)) {
-    if (line.startsWith("FRAME")) {
-      const [name, node, supplier] = fieldsOf(FORMS.frame, line);
-      frames.push({name, node, supplier: ownerOf(supplier, me), placements: []});
-    } else {
-      const [slot, channels, base, repetition] = fieldsOf(FORMS.placement, line);
-      if (!frames.length) throw new Strange("The server sent a placement without its frame.");
-      frames.at(-1).placements.push({slot: Number(slot), channels, base: Number(base), repetition: Number(repetition)});
-    }
-  }
-  return frames;
-}
-
-export const readGaps = (text, me) => rowsOf(text, FORMS.gap).map(([gap, name, supplier]) =>
-  ({gap: gapOfText(gap), name, supplier: ownerOf(supplier, me)}));
-
-export const readSignals = (text, me) => rowsOf(text, FORMS.signal).map(([start, length, order, name, supplier]) =>
-  ({start: Number(start), length: Number(length), order, name, supplier: ownerOf(supplier, me)}));
-
 export const readRoom = text => rowsOf(text, FORMS.room).map(([slot, channels, repetition, bases]) =>
   ({slot: Number(slot), channels, repetition: Number(repetition), bases: bases.trim().split(" ").map(Number)}));
 
@@ -126,11 +96,18 @@ export function readFates(answer) {
   });
 }
 
+function rowOf(line, me) {
+  const [shape, fields] = ROWS.get(line.slice(0, line.indexOf(" "))) ?? ROWS.get("GAP"), row = fields(...fieldsOf(shape, line));
+  row.supplier = ownerOf(row.supplier, me);
+  return row;
+}
+
+// The rows of a variant, all at one moment.
+export const readRows = (text, me) => linesOf(text).map(line => rowOf(line, me));
+
 export const readDifference = (text, me) => linesOf(text).map(line => {
-  const kind = ROWS[line.slice(2).split(" ", 1)[0]];
-  if (!/^[-+] /.test(line) || !kind) throw new Strange(`The server sent a line that no difference has: ${short(line)}`);
-  const row = kind[1](...fieldsOf(kind[0], line.slice(2)));
-  return {...row, isNew: line[0] === "+", supplier: ownerOf(row.supplier, me)};
+  if (!/^[-+] /.test(line)) throw new Strange(`The server sent a line that no difference has: ${short(line)}`);
+  return {...rowOf(line.slice(2), me), isNew: line[0] === "+"};
 });
 
 // A part of an export: its header and its records as lines.

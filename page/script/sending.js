@@ -22,7 +22,15 @@ export const WAYS = {
     send: ({register, variant}, file, body) => register.replaced(variant, body),
     said: () => "took the place of the earlier ones.",
   },
+  whole: {
+    text: ({kind}) => `replace all ${kind}: what the file does not have is gone`, verb: "Replace all by", replaces: true, isWhole: true,
+    send: ({register, variant}, file, body) => register.replaced(variant, body, true),
+    said: ({kind}) => `are all ${kind} now.`,
+  },
 };
+
+// A part of a file is not sent whole: it would take away what the other parts have.
+export const waysOf = ({parts}) => Object.entries(WAYS).filter(([, {isWhole}]) => !isWhole || !parts);
 
 const LARGEST = 4_000_000;
 
@@ -62,11 +70,12 @@ const bodyOf = file => file.parts ? file.parts[file.part] : file.bytes;
 export async function tryFile(desk) {
   const {file} = desk;
   if (!file || file.fault || !desk.mayPlan()) return;
-  const {replaces} = WAYS[file.way];
+  const way = WAYS[file.way];
   file.fates = null;
   file.shown = file.parts ? recordsOf(new TextDecoder().decode(bodyOf(file))) : file.records;
   await attempt(desk, async () => {
-    const gone = replaces ? await rowsGone(desk, file) : [], fates = readFates(await desk.register.tried(desk.variant, bodyOf(file), replaces));
+    const gone = way.replaces ? await rowsGone(desk, file, way.isWhole) : [];
+    const fates = readFates(await desk.register.tried(desk.variant, bodyOf(file), way));
     Object.assign(file, {gone, fates});
   });
   if (desk.file === file) desk.tell("file");
@@ -79,29 +88,33 @@ function suggestedLabel({name, parts, part}) {
 
 // Asks before rows go that the file does not have. They are read once more then: what a colleague added meanwhile is not taken away unseen.
 async function mayTakeAway(desk, file) {
-  if (!WAYS[file.way].replaces) return true;
+  const {replaces, isWhole} = WAYS[file.way];
+  if (!replaces) return true;
   if (file.gone.length && !await confirmed(`${goneCount(file)} would be gone`, goneList(file), "Replace")) return false;
-  const isSame = await attempt(desk, async () => isSameGone(file.gone, await rowsGone(desk, file)));
+  const isSame = await attempt(desk, async () => isSameGone(file.gone, await rowsGone(desk, file, isWhole)));
   if (isSame !== false || desk.file !== file) return isSame && desk.file === file;
-  const others = await attempt(desk, () => reread(desk, {known: ["grants"]}));
+  const others = await attempt(desk, () => reread(desk));
   await tryFile(desk);
   say("warn", `Nothing was sent: what would be gone has changed meanwhile. Look at it again.${bySomebody(others)}`);
   return false;
 }
 
-// Tells of a frame whether its placements are those that the file leaves it with, and of a signal whether its frame is one of the file's.
+// Tells of a frame whether its placements are those that the file leaves it with, and of a signal whether the file may have put or taken it.
 function filedIn(desk, {kind, shown, way}) {
-  const {plan} = desk, rows = new Map(shown.slice(1).map(([frame]) => [frame, []]));
+  const {plan} = desk, {replaces, isWhole} = WAYS[way], rows = new Map(shown.slice(1).map(([frame, node]) => [frame, {node, placements: []}]));
   if (kind === "placements") {
     for (const [frame, , slot, channels, base, repetition] of shown.slice(1)) {
-      rows.get(frame).push({slot: Number(slot), channels, base: Number(base), repetition: Number(repetition)});
+      rows.get(frame).placements.push({slot: Number(slot), channels, base: Number(base), repetition: Number(repetition)});
     }
   }
   const placed = (plan, {supplier, name}) => plan.frameNamed(supplier, name)?.placements ?? [];
-  const stay = frame => kind === "placements" && WAYS[way].replaces ? [] : placed(plan, frame);
-  const isOwn = frame => rows.has(frame.name)
-    && placementsText([...stay(frame), ...rows.get(frame.name)]) === placementsText(placed(desk.plan, frame));
-  return {isOwn, isOwnSignal: frame => kind === "signals" && rows.has(frame.name)};
+  // Whether the frame goes, be it to come back of another node.
+  const goes = ({supplier, name}) => kind === "frames" && isWhole && plan.frameNamed(supplier, name)?.node !== rows.get(name)?.node;
+  const stay = frame => kind === "placements" && replaces || goes(frame) ? [] : placed(plan, frame);
+  const isFiled = name => name !== undefined && (isWhole || rows.has(name));
+  const isOwn = frame => isFiled(frame.name)
+    && placementsText([...stay(frame), ...rows.get(frame.name)?.placements ?? []]) === placementsText(placed(desk.plan, frame));
+  return {isOwn, isOwnSignal: frame => kind === "signals" && isFiled(frame.name) || goes(frame)};
 }
 
 export async function carryOut(desk) {
@@ -123,7 +136,7 @@ export async function carryOut(desk) {
       file.label = suggestedLabel(file);
       said += ` Part ${file.part + 1} of ${file.parts.length} comes next.`;
     }
-    const others = bySomebody(await reread(desk, {known: ["grants"], ...own}));
+    const others = bySomebody(await reread(desk, own));
     if (isLast) desk.tell("file");
     else await tryFile(desk);
     done(desk, said + others, null);

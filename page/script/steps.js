@@ -21,14 +21,14 @@ export function undoLast(desk) {
 
 const command = (desk, request) => desk.register.command({variant: desk.variant, ...request});
 
-// After a step on placements: reads frames again, and says what is not as this step leaves it.
+// After a step on placements: reads the plan again, and says what is not as this step leaves it.
 async function rereadPlaced(desk, frame, placements) {
   const wanted = placementsText(placements);
   const isOwn = one => keyOf(one) === keyOf(frame) && placementsText(desk.plan.frameNamed(one.supplier, one.name)?.placements ?? []) === wanted;
-  return bySomebody(await reread(desk, {known: ["grants"], keepsSignals: true, isOwn}));
+  return bySomebody(await reread(desk, {isOwn}));
 }
 
-const rereadNamed = async (desk, name) => bySomebody(await reread(desk, {known: ["grants"], isOwn: frame => frame.name === name}));
+const rereadNamed = async (desk, name) => bySomebody(await reread(desk, {isOwn: frame => frame.name === name}));
 
 const plain = ({slot, channels, base, repetition}) => ({slot, channels, base, repetition});
 const current = (desk, frame) => desk.plan.frameNamed(frame.supplier, frame.name);
@@ -63,12 +63,11 @@ export const dropFrame = (desk, name) => attempt(desk, async () => {
   done(desk, `${name} is dropped.` + others, null);
 });
 
-// After a step on a signal the frame's signals are read again.
 async function signalStep(desk, frame, request) {
   await command(desk, {frame: frame.name, ...request});
   if (request.do === "add_signal") desk.draft = null;
   const isOwnSignal = (one, name) => keyOf(one) === keyOf(frame) && name === request.signal;
-  return bySomebody(await reread(desk, {known: ["grants", "frames", "gaps"], isOwnSignal}));
+  return bySomebody(await reread(desk, {isOwnSignal}));
 }
 
 export const addSignal = (desk, frame, signal) => attempt(desk, async () => {

@@ -1,9 +1,7 @@
 // The plan as tables: its frames, those with the largest gap first, and its lanes.
 import {button, byId, longTable, make, note, row, tableRow} from "./dom.js";
 import {usedBits} from "./bits.js";
-import {attempt} from "./messages.js";
 import {channelOf, laneText, slotOf} from "./plan.js";
-import {readAllSignals} from "./reading.js";
 import {byText, cyclesText, firstOf, grouped, shortPlaceText} from "./words.js";
 
 export function tables(desk) {
@@ -20,16 +18,15 @@ function showFrames(desk) {
   const {plan} = desk, frames = [...plan.frames].sort((one, other) => other.gap - one.gap || byText(one.name, other.name));
   const rowOf = frame => tableRow([button(frame.name, () => desk.choose({frame}), {class: "link"}), frame.node, ofSupplier(desk, frame.supplier),
     frame.placements.map(shortPlaceText).join("; "),
-    [desk.times.number(frame.gap), frame.gap === Infinity ? "num never" : "num"], [signalsText(plan.signalsOf(frame)), "code"]]);
+    [desk.times.number(frame.gap), frame.gap === Infinity ? "num never" : "num"], [signalsText(frame.signals), "code"]]);
   byId("view-frames").replaceChildren(
     row(make("h2", {}, `Frames of ${desk.variant}`),
-      button("Read all signals", () => attempt(desk, async () => { await readAllSignals(desk); showFrames(desk); })),
       make("span", {class: "note"}, "Frames that are never sent first, then those with the largest gap.")),
     longTable(["frame", "node", ofSupplier(desk, "supplier"), "placements", [`greatest gap, ${desk.times.unit}`, "num"], "signals: start+bits"],
       frames, rowOf));
 }
 
-const signalsText = signals => signals ? `${usedBits(signals)} bits: `
+const signalsText = signals => signals.length ? `${usedBits(signals)} bits: `
   + signals.map(({name, start, length, order}) => `${name}:${start}+${length}${order === "big" ? " big" : ""}`).join(" ") : "";
 
 function showLanes(desk) {

@@ -16,7 +16,7 @@ export function topBar(desk) {
   listen("variant", "change", ({target}) => show(desk, target.value));
   listen("reload", "click", () => attempt(desk, async () => {
     const changed = await refresh(desk);
-    say("good", "The plan is read again." + (changed ? bySomebody(changed) : nothingChanged(desk)));
+    say("good", "The plan is read again." + (changed ? bySomebody(changed) : nothingChanged));
   }));
   listen("help-open", "click", () => openHelp(desk));
   listen("leave", "click", () => desk.leave());
@@ -94,5 +94,5 @@ function showFigures(desk) {
     + `${grouped(cluster.static_slots)} static slots of ${times.number(cluster.slot_macroticks)}; `
     + `dynamic segment ${times.number(cluster.dynamic_macroticks)}, symbol window ${times.number(cluster.symbol_macroticks)}, `
     + `idle time ${times.number(cluster.idle_macroticks)}. Payload ${grouped(cluster.payload_words * 2)} bytes.`
-    + (entry ? ` ${entry.name}: depth ${entry.depth}, ${entry.parent ? "opened from " + entry.parent : "opened empty"}.` : "");
+    + (entry ? ` ${entry.name}: depth ${entry.depth}, ${entry.parent ? "opened from " + entry.parent : "without a parent"}.` : "");
 }

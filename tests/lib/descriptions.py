@@ -11,7 +11,7 @@ from .program import ran
 SLOT, IDLE = 40, 60
 INTEGRATOR = "integrator1"
 LENGTHS = (1, 1, 2, 3, 5, 7, 8, 9, 12, 16, 17, 31, 32, 33, 63, 64)
-REPORTS = "grants", "frames", "schedule", "gaps", "load"
+REPORTS = "grants", "frames", "schedule", "gaps", "load", "rows"
 EXPORTS = "export_frames", "export_placements", "export_signals"
 # An export of these plans has fewer parts.
 PARTS = 12
@@ -126,9 +126,6 @@ class Told(Source):
 
     def report(self, *asked):
         return json.loads(self.answers["", *asked])["lines"]
-
-    def export(self, variant, kind, part):
-        return self.report(f"export_{kind}", variant, part)
 
 
 def reports(cluster, requests, variants, frames=()):

@@ -95,6 +95,10 @@ def imported(rows):
     return f'{{"ok":"imported","rows":{rows}}}'
 
 
+def replaced(rows):
+    return f'{{"ok":"replaced","rows":{rows}}}'
+
+
 def done(who, do, **fields):
     return request(who, do, **fields), DONE
 
@@ -187,6 +191,21 @@ def exported(key, variant, behind):
         yield told(key, "export_placements", [header, *rows[IMPORT_ROWS * part :][:IMPORT_ROWS]], variant=variant, part=part)
 
 
+def sent_whole(key, variant):
+    """All frames of s1, and in place of all placements as many as a file may have; then the others come back, part by part. One more is refused."""
+    parts = [list(placement_rows())[part : part + IMPORT_ROWS] for part in range(0, FRAMES * PLACEMENTS, IMPORT_ROWS)]
+    bodies = [PLACEMENTS_FILE + "".join(f"{row}\n" for row in rows) for rows in parts]
+    names = "frame,node\n" + "".join(f"{name},{node_of(frame)}\n" for frame, name in enumerate(FRAME))
+    yield request(key, "replace", variant=variant, body=names, whole=True), replaced(FRAMES)
+    yield request(key, "replace", variant=variant, body=bodies[1] + f"{parts[0][0]}\n", whole=True), refused_row(IMPORT_ROWS + 2, 23, "Limit")
+    yield told(key, "try", [f"{line:04} 00 done" for line in range(2, IMPORT_ROWS + 2)], variant=variant, body=bodies[1], replace=True, whole=True)
+    yield request(key, "replace", variant=variant, body=bodies[1], whole=True), replaced(IMPORT_ROWS)
+    yield told(key, "export_placements", [PLACEMENTS_FILE.strip(), *parts[1]], variant=variant, part=0)
+    yield request(key, "replace", variant=variant, body=names, whole=True), replaced(FRAMES)
+    for body in bodies:
+        yield request(key, "replace", variant=variant, body=body), replaced(IMPORT_ROWS)
+
+
 def differences(sign, behind):
     """All that s1 has at the limits, as rows that one variant has and another has not."""
     yield from (f"{sign} GRANT {slot:04} {channel} {node}{behind}" for slot, channel, node in GRANT)
@@ -199,7 +218,7 @@ def differences(sign, behind):
 
 
 def queries(key, variant, behind):
-    """Each query of a variant in which s1 is at the limits; `behind` follows each line but those of placements."""
+    """Each query of a variant in which s1 is at the limits; `behind` follows each line but the placements of a frame."""
     grants = (f"{slot:04} {channel} {node}" for slot, channel, node in GRANT)
     reports = [("grants", {}, grants), ("frames", {}, frames()), ("schedule", {}, schedule()), ("gaps", {}, gaps()), ("load", {}, load())]
     for frame, order, signals in SIGNAL:
@@ -207,6 +226,7 @@ def queries(key, variant, behind):
         reports.append(("layout", dict(frame=frame), rows))
     for name, fields, rows in reports:
         yield told(key, name, [row if row.startswith("AT") else row + behind for row in rows], variant=variant, **fields)
+    yield told(key, "rows", [row.strip() for row in differences("", behind)], variant=variant)
     yield from exported(key, variant, behind)
 
 
@@ -263,16 +283,22 @@ def at_the_limits():
         body = PLACEMENTS_FILE + "".join(f"{row}\n" for row in list(placement_rows())[IMPORT_ROWS * part :][:IMPORT_ROWS])
         for replaces, fate in (False, "23 Limit"), (True, "00 done"):
             yield told(key, "try", [f"{line:04} {fate}" for line in range(2, IMPORT_ROWS + 2)], variant=deepest, body=body, replace=replaces)
-        yield request(key, "replace", variant=deepest, body=body), f'{{"ok":"replaced","rows":{IMPORT_ROWS}}}'
+        yield request(key, "replace", variant=deepest, body=body), replaced(IMPORT_ROWS)
+    yield from exported(key, deepest, "")
+    yield from sent_whole(key, deepest)
     yield from exported(key, deepest, "")
     for who in key, integrator:
         yield told(who, "diff", [], variant=deepest, **{"from": "v1"})
     yield done(integrator, "release", variant=deepest)
     yield request(integrator, "open_variant", variant="more", **{"from": deepest}), refused(13, "TooDeep")
-    for n in range(DEPTH + 1, VARIANTS + 1):
+    for n in range(DEPTH + 1, VARIANTS):
         yield done(integrator, "open_variant", variant=f"v{n}")
+    yield done(integrator, "open_variant", variant=f"v{VARIANTS}", **{"from": deepest}, flat=True)
     yield limit(integrator, "open_variant", variant="more")
     yield limit(integrator, "open_variant", variant="more", **{"from": "v1"})
+    yield limit(integrator, "open_variant", variant="more", **{"from": "v1"}, flat=True)
+    yield from queries(key, f"v{VARIANTS}", "")
+    yield told(integrator, "diff", [], variant=f"v{VARIANTS}", **{"from": deepest})
     for who, behind in (key, ""), (integrator, " s1"):
         yield told(who, "diff", list(differences("+", behind)), variant=deepest, **{"from": f"v{DEPTH + 1}"})
         yield told(who, "diff", list(differences("-", behind)), variant=f"v{DEPTH + 1}", **{"from": deepest})
@@ -280,7 +306,7 @@ def at_the_limits():
 
 
 def variant_line(n):
-    """What is told of the variant `vN`: the first ones are opened one from another and released, the others empty."""
+    """What is told of the variant `vN`: the first ones are opened one from another and released, the others empty or flat."""
     if n > DEPTH:
         return f"v{n} - 1 open"
     return f"v{n} {f'v{n - 1}' if n > 1 else '-'} {n} released"

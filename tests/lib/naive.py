@@ -20,20 +20,21 @@ WHOLE = re.compile(rb"[0-9]{1,10}")
 NUMBERS = {"slot", "base", "repetition", "start", "length", "part"}
 PLACE = ("variant", "frame", "slot", "channels", "base", "repetition")
 FIELDS = {
-    "open_variant": ("variant", "from"), "release": ("variant",), "add_supplier": ("supplier", "key"),
+    "open_variant": ("variant", "from", "flat"), "release": ("variant",), "add_supplier": ("supplier", "key"),
     "set_key": ("supplier", "key"), "add_node": ("supplier", "node"),
     "grant": ("variant", "slot", "channel", "supplier", "node"), "revoke": ("variant", "slot", "channel", "supplier"),
     "add_frame": ("variant", "frame", "node"), "drop_frame": ("variant", "frame"), "place": PLACE, "unplace": PLACE,
     "add_signal": ("variant", "frame", "signal", "start", "length", "order"), "drop_signal": ("variant", "frame", "signal"),
-    "import": ("variant", "label", "body"), "replace": ("variant", "body"), "try": ("variant", "body", "replace"), "cluster": (), "variants": (),
-    "nodes": (), "diff": ("variant", "from"), "grants": ("variant",), "frames": ("variant",), "schedule": ("variant",), "gaps": ("variant",),
-    "layout": ("variant", "frame"), "load": ("variant",), "export_frames": ("variant", "part"), "export_placements": ("variant", "part"),
+    "import": ("variant", "label", "body"), "replace": ("variant", "body", "whole"), "try": ("variant", "body", "replace", "whole"), "cluster": (),
+    "variants": (), "nodes": (), "diff": ("variant", "from"), "grants": ("variant",), "frames": ("variant",), "schedule": ("variant",), "gaps": ("variant",),
+    "layout": ("variant", "frame"), "load": ("variant",), "rows": ("variant",), "export_frames": ("variant", "part"), "export_placements": ("variant", "part"),
     "export_signals": ("variant", "part"), "room": ("variant", "frame", "repetition"),
 }
-# A field that may be left out, and what it then is.
-LEFT_OUT = {"open_variant": ("from", None), "try": ("replace", False)}
+# Fields that may be left out, and what they then are.
+LEFT_OUT = {"open_variant": {"from": None, "flat": False}, "replace": {"whole": False}, "try": {"replace": False, "whole": False}}
+FLAGS = {"flat", "replace", "whole"}
 HELD = {"cluster", "variants", "nodes"}
-BOTH = HELD | {"diff", "grants", "frames", "schedule", "gaps", "layout", "load", "export_frames", "export_placements", "export_signals"}
+BOTH = HELD | {"diff", "grants", "frames", "schedule", "gaps", "layout", "load", "rows", "export_frames", "export_placements", "export_signals"}
 QUERIES = BOTH | {"room"}
 # Requests that carry a file, each with what answers it.
 FILED = {"import": "import_rows", "replace": "replace_rows", "try": "try_rows"}
@@ -125,16 +126,17 @@ def read_request(text):
         raise Refused("BadText")
     see(isinstance(asked, dict) and isinstance(asked.get("do"), str) and asked["do"] in FIELDS, "BadText")
     do = asked.pop("do")
-    if do in LEFT_OUT:
-        asked.setdefault(*LEFT_OUT[do])
+    asked = {**LEFT_OUT.get(do, {}), **asked}
     see(set(asked) == set(FIELDS[do]), "BadText")
     for field, value in asked.items():
         if field in NUMBERS:
             see(is_number(value), "BadText")
-        elif field == "replace":
+        elif field in FLAGS:
             see(isinstance(value, bool), "BadText")
         else:
             see(isinstance(value, str) or (do, field, value) == ("open_variant", "from", None), "BadText")
+    see(do != "try" or asked["replace"] or not asked["whole"], "BadText")
+    see(do != "open_variant" or asked["from"] is not None or not asked["flat"], "BadText")
     return do, asked
 
 
@@ -167,7 +169,7 @@ class Register:
         self.db = sqlite3.connect(":memory:", isolation_level=None)
         self.db.executescript(TABLES)
 
-    def rows(self, text, *values):
+    def sql(self, text, *values):
         return self.db.execute(text, values).fetchall()
 
     def one(self, text, *values):
@@ -205,27 +207,27 @@ class Register:
         return self.one(f"SELECT count(*) FROM {table} WHERE {where}", *values)[0]
 
     def open_variant(self, _, asked):
-        variant, parent = asked["variant"], asked["from"]
-        depth = 1
-        if parent is not None:
-            row = self.one("SELECT depth, released FROM variants WHERE name = ?", parent)
+        variant, other, flat = asked["variant"], asked["from"], asked["flat"]
+        parent, depth = None if flat else other, 1
+        if other is not None:
+            row = self.one("SELECT depth, released FROM variants WHERE name = ?", other)
             see(row, "NoVariant")
             see(row[1], "NotReleased")
-            see(row[0] < 16, "TooDeep")
-            depth = row[0] + 1
+            see(flat or row[0] < 16, "TooDeep")
+            depth = 1 if flat else row[0] + 1
         see(not self.one("SELECT 1 FROM variants WHERE name = ?", variant), "Exists")
         see(self.count("variants", "1") < 64, "Limit")
-        self.rows("INSERT INTO variants VALUES (?, ?, ?, 0)", variant, parent, depth)
-        if parent is not None:
+        self.sql("INSERT INTO variants VALUES (?, ?, ?, 0)", variant, parent, depth)
+        if other is not None:
             for table, columns in (
                 ("grants", "slot, channel, supplier, node"), ("frames", "supplier, name, node"),
                 ("placements", "supplier, frame, slot, channels, base, repetition"), ("signals", "supplier, frame, name, start, length, big"),
             ):
-                self.rows(f"INSERT INTO {table} SELECT ?, {columns} FROM {table} WHERE variant = ?", variant, parent)
+                self.sql(f"INSERT INTO {table} SELECT ?, {columns} FROM {table} WHERE variant = ?", variant, other)
 
     def release(self, _, asked):
         self.open_row(asked["variant"])
-        self.rows("UPDATE variants SET released = 1 WHERE name = ?", asked["variant"])
+        self.sql("UPDATE variants SET released = 1 WHERE name = ?", asked["variant"])
 
     def add_supplier(self, _, asked):
         supplier, key = asked["supplier"], asked["key"]
@@ -252,7 +254,7 @@ class Register:
         see(supplier in self.suppliers, "NoSupplier")
         see(not self.one("SELECT 1 FROM nodes WHERE supplier = ? AND name = ?", supplier, node), "Exists")
         see(self.count("nodes", "supplier = ?", supplier) < 64, "Limit")
-        self.rows("INSERT INTO nodes VALUES (?, ?)", supplier, node)
+        self.sql("INSERT INTO nodes VALUES (?, ?)", supplier, node)
 
     def holder(self, variant, slot, channel):
         return self.one("SELECT supplier, node FROM grants WHERE variant = ? AND slot = ? AND channel = ?", variant, slot, channel)
@@ -266,7 +268,7 @@ class Register:
         see(holder != (supplier, node), "Exists")
         see(holder is None or holder[0] != supplier, "NodeDiffers")
         see(holder is None, "Taken")
-        self.rows("INSERT INTO grants VALUES (?, ?, ?, ?, ?)", variant, slot, channel, supplier, node)
+        self.sql("INSERT INTO grants VALUES (?, ?, ?, ?, ?)", variant, slot, channel, supplier, node)
 
     def revoke(self, _, asked):
         variant, slot, channel, supplier = (asked[field] for field in FIELDS["revoke"])
@@ -274,9 +276,9 @@ class Register:
         see(supplier in self.suppliers, "NoSupplier")
         holder = self.holder(variant, slot, channel)
         see(holder is not None and holder[0] == supplier, "NotGranted")
-        used = self.rows("SELECT channels FROM placements WHERE variant = ? AND supplier = ? AND slot = ?", variant, supplier, slot)
+        used = self.sql("SELECT channels FROM placements WHERE variant = ? AND supplier = ? AND slot = ?", variant, supplier, slot)
         see(not any(channel in channels for channels, in used), "InUse")
-        self.rows("DELETE FROM grants WHERE variant = ? AND slot = ? AND channel = ?", variant, slot, channel)
+        self.sql("DELETE FROM grants WHERE variant = ? AND slot = ? AND channel = ?", variant, slot, channel)
 
     def node_of(self, variant, supplier, frame):
         row = self.one("SELECT node FROM frames WHERE variant = ? AND supplier = ? AND name = ?", variant, supplier, frame)
@@ -284,7 +286,7 @@ class Register:
 
     def new_frame(self, variant, supplier, frame, node):
         see(self.count("frames", "variant = ? AND supplier = ?", variant, supplier) < 256, "Limit")
-        self.rows("INSERT INTO frames VALUES (?, ?, ?, ?)", variant, supplier, frame, node)
+        self.sql("INSERT INTO frames VALUES (?, ?, ?, ?)", variant, supplier, frame, node)
 
     def add_frame(self, supplier, asked):
         variant, frame, node = asked["variant"], asked["frame"], asked["node"]
@@ -301,17 +303,19 @@ class Register:
 
     def drop_frame(self, supplier, asked):
         self.see_frame(supplier, asked)
-        of = (asked["variant"], supplier, asked["frame"])
-        self.rows("DELETE FROM placements WHERE variant = ? AND supplier = ? AND frame = ?", *of)
-        self.rows("DELETE FROM signals WHERE variant = ? AND supplier = ? AND frame = ?", *of)
-        self.rows("DELETE FROM frames WHERE variant = ? AND supplier = ? AND name = ?", *of)
+        self.end_frame(asked["variant"], supplier, asked["frame"])
+
+    def end_frame(self, *of):
+        self.sql("DELETE FROM placements WHERE variant = ? AND supplier = ? AND frame = ?", *of)
+        self.sql("DELETE FROM signals WHERE variant = ? AND supplier = ? AND frame = ?", *of)
+        self.sql("DELETE FROM frames WHERE variant = ? AND supplier = ? AND name = ?", *of)
 
     def put_placement(self, supplier, asked, node):
         variant, frame, slot, channels, base, repetition = (asked[field] for field in PLACE)
         for channel in channels:
             see(self.holder(variant, slot, channel) == (supplier, node), "NotGranted")
         see(self.count("placements", "variant = ? AND supplier = ? AND frame = ?", variant, supplier, frame) < 8, "Limit")
-        others = self.rows("SELECT frame, channels, base, repetition FROM placements WHERE variant = ? AND supplier = ? AND slot = ?", variant, supplier, slot)
+        others = self.sql("SELECT frame, channels, base, repetition FROM placements WHERE variant = ? AND supplier = ? AND slot = ?", variant, supplier, slot)
         taken = []
         for other, on, *cycles in others:
             cycle = first_common(self.cycles, (base, repetition), cycles)
@@ -320,7 +324,7 @@ class Register:
         if taken:
             cycle, channel, other = min(taken)
             raise Refused("CellTaken", cycle=cycle, channel=channel, frame=other)
-        self.rows("INSERT INTO placements VALUES (?, ?, ?, ?, ?, ?, ?)", variant, supplier, frame, slot, channels, base, repetition)
+        self.sql("INSERT INTO placements VALUES (?, ?, ?, ?, ?, ?, ?)", variant, supplier, frame, slot, channels, base, repetition)
 
     def place(self, supplier, asked):
         self.put_placement(supplier, asked, self.see_frame(supplier, asked))
@@ -336,7 +340,7 @@ class Register:
     def add_signal(self, supplier, asked):
         variant, frame, signal, start, length, order = (asked[field] for field in FIELDS["add_signal"])
         self.see_frame(supplier, asked)
-        there = self.rows("SELECT name, start, length, big FROM signals WHERE variant = ? AND supplier = ? AND frame = ?", variant, supplier, frame)
+        there = self.sql("SELECT name, start, length, big FROM signals WHERE variant = ? AND supplier = ? AND frame = ?", variant, supplier, frame)
         see(all(name != signal for name, *_ in there), "Exists")
         see(len(there) < 64, "Limit")
         big = order == "big"
@@ -347,7 +351,7 @@ class Register:
         taken = [bit for bit in bits if bit in used]
         if taken:
             raise Refused("BitTaken", bit=min(taken), signal=used[min(taken)])
-        self.rows("INSERT INTO signals VALUES (?, ?, ?, ?, ?, ?, ?)", variant, supplier, frame, signal, start, length, int(big))
+        self.sql("INSERT INTO signals VALUES (?, ?, ?, ?, ?, ?, ?)", variant, supplier, frame, signal, start, length, int(big))
 
     def drop_signal(self, supplier, asked):
         self.see_frame(supplier, asked)
@@ -371,7 +375,7 @@ class Register:
         refused = self.refused_row(rows, wrong, lambda row: self.act_row(supplier, variant, *row))
         if refused:
             return refused
-        self.rows("INSERT INTO imports VALUES (?, ?, ?, ?, ?)", supplier, label, variant, body, len(rows))
+        self.sql("INSERT INTO imports VALUES (?, ?, ?, ?, ?)", supplier, label, variant, body, len(rows))
         self.db.execute("COMMIT")
         return {"ok": "imported", "rows": len(rows)}
 
@@ -381,17 +385,25 @@ class Register:
         see(len(body) <= 65_536, "Limit")
         self.db.execute("BEGIN")
         rows, wrong = self.read_rows(body)
-        self.free(supplier, variant, rows)
+        self.take_away(supplier, variant, body, asked["whole"])
         refused = self.refused_row(rows, wrong, lambda row: self.put_row(supplier, variant, *row))
         if refused:
             return refused
         self.db.execute("COMMIT")
         return {"ok": "replaced", "rows": len(rows)}
 
-    def free(self, supplier, variant, rows):
-        """The frames that these rows name lose what the rows bring anew."""
-        for kind, frame in {(kind, row["frame"]) for _, (kind, row) in rows if kind != "frames"}:
-            self.rows(f"DELETE FROM {kind} WHERE variant = ? AND supplier = ? AND frame = ?", variant, supplier, frame)
+    def take_away(self, supplier, variant, body, whole):
+        """What a replacement takes away before its first row. A file without a header takes nothing."""
+        (kind, _), (rows, _) = self.records(body), self.read_rows(body)
+        named = {(row["frame"], row.get("node")) for _, (_, row) in rows}
+        there = self.sql("SELECT name, node FROM frames WHERE variant = ? AND supplier = ?", variant, supplier)
+        if kind == "frames":
+            for frame, node in there if whole else ():
+                if (frame, node) not in named:
+                    self.end_frame(variant, supplier, frame)
+        elif kind:
+            for frame in {frame for frame, _ in (there if whole else named)}:
+                self.sql(f"DELETE FROM {kind} WHERE variant = ? AND supplier = ? AND frame = ?", variant, supplier, frame)
 
     def try_rows(self, supplier, asked):
         """What becomes of each line of a file, on what those before it left; in the end nothing is changed."""
@@ -400,7 +412,7 @@ class Register:
         see(len(body) <= 65_536, "Limit")
         self.db.execute("BEGIN")
         if replaces:
-            self.free(supplier, variant, self.read_rows(body)[0])
+            self.take_away(supplier, variant, body, asked["whole"])
         act = self.put_row if replaces else self.act_row
         fates = [self.fate(line, row, lambda row: act(supplier, variant, *row)) for line, row in self.each_line(body)]
         self.db.execute("ROLLBACK")
@@ -408,13 +420,13 @@ class Register:
 
     def fate(self, line, row, act):
         """What becomes of a line, which is a row or refused by its own text. A refused one changes nothing."""
-        self.rows("SAVEPOINT line")
+        self.sql("SAVEPOINT line")
         try:
             if isinstance(row, Refused):
                 raise row
             act(row)
         except Refused as refused:
-            self.rows("ROLLBACK TO line")
+            self.sql("ROLLBACK TO line")
             return f"{line:04} {told_as_fate(**refused.answer)}"
         return f"{line:04} 00 done"
 
@@ -442,17 +454,21 @@ class Register:
 
     def each_line(self, body):
         """The lines of a file: each with its row, or with the refusal by its own text. One line more than there may be is the last."""
-        text = body.removeprefix(b"\xef\xbb\xbf").decode("latin-1")
-        records = (record for record in csv.reader(io.StringIO(text, newline="")) if record)
-        header = tuple(next(records, ()))
-        shapes = {tuple(FIELDS_OF_ROW[kind]): kind for kind in FIELDS_OF_ROW}
-        if header not in shapes:
+        kind, records = self.records(body)
+        if kind is None:
             yield 1, Refused("BadText")
             return
         for line, record in zip(range(2, ROWS + 2), records):
-            yield line, self.row_or_refused(shapes[header], header, record)
+            yield line, self.row_or_refused(kind, FIELDS_OF_ROW[kind], record)
         if next(records, None):
             yield ROWS + 2, Refused("Limit")
+
+    def records(self, body):
+        """The kind of a file's rows, as its header tells, or None where it has none; and the records behind the header."""
+        text = body.removeprefix(b"\xef\xbb\xbf").decode("latin-1")
+        records = (record for record in csv.reader(io.StringIO(text, newline="")) if record)
+        header = tuple(next(records, ()))
+        return next((kind for kind, fields in FIELDS_OF_ROW.items() if fields == header), None), records
 
     def row_or_refused(self, kind, header, record):
         try:
@@ -514,22 +530,22 @@ class Register:
         if do == "cluster":
             return [f"{key} {self.cluster[key]}" for key in FIGURES] + [f"supplier {supplier}" for supplier, _ in self.of(actor)]
         if do == "variants":
-            variants = self.rows("SELECT name, parent, depth, released FROM variants ORDER BY name")
+            variants = self.sql("SELECT name, parent, depth, released FROM variants ORDER BY name")
             return [f"{name} {parent or '-'} {depth} {'released' if released else 'open'}" for name, parent, depth, released in variants]
         nodes = "SELECT name FROM nodes WHERE supplier = ? ORDER BY name"
-        return [f"{node}{end}" for supplier, end in self.of(actor) for node, in self.rows(nodes, supplier)]
+        return [f"{node}{end}" for supplier, end in self.of(actor) for node, in self.sql(nodes, supplier)]
 
     def grants(self, actor, variant):
         rows = [
             (slot, channel, f"{slot:04} {channel} {node}{end}")
             for supplier, end in self.of(actor)
-            for slot, channel, node in self.rows("SELECT slot, channel, node FROM grants WHERE variant = ? AND supplier = ?", variant, supplier)
+            for slot, channel, node in self.sql("SELECT slot, channel, node FROM grants WHERE variant = ? AND supplier = ?", variant, supplier)
         ]
         return [line for *_, line in sorted(rows)]
 
     def frames(self, actor, variant):
         for supplier, end in self.of(actor):
-            for frame, node in self.rows("SELECT name, node FROM frames WHERE variant = ? AND supplier = ? ORDER BY name", variant, supplier):
+            for frame, node in self.sql("SELECT name, node FROM frames WHERE variant = ? AND supplier = ? ORDER BY name", variant, supplier):
                 yield f"FRAME {frame} {node}{end}"
                 for slot, channels, base, repetition in self.placements(variant, supplier, frame):
                     yield f"AT {slot:04} {channels} {base:02} {repetition:02}"
@@ -537,12 +553,12 @@ class Register:
     def placements(self, variant, supplier, frame):
         """Those of a frame by slot, channels (A, AB, B), base and repetition."""
         of = "SELECT slot, channels, base, repetition FROM placements WHERE variant = ? AND supplier = ? AND frame = ?"
-        return sorted(self.rows(of, variant, supplier, frame), key=lambda it: (it[0], ("A", "AB", "B").index(it[1]), *it[2:]))
+        return sorted(self.sql(of, variant, supplier, frame), key=lambda it: (it[0], ("A", "AB", "B").index(it[1]), *it[2:]))
 
     def schedule(self, actor, variant):
         lines = []
         for supplier, end in self.of(actor):
-            placed = self.rows(
+            placed = self.sql(
                 "SELECT p.frame, f.node, p.slot, p.channels, p.base, p.repetition FROM placements p JOIN frames f"
                 " ON f.variant = p.variant AND f.supplier = p.supplier AND f.name = p.frame WHERE p.variant = ? AND p.supplier = ?", variant, supplier)
             for frame, node, slot, channels, base, repetition in placed:
@@ -551,7 +567,7 @@ class Register:
 
     def gaps(self, actor, variant):
         for supplier, end in self.of(actor):
-            for frame, in self.rows("SELECT name FROM frames WHERE variant = ? AND supplier = ? ORDER BY name", variant, supplier):
+            for frame, in self.sql("SELECT name FROM frames WHERE variant = ? AND supplier = ? ORDER BY name", variant, supplier):
                 yield f"GAP {self.gap(variant, supplier, frame):>7} {frame}{end}"
 
     def gap(self, variant, supplier, frame):
@@ -567,7 +583,7 @@ class Register:
     def signals(self, variant, supplier, frame):
         """Those of a frame by start."""
         of = "SELECT start, length, big, name FROM signals WHERE variant = ? AND supplier = ? AND frame = ? ORDER BY start"
-        return [(start, length, ("little", "big")[big], name) for start, length, big, name in self.rows(of, variant, supplier, frame)]
+        return [(start, length, ("little", "big")[big], name) for start, length, big, name in self.sql(of, variant, supplier, frame)]
 
     def layout(self, actor, variant, frame):
         found, lines = False, []
@@ -582,10 +598,10 @@ class Register:
         """For each lane how many cycles of it are used; for a supplier for each lane that it holds."""
         used = Counter()
         for supplier, _ in self.of(actor):
-            placed = self.rows("SELECT slot, channels, base, repetition FROM placements WHERE variant = ? AND supplier = ?", variant, supplier)
+            placed = self.sql("SELECT slot, channels, base, repetition FROM placements WHERE variant = ? AND supplier = ?", variant, supplier)
             for slot, channels, base, repetition in placed:
                 used.update({(slot, channel): len(range(base, self.cycles, repetition)) for channel in channels})
-        grants = self.rows("SELECT slot, channel, supplier, node FROM grants WHERE variant = ?", variant)
+        grants = self.sql("SELECT slot, channel, supplier, node FROM grants WHERE variant = ?", variant)
         held = {(slot, channel): holder for slot, channel, *holder in grants}
         for slot in range(1, self.cluster["static_slots"] + 1):
             for channel in self.cluster["channels"]:
@@ -602,9 +618,9 @@ class Register:
         see(len(self.placements(variant, supplier, frame)) < 8, "Limit")
         free = {
             (slot, channel): set(range(self.cycles))
-            for slot, channel in self.rows("SELECT slot, channel FROM grants WHERE variant = ? AND supplier = ? AND node = ?", variant, supplier, node)
+            for slot, channel in self.sql("SELECT slot, channel FROM grants WHERE variant = ? AND supplier = ? AND node = ?", variant, supplier, node)
         }
-        placed = self.rows("SELECT slot, channels, base, repetition FROM placements WHERE variant = ? AND supplier = ?", variant, supplier)
+        placed = self.sql("SELECT slot, channels, base, repetition FROM placements WHERE variant = ? AND supplier = ?", variant, supplier)
         for slot, channels, base, every in placed:
             for channel in channels:
                 free.get((slot, channel), set()).difference_update(range(base, self.cycles, every))
@@ -615,15 +631,15 @@ class Register:
                 if bases:
                     yield " ".join([f"{slot:04} {channels} {repetition:02}", *(f"{base:02}" for base in bases)])
 
-    # ---- differences
+    # ---- rows and differences
 
     def seen(self, actor, variant):
         """The rows of the variant that an actor sees: of each its kind and its key, by which they are in order, and its line."""
         grants = "SELECT slot, channel, node FROM grants WHERE variant = ? AND supplier = ?"
         for supplier, end in self.of(actor):
-            for slot, channel, node in self.rows(grants, variant, supplier):
+            for slot, channel, node in self.sql(grants, variant, supplier):
                 yield (0, slot, channel), f"GRANT {slot:04} {channel} {node}{end}"
-            for frame, node in self.rows("SELECT name, node FROM frames WHERE variant = ? AND supplier = ?", variant, supplier):
+            for frame, node in self.sql("SELECT name, node FROM frames WHERE variant = ? AND supplier = ?", variant, supplier):
                 yield (1, supplier, frame), f"FRAME {frame} {node}{end}"
                 for slot, channels, base, repetition in self.placements(variant, supplier, frame):
                     key = (2, supplier, frame, slot, ("A", "AB", "B").index(channels), base, repetition)
@@ -631,6 +647,10 @@ class Register:
                 for start, length, order, name in self.signals(variant, supplier, frame):
                     yield (3, supplier, frame, start), f"SIGNAL {frame} {start:04} {length:02} {order} {name}{end}"
                 yield (4, supplier, frame), f"GAP {self.gap(variant, supplier, frame):>7} {frame}{end}"
+
+    def rows(self, actor, variant):
+        """All of them at one moment, as a difference has them without its sign."""
+        return [line for _, line in sorted(self.seen(actor, variant))]
 
     def diff(self, actor, variant, **other):
         """What the other variant has and this one not, and what this one has and the other not."""
@@ -640,9 +660,9 @@ class Register:
 
     # ---- exports
 
-    def records(self, kind, variant, supplier):
+    def exported(self, kind, variant, supplier):
         """For each frame of the supplier its records of this kind."""
-        for frame, node in self.rows("SELECT name, node FROM frames WHERE variant = ? AND supplier = ? ORDER BY name", variant, supplier):
+        for frame, node in self.sql("SELECT name, node FROM frames WHERE variant = ? AND supplier = ? ORDER BY name", variant, supplier):
             if kind == "frames":
                 yield [(frame, node)]
             elif kind == "placements":
@@ -654,7 +674,7 @@ class Register:
         """The header, and the records of this part: it takes whole frames, as many as give at most so many records."""
         parts = [[]]
         for supplier, _ in self.of(actor):
-            for records in self.records(kind, variant, supplier):
+            for records in self.exported(kind, variant, supplier):
                 if len(parts[-1]) + len(records) > ROWS:
                     parts.append([])
                 parts[-1] += [(*record, supplier) for record in records]

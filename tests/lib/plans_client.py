@@ -12,7 +12,7 @@ from .messages import FIGURE_LINES
 from .program import ran
 from .registers import RegisterCase
 
-REPORTS = "grants", "frames", "schedule", "gaps", "load"
+REPORTS = "grants", "frames", "schedule", "gaps", "load", "rows"
 EXPORTS = "export_frames", "export_placements", "export_signals"
 
 
@@ -75,9 +75,6 @@ class TypedSource(Source):
 
     def report(self, name, *variant):
         return self.told[name]
-
-    def export(self, variant, kind, part):
-        return ["header", *([] if part else self.told[kind])]
 
 
 def request(key, do, **fields):

@@ -1,4 +1,4 @@
-"""A register that gets eleven requests, one after another: what is replied to each, which rows are in the file after so many, and folders with the files of
+"""A register that gets thirteen requests, one after another: what is replied to each, which rows are in the file after so many, and folders with the files of
 registers after none, five or all of them. What becomes of a register in a file is told by after how many it stands."""
 import shutil
 import socket
@@ -53,6 +53,7 @@ NO_FRAME = json(refused(16, "NoFrame"), "404 Not Found")
 KEY_TAKEN = json(refused(31, "KeyTaken"), "409 Conflict")
 IMPORTED, REPLACED = (json(b'{"ok":"%s","rows":1}' % word) for word in (b"imported", b"replaced"))
 REVISION = b"frame,signal,start,length,order\nf1,y,15,8,big\n"
+WHOLE = b"frame,signal,start,length,order\nf1,z,0,4,little\n"
 
 REQUESTS = [
     order("integrator1", b'{"do":"open_variant","variant":"v1"}', EXISTS, ("variants", ("v1", None, 1, 0, 0))),
@@ -80,6 +81,14 @@ REQUESTS = [
         takes=[("signals", ("v1", "s1", "f1", "x", 0, 8, 0))],
         line=rb'supplier01 {"do":"replace","variant":"v1","body":"frame,signal,start,length,order\nf1,y,15,8,big\n"}' + b"\n",
     ),
+    Request(
+        put("/v1/variants/v1/rows/whole", "supplier01", WHOLE),
+        REPLACED,
+        REPLACED,
+        [("signals", ("v1", "s1", "f1", "z", 0, 4, 0))],
+        takes=[("signals", ("v1", "s1", "f1", "y", 15, 8, 1))],
+        line=rb'supplier01 {"do":"replace","variant":"v1","body":"frame,signal,start,length,order\nf1,z,0,4,little\n","whole":true}' + b"\n",
+    ),
     order(
         "integrator1",
         b'{"do":"set_key","supplier":"s2","key":"supplier09"}',
@@ -96,6 +105,16 @@ REQUESTS = [
         EXISTS,
         ("variants", ("v2", "v1", 2, 0, 1)),
         ("grants", ("v2", 1, "A", "s1", "n1")),
+    ),
+    order(
+        "integrator1",
+        b'{"do":"open_variant","variant":"v3","from":"v1","flat":true}',
+        EXISTS,
+        ("variants", ("v3", None, 1, 0, 0)),
+        ("grants", ("v3", 1, "A", "s1", "n1")),
+        ("frames", ("v3", "s1", "f1", "n1")),
+        ("placements", ("v3", "s1", "f1", 1, "A", 0, 64)),
+        ("signals", ("v3", "s1", "f1", "z", 0, 4, 0)),
     ),
     order("supplier01", b'{"do":"drop_frame","variant":"v2","frame":"f1"}', NO_FRAME, ("dropped", ("v2", "s1", "f1"))),
 ]

@@ -19,16 +19,12 @@ supplier s1
 """
 NOT_YOURS = 403, "application/json", '{"no":3,"refused":"NotYours"}'
 NO_VARIANT = 404, "application/json", '{"no":10,"refused":"NoVariant"}'
-NO_ROUTE = 404, "text/plain", ""
 # What a register tells the supplier s1: its frame f1 is sent in slot 1 on A, in the even cycles.
 GOOD = {
     "cluster": CLUSTER,
     "nodes": "n1\n",
     "variants": "v0 - 1 released\nv1 v0 2 open\n",
-    "grants": "0001 A n1\n",
-    "frames": "FRAME f1 n1\nAT 0001 A 00 02\n",
-    "gaps": "GAP     200 f1\n",
-    "layout": "0000 08 little x\n",
+    "rows": "GRANT 0001 A n1\nFRAME f1 n1\nAT f1 0001 A 00 02\nSIGNAL f1 0000 08 little x\nGAP     200 f1\n",
     "room": "0001 A 02 01\n",
     "since": "+ FRAME f1 n1\n",
 }
@@ -56,7 +52,7 @@ class Stranger(Answering):
             return self.reply(200, *self.server.page)
         words = self.path.split("/")
         word = next((it for it in ("room", "since", "exports", "imports") if it in words), words[-1])
-        answer = self.server.answers.get(word, NO_ROUTE if word == "rows" else NO_VARIANT)
+        answer = self.server.answers.get(word, NO_VARIANT)
         if answer is None:
             return None
         status, kind, body = (200, "text/plain", answer) if isinstance(answer, str) else answer

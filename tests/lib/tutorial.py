@@ -18,9 +18,10 @@ def saved(name):
 
 
 def printed(command):
-    """What the command prints that begins so: the first of them."""
-    blocks = (block["text"] for block in BLOCK.finditer(PAGE) if block["kind"] == "console")
-    return next(said for block in blocks for typed, said in commands(block) if typed.startswith(command))
+    """What the command prints that is typed so, or else the first that begins so."""
+    blocks = [block["text"] for block in BLOCK.finditer(PAGE) if block["kind"] == "console"]
+    found = [(typed, said) for block in blocks for typed, said in commands(block) if typed.startswith(command)]
+    return next((said for typed, said in found if typed == command), found[0][1])
 
 
 def requests(heading):

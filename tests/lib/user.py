@@ -58,8 +58,7 @@ class User:
 
     def rests(self):
         """All that the page asked for is answered, and shown."""
-        signals = "document.getElementById('detail').textContent.includes('Signals are read')"
-        self.browser.wait("an answer", f"return !document.body.hasAttribute('aria-busy') && !{signals}")
+        self.browser.wait("an answer", "return !document.body.hasAttribute('aria-busy')")
 
     def view(self, name):
         self.browser.click(f"#tab-{name}")

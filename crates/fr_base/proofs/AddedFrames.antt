@@ -19,10 +19,10 @@ use Rattle.fr_base.specs.declared.params.Params.{Params}
 use Rattle.fr_base.specs.declared.request.FrameChange.TheVariants.{Add}
 use Rattle.fr_base.proofs.SoundTables.{get-passing, only-insert}
 use Rattle.fr_base.proofs.AloneCells.{same_text-itself}
-use Rattle.fr_base.proofs.ReplacingLaws.{settle-other}
+use Rattle.fr_base.proofs.SettledRows.{settle-other}
 use Rattle.fr_base.proofs.FrameRuns.{change_in, act_in, run_in, own_at}
 use Rattle.fr_base.proofs.BroughtLemmas.{node_of}
-use Rattle.fr_base.proofs.SameFileLaws.{not_mine}
+use Rattle.fr_base.proofs.SettledRows.{not_mine}
 use Rattle.fr_base.proofs.TableFronts.{put-last, not_yet}
 use Rattle.fr_base.proofs.Filling.{has_node}
 use Rattle.fr_base.proofs.ExportRows.{Entry}

@@ -8,7 +8,7 @@ use Rattle.fr_base.specs.Tables.{get}
 use Rattle.fr_base.specs.Names.{is_name, is_key, same_text}
 use Rattle.fr_base.specs.Channels.{has_channel, channel_of_text}
 use Rattle.fr_base.specs.Changes.{in_rows}
-use Rattle.fr_base.specs.Checks.{is_integrator, asking, key, name, slot, channel, placement, signal, parent_name, query, check}
+use Rattle.fr_base.specs.Checks.{is_integrator, asking, key, name, slot, channel, placement, signal, beginning, query, check}
 use Rattle.fr_base.specs.Book.{Variant, Book}
 use Rattle.fr_base.specs.Alone.{concerns, is_another, holder_at}
 use Rattle.fr_base.specs.declared.channel.Channel.{Channel}
@@ -95,10 +95,10 @@ holder-says b v variant k number c text ev ek ec =
 
 pub check-says : (p : Params) (actor : Actor) (r : Request) → IfOk (check p actor r) (Says actor r)
 unfolding check
-check-says p actor (request.OpenVariant variant parent) =
+check-says p actor (request.OpenVariant variant begins) =
     gives_unless _ _ (is_integrator actor) _ (λ is.
     gives_each _ (name variant) _ (λ v _.
-    gives_each _ (parent_name parent) _ (λ from _.
+    gives_each _ (beginning begins) _ (λ from _.
     by_integrator actor _ _ is (λ s. refl) (λ s b. refl) refl)))
 check-says p actor (request.Release variant) =
     gives_unless _ _ (is_integrator actor) _ (λ is.
@@ -168,10 +168,10 @@ check-says p actor (request.Import variant label body) =
     gives_bind _ _ (asking actor) _ (asking-is actor) (λ t is.
     gives_each _ (name variant) _ (λ v _.
     gives_each _ (name label) _ (λ l _. is)))
-check-says p actor (request.Replace variant body) =
+check-says p actor (request.Replace variant whole body) =
     gives_bind _ _ (asking actor) _ (asking-is actor) (λ t is.
     gives_each _ (name variant) _ (λ v _. is))
-check-says p actor (request.Try variant replaces body) =
+check-says p actor (request.Try variant how body) =
     gives_bind _ _ (asking actor) _ (asking-is actor) (λ t is.
     gives_each _ (name variant) _ (λ v _. is))
 check-says p actor (request.Query asked) =

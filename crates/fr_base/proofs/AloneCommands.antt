@@ -20,6 +20,8 @@ use Rattle.fr_base.specs.declared.refusal.Refusal.TheVariants.{NoVariant, Releas
 use Rattle.fr_base.specs.declared.request.Command.{Command}
 use Rattle.fr_base.specs.declared.request.Command.TheVariants.{Common, AddSupplier, SetKey, AddNode, Rows}
 use Rattle.fr_base.specs.declared.request.CommonCommand.{CommonCommand}
+use Rattle.fr_base.specs.declared.beginning.Beginning.{Beginning}
+use Rattle.fr_base.specs.declared.beginning.Beginning.TheVariants.{Empty, From, Flat}
 use Rattle.fr_base.specs.declared.request.CommonCommand.TheVariants.{OpenVariant, Release}
 use Rattle.fr_base.specs.declared.request.Change.{Change}
 use Rattle.fr_base.specs.declared.request.Change.TheVariants as change
@@ -47,18 +49,21 @@ module _ (s : Name) (b : Book) where
   abbrev Like : Result Book Refusal → Result Book Refusal → Type 0
   Like r u = map_ok (rows_of s) r ≡ u
 
-  begun-own : (parent : Option Name) → map_ok (own_variant s) (begun b parent) ≡ begun (rows_of s b) parent
+  begun-own : (beginning : Beginning Name) → map_ok (own_variant s) (begun b beginning) ≡ begun (rows_of s b) beginning
   unfolding begun own_variant
-  begun-own None = ap Ok (own-empty s)
-  begun-own (Some parent) =
+  begun-own Empty = ap Ok (own-empty s)
+  begun-own (Flat from) =
+      alike_or LikeVariant (λ e. refl) (own_variant s) (get b.variants from) _ (rows_of-variant s b from) NoVariant _ _ (λ x found.
+      alike_when LikeVariant (λ e. refl) NotReleased (not x.released) (not x.released) refl _ _ (λ _. refl))
+  begun-own (From parent) =
       alike_or LikeVariant (λ e. refl) (own_variant s) (get b.variants parent) _ (rows_of-variant s b parent) NoVariant _ _ (λ x found.
       alike_when LikeVariant (λ e. refl) NotReleased (not x.released) (not x.released) refl _ _ (λ _.
       alike_when LikeVariant (λ e. refl) TooDeep (nat_le MAX_DEPTH x.depth) (nat_le MAX_DEPTH x.depth) refl _ _ (λ _. refl)))
 
   common-own : (command : CommonCommand) → map_ok (rows_of s) (common b command) ≡ common (rows_of s b) command
   unfolding common own_variant
-  common-own (OpenVariant v parent) =
-      alike_map Like (λ e. refl) (own_variant s) (begun b parent) _ (sym (begun-own parent)) _ _ (λ x _.
+  common-own (OpenVariant v beginning) =
+      alike_map Like (λ e. refl) (own_variant s) (begun b beginning) _ (sym (begun-own beginning)) _ _ (λ x _.
       alike_when Like (λ e. refl) Exists (contains b.variants v) _ (rows_of-has s b v) _ _ (λ _.
       alike_when Like (λ e. refl) Limit (nat_le MAX_VARIANTS (len b.variants)) _ (ap (nat_le MAX_VARIANTS) (rows_of-count s b)) _ _ (λ _.
       ap Ok (rows_of-with s b v x))))

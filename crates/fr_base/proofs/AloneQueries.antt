@@ -8,7 +8,7 @@ use Rattle.fr_base.specs.Names.{same_text}
 use Rattle.fr_base.specs.Book.{Variant, Book, held_by, is_of, own, own_grants}
 use Rattle.fr_base.specs.Queries.{grants_of, frames_of, sendings_of, gaps_of, named, signals_of, cluster_of, variant_row, variants_of, nodes_of, held, shown, found, reply}
 use Rattle.fr_base.specs.Exports.{exported}
-use Rattle.fr_base.specs.Differences.{grants_differ, frames_differ, differences}
+use Rattle.fr_base.specs.Differences.{grant_seen, rows_of_frames, seen_rows, grants_differ, frames_differ, differences}
 use Rattle.fr_base.specs.Room.{own_room}
 use Rattle.fr_base.specs.Alone.{own_variant, rows_of}
 use Rattle.fr_base.specs.declared.name.Name.{Name}
@@ -24,7 +24,7 @@ use Rattle.fr_base.specs.declared.query.Query.TheVariants.{Register as OfRegiste
 use Rattle.fr_base.specs.declared.query.Inventory.{Inventory}
 use Rattle.fr_base.specs.declared.query.Inventory.TheVariants.{Cluster, Variants, Nodes}
 use Rattle.fr_base.specs.declared.report.Report.{Report}
-use Rattle.fr_base.specs.declared.report.Report.TheVariants.{Grants, Frames, Schedule, Gaps, Layout, Load, Room, Export}
+use Rattle.fr_base.specs.declared.report.Report.TheVariants.{Grants, Frames, Schedule, Gaps, Layout, Load, Rows, Room, Export}
 use Rattle.fr_base.proofs.AloneTables.{only-only}
 use Rattle.fr_base.proofs.AloneRefusing.{alike_or}
 use Rattle.fr_base.proofs.AloneRows.{rows_of-variant}
@@ -38,12 +38,13 @@ module _ (p : Params) (s : Name) where
   own_frames-own x = only-only owned (λ k _. is_of s k) x.frames
 
   shown-own : (x : Variant) (report : Report Name ℕ) → shown p (Supplier s) (own_variant s x) report ≡ shown p (Supplier s) x report
-  unfolding shown own_variant
+  unfolding shown own_variant seen_rows
   shown-own x Grants = ap (λ t. Ok (rows.Grants (grants_of t))) (own_grants-own x)
   shown-own x Frames = ap (λ t. Ok (rows.Frames (frames_of t))) (own_frames-own x)
   shown-own x Schedule = ap (λ t. Ok (rows.Schedule (sendings_of p t))) (own_frames-own x)
   shown-own x Gaps = ap (λ t. Ok (rows.Gaps (gaps_of p t))) (own_frames-own x)
   shown-own x Load = ap (λ t. Ok (rows.Load t)) (load-own p s x)
+  shown-own x Rows = (λ i. Ok (rows.Seen (map grant_seen (own_grants-own x i).rows ++ rows_of_frames p (own_frames-own x i))))
   shown-own x (Room f repetition) =
       ap (λ t. (refuse Released when x.released) >> (own_room p t (own s (own s x.frames)) s f repetition >>= (λ places. Ok (rows.Room places)))) (own_grants-own x)
       ∙ ap (λ t. (refuse Released when x.released) >> (own_room p (own_grants s x.grants) t s f repetition >>= (λ places. Ok (rows.Room places)))) (own_frames-own x)

@@ -1,5 +1,5 @@
 -- A supplier's replacement, over all rows and over its own; and another supplier's.
-use Rattle.std.proofs.Common.{◌≡◌, ℕ, false, not, List, [], ◌∷◌, length, Result, Ok, Err, IfOk, refl, sym, ap, ◌∙◌, nat_lt}
+use Rattle.std.proofs.Common.{◌≡◌, ℕ, false, not, List, [], ◌∷◌, length, map, Option, Some, None, Result, Ok, Err, IfOk, refl, sym, ap, ◌∙◌, nat_lt}
 use Rattle.std.specs.List.{AllByRecursion}
 use Rattle.fr_base.specs.Refusing.{◌>>=◌}
 use Rattle.fr_base.specs.Tables.{Table, get, contains, settle}
@@ -7,11 +7,12 @@ use Rattle.fr_base.specs.Keys.{owned}
 use Rattle.fr_base.specs.Names.{same_text}
 use Rattle.fr_base.specs.Cluster.{Cluster}
 use Rattle.fr_base.specs.Book.{Frame, Variant, Book, is_of, own}
-use Rattle.fr_base.specs.ImportRows.{rows_of_body}
-use Rattle.fr_base.specs.Step.{Outcome, RefusedAt, frame_at, with_frame, at_line, with_variant, freed, frame_of_row, free_row, free_rows, with_freed, replace_row, replace_rows, replaced, replace}
+use Rattle.fr_base.specs.ImportRows.{header_of_body, rows_of_body}
+use Rattle.fr_base.specs.Step.{Outcome, RefusedAt, frame_at, with_frame, at_line, with_variant, kind_of_row, freed, frame_of_row, free_row, free_rows, cleared, clear_frames, frame_names, clear_all, whole_of, with_freed, replace_row, replace_rows, replaced, replace}
 use Rattle.fr_base.specs.Sound.{IsSound}
 use Rattle.fr_base.specs.Alone.{own_variant, rows_of}
 use Rattle.fr_base.specs.declared.limits.TheConstants.{MAX_IMPORT_BYTES}
+use Rattle.fr_base.specs.declared.import.Header.{Header}
 use Rattle.fr_base.specs.declared.import.Row.{Row}
 use Rattle.fr_base.specs.declared.import.Row.TheVariants as row
 use Rattle.fr_base.specs.declared.import.RowRead.{RowRead}
@@ -25,7 +26,7 @@ use Rattle.fr_base.proofs.ImportForms.{IsFormedRow, IsFormedRead, body-form}
 use Rattle.fr_base.proofs.SoundImports.{at_line-gives}
 use Rattle.fr_base.proofs.SoundReplacements.{with_freed-sound, replace_read-sound, replaced-gives}
 use Rattle.fr_base.proofs.AloneCells.{same_text-itself}
-use Rattle.fr_base.proofs.AloneTables.{get-own, only-settle, only-settle_other}
+use Rattle.fr_base.proofs.AloneTables.{get-own, only-only, only-settle, only-settle_other}
 use Rattle.fr_base.proofs.AloneRefusing.{map_ok, alike_or, alike_when, alike_map}
 use Rattle.fr_base.proofs.AloneRows.{rows_of-variant, rows_of-node, rows_of-frame, rows_of-with, rows_of-still}
 use Rattle.fr_base.proofs.AloneImports.{of_ok, Like, framed-own, row-own, line-own, framed-other, row-other}
@@ -37,8 +38,8 @@ module _ (s : Name) where
   free_row-own : (r : Result Row Refusal) (frames : Table owned Frame) → own s (free_row s r frames) ≡ free_row s r (own s frames)
   unfolding free_row
   free_row-own (Ok r) frames =
-      only-settle owned (is_of s) frames (s, frame_of_row r) (freed r (get frames (s, frame_of_row r))) (same_text-itself s)
-      ∙ ap (λ there. settle (own s frames) (s, frame_of_row r) (freed r there)) (sym (get-own owned (is_of s) frames (s, frame_of_row r) (same_text-itself s)))
+      only-settle owned (is_of s) frames (s, frame_of_row r) (freed (kind_of_row r) (get frames (s, frame_of_row r))) (same_text-itself s)
+      ∙ ap (λ there. settle (own s frames) (s, frame_of_row r) (freed (kind_of_row r) there)) (sym (get-own owned (is_of s) frames (s, frame_of_row r) (same_text-itself s)))
   free_row-own (Err e) frames = refl
 
   free_rows-own : (reads : List RowRead) (frames : Table owned Frame) → own s (free_rows s reads frames) ≡ free_rows s reads (own s frames)
@@ -46,12 +47,30 @@ module _ (s : Name) where
   free_rows-own [] frames = refl
   free_rows-own (read ∷ rest) frames = free_rows-own rest (free_row s read.row frames) ∙ ap (free_rows s rest) (free_row-own read.row frames)
 
-  freed_variant-own : (reads : List RowRead) (x : Variant) → own_variant s (record x { frames = free_rows s reads x.frames }) ≡ record (own_variant s x) { frames = free_rows s reads (own_variant s x).frames }
-  unfolding own_variant
-  freed_variant-own reads x = λ i. record (own_variant s x) { frames = free_rows-own reads x.frames i }
+  clear_frames-own : (kind : Header) (reads : List RowRead) (names : List Name) (frames : Table owned Frame) → own s (clear_frames s kind reads names frames) ≡ clear_frames s kind reads names (own s frames)
+  unfolding clear_frames
+  clear_frames-own kind reads [] frames = refl
+  clear_frames-own kind reads (f ∷ rest) frames =
+      clear_frames-own kind reads rest (settle frames (s, f) (cleared kind reads f (get frames (s, f))))
+      ∙ ap (clear_frames s kind reads rest) (
+      only-settle owned (is_of s) frames (s, f) (cleared kind reads f (get frames (s, f))) (same_text-itself s)
+      ∙ ap (λ there. settle (own s frames) (s, f) (cleared kind reads f there)) (sym (get-own owned (is_of s) frames (s, f) (same_text-itself s))))
 
-  pub with_freed-own : (b : Book) (v : Name) (x : Variant) (reads : List RowRead) → rows_of s (with_freed b s v x reads) ≡ with_freed (rows_of s b) s v (own_variant s x) reads
-  with_freed-own b v x reads = rows_of-with s b v _ ∙ ap (with_variant (rows_of s b) v) (freed_variant-own reads x)
+  -- the names of the supplier's frames are told by its own
+  clear_all-own : (whole : Option Header) (reads : List RowRead) (frames : Table owned Frame) → own s (clear_all s whole reads frames) ≡ clear_all s whole reads (own s frames)
+  unfolding clear_all
+  clear_all-own None reads frames = refl
+  clear_all-own (Some kind) reads frames =
+      clear_frames-own kind reads (frame_names s frames) frames
+      ∙ ap (λ (mine : Table owned Frame). clear_frames s kind reads (map (λ row. row.0.1) mine.rows) (own s frames)) (sym (only-only owned (λ k _. is_of s k) frames))
+
+  freed_variant-own : (whole : Option Header) (reads : List RowRead) (x : Variant) →
+      own_variant s (record x { frames = free_rows s reads (clear_all s whole reads x.frames) }) ≡ record (own_variant s x) { frames = free_rows s reads (clear_all s whole reads (own_variant s x).frames) }
+  unfolding own_variant
+  freed_variant-own whole reads x = λ i. record (own_variant s x) { frames = (free_rows-own reads (clear_all s whole reads x.frames) ∙ ap (free_rows s reads) (clear_all-own whole reads x.frames)) i }
+
+  pub with_freed-own : (b : Book) (v : Name) (x : Variant) (whole : Option Header) (reads : List RowRead) → rows_of s (with_freed b s v x whole reads) ≡ with_freed (rows_of s b) s v (own_variant s x) whole reads
+  with_freed-own b v x whole reads = rows_of-with s b v _ ∙ ap (with_variant (rows_of s b) v) (freed_variant-own whole reads x)
 
 -- ---- the supplier's own rows
 
@@ -94,20 +113,21 @@ module _ (r : Replacement) where
   replace-own c b sound =
       let s : Name = r.supplier in
       let reads : List RowRead = rows_of_body c.params r.body in
+      let whole : Option Header = whole_of r.whole (header_of_body r.body) in
       alike_or LikeOutcome (λ e. refl) (own_variant s) (get b.variants r.variant) _ (rows_of-variant s b r.variant) NoVariant _ _ (λ x found.
       alike_when LikeOutcome (λ e. refl) Released x.released _ refl _ _ (λ _.
       alike_when LikeOutcome (λ e. refl) Limit (nat_lt MAX_IMPORT_BYTES (length r.body)) _ refl _ _ (λ _.
-      ap Ok (replaced-own b (length reads) (replace_rows c.params (with_freed b s r.variant x reads) s r.variant reads)
+      ap Ok (replaced-own b (length reads) (replace_rows c.params (with_freed b s r.variant x whole reads) s r.variant reads)
       ∙ ap (replaced (rows_of s b) (length reads)) (
-      replace_rows-own c s r.variant reads (with_freed b s r.variant x reads) (with_freed-sound c b sound s r.variant x found reads) (body-form c.params r.body)
-      ∙ ap (λ d. replace_rows c.params d s r.variant reads) (with_freed-own s b r.variant x reads))))))
+      replace_rows-own c s r.variant reads (with_freed b s r.variant x whole reads) (with_freed-sound c b sound s r.variant x found whole reads) (body-form c.params r.body)
+      ∙ ap (λ d. replace_rows c.params d s r.variant reads) (with_freed-own s b r.variant x whole reads))))))
 
 -- ---- another supplier's replacement
 
 module _ (s t : Name) (other : same_text t s ≡ false) where
   free_row-other : (r : Result Row Refusal) (frames : Table owned Frame) → own s (free_row t r frames) ≡ own s frames
   unfolding free_row
-  free_row-other (Ok r) frames = only-settle_other owned (is_of s) frames (t, frame_of_row r) (freed r (get frames (t, frame_of_row r))) other
+  free_row-other (Ok r) frames = only-settle_other owned (is_of s) frames (t, frame_of_row r) (freed (kind_of_row r) (get frames (t, frame_of_row r))) other
   free_row-other (Err e) frames = refl
 
   free_rows-other : (reads : List RowRead) (frames : Table owned Frame) → own s (free_rows t reads frames) ≡ own s frames
@@ -115,9 +135,21 @@ module _ (s t : Name) (other : same_text t s ≡ false) where
   free_rows-other [] frames = refl
   free_rows-other (read ∷ rest) frames = free_rows-other rest (free_row t read.row frames) ∙ free_row-other read.row frames
 
-  freed_variant-other : (reads : List RowRead) (x : Variant) → own_variant s (record x { frames = free_rows t reads x.frames }) ≡ own_variant s x
+  clear_frames-other : (kind : Header) (reads : List RowRead) (names : List Name) (frames : Table owned Frame) → own s (clear_frames t kind reads names frames) ≡ own s frames
+  unfolding clear_frames
+  clear_frames-other kind reads [] frames = refl
+  clear_frames-other kind reads (f ∷ rest) frames =
+      clear_frames-other kind reads rest (settle frames (t, f) (cleared kind reads f (get frames (t, f))))
+      ∙ only-settle_other owned (is_of s) frames (t, f) (cleared kind reads f (get frames (t, f))) other
+
+  clear_all-other : (whole : Option Header) (reads : List RowRead) (frames : Table owned Frame) → own s (clear_all t whole reads frames) ≡ own s frames
+  unfolding clear_all
+  clear_all-other None reads frames = refl
+  clear_all-other (Some kind) reads frames = clear_frames-other kind reads (frame_names t frames) frames
+
+  freed_variant-other : (whole : Option Header) (reads : List RowRead) (x : Variant) → own_variant s (record x { frames = free_rows t reads (clear_all t whole reads x.frames) }) ≡ own_variant s x
   unfolding own_variant
-  freed_variant-other reads x = λ i. record (own_variant s x) { frames = free_rows-other reads x.frames i }
+  freed_variant-other whole reads x = λ i. record (own_variant s x) { frames = (free_rows-other reads (clear_all t whole reads x.frames) ∙ clear_all-other whole reads x.frames) i }
 
   module _ (p : Params) (v : Name) where
     abbrev Leaves : Book → Book → Type 0
@@ -144,6 +176,7 @@ replace-other p b s r other =
     gives_when _ _ _ _ (λ _.
     gives_when _ _ _ _ (λ _.
     let reads : List RowRead = rows_of_body p r.body in
-    let mid = rows_of-still s b r.variant x _ found (freed_variant-other s r.supplier other reads x) in
+    let whole : Option Header = whole_of r.whole (header_of_body r.body) in
+    let mid = rows_of-still s b r.variant x _ found (freed_variant-other s r.supplier other whole reads x) in
     replaced-gives (λ d. rows_of s d ≡ rows_of s b) b refl _ _ (
-    gives_bind_last _ (λ e. rows_of s e ≡ rows_of s (with_freed b r.supplier r.variant x reads)) _ (replace_rows-other s r.supplier other p r.variant reads _) (λ e last. last ∙ mid)))))
+    gives_bind_last _ (λ e. rows_of s e ≡ rows_of s (with_freed b r.supplier r.variant x whole reads)) _ (replace_rows-other s r.supplier other p r.variant reads _) (λ e last. last ∙ mid)))))

@@ -13,6 +13,7 @@ use Rattle.fr_base.specs.declared.channel.Channel.TheVariants as ch
 use Rattle.fr_base.specs.declared.refusal.Refusal.TheVariants.{UnknownKey, Limit, Taken, Unavailable, KeyTaken}
 use Rattle.fr_base.specs.declared.actor.Actor.TheVariants.{Integrator, Supplier}
 use Rattle.fr_base.specs.declared.request.Ask.{Ask}
+use Rattle.fr_base.specs.declared.beginning.Beginning.TheVariants.{Empty}
 use Rattle.fr_base.specs.declared.request.Request.TheVariants.{OpenVariant, AddSupplier, SetKey, AddNode, Grant, AddFrame, Place, Query}
 use Rattle.fr_base.specs.declared.query.Query.TheVariants.{Variant as OfVariant}
 use Rattle.fr_base.specs.declared.report.Report.TheVariants.{Schedule}
@@ -38,7 +39,7 @@ answers_alone s asks = answers_to file.cluster (opening (alone s file)) asks
 -- a variant, a node of `s1`, a grant to it, a frame, and its placement in the first cycle
 unfoldable pub planned : List Ask
 planned =
-    integrator (OpenVariant (codes "v1") None)
+    integrator (OpenVariant (codes "v1") Empty)
     ∷ integrator (AddNode (codes "s1") (codes "n1"))
     ∷ integrator (Grant (codes "v1") 1 (codes "A") (codes "s1") (codes "n1"))
     ∷ s1 (AddFrame (codes "v1") (codes "f1") (codes "n1"))
@@ -91,7 +92,7 @@ strangers_lines_between = (refl, refl, refl, refl)
 -- `s2` is refused what `s1` holds, and alone it is not
 pub taken_beside :
     (answers (planned ++ between 2) ≡ Done ∷ Done ∷ Done ∷ Done ∷ Done ∷ Done ∷ Refused Taken ∷ Done ∷ Done ∷ Done ∷ [])
-    × (answers_alone (codes "s2") (integrator (OpenVariant (codes "v1") None) ∷ between 2) ≡ Done ∷ Done ∷ Done ∷ Done ∷ Done ∷ Done ∷ [])
+    × (answers_alone (codes "s2") (integrator (OpenVariant (codes "v1") Empty) ∷ between 2) ≡ Done ∷ Done ∷ Done ∷ Done ∷ Done ∷ Done ∷ [])
 unfolding a_register_alone planned asked answered between
 taken_beside = (refl, refl)
 
@@ -101,7 +102,7 @@ s3_joins =
     s3 (Query (OfVariant (codes "v1") Schedule))
     ∷ integrator (AddSupplier (codes "s3") (codes "supplier01"))
     ∷ integrator (AddSupplier (codes "s3") (codes "supplier03"))
-    ∷ integrator (OpenVariant (codes "v1") None)
+    ∷ integrator (OpenVariant (codes "v1") Empty)
     ∷ s3 (Query (OfVariant (codes "v1") Schedule))
     ∷ []
 

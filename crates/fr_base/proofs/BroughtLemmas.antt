@@ -6,7 +6,7 @@ use Rattle.std.specs.Ordering.{eq_by_cmp}
 use Rattle.std.specs.FinMap.Entries.{find}
 use Rattle.std.proofs.lemmas.Bool.{cases_Bool, and_from}
 use Rattle.fr_base.specs.Refusing.{◌>>=◌}
-use Rattle.fr_base.specs.Tables.{Order, Table, Fate, Becomes, Gone, empty, get, insert, settle, remove, from_rows}
+use Rattle.fr_base.specs.Tables.{Order, Table, Fate, Becomes, Gone, left_by, empty, get, insert, settle, remove, from_rows}
 use Rattle.fr_base.specs.Keys.{owned, placement_order}
 use Rattle.fr_base.specs.Names.{same_text}
 use Rattle.fr_base.specs.Signals.{SignalData}
@@ -15,7 +15,7 @@ use Rattle.fr_base.specs.Book.{Frame, Variant, Book}
 use Rattle.fr_base.specs.Brought.{node_for, placement_for, signal_for, nodes_for, placements_for, signals_for, node_or, had_placements, had_signals, placed_by, put_in, signalled_by}
 use Rattle.fr_base.specs.ReplacingLaws.{names_frame, is_named}
 use Rattle.fr_base.specs.ReplacedLaws.{IsAsFiled}
-use Rattle.fr_base.specs.Step.{OwnRows, Shared, admits_frame, frame_after, frame_of_row, freed, free_row, free_rows, shared_by}
+use Rattle.fr_base.specs.Step.{OwnRows, Shared, admits_frame, frame_after, frame_of_row, kind_of_row, freed, free_row, free_rows, shared_by}
 use Rattle.fr_base.specs.declared.import.Row.{Row}
 use Rattle.fr_base.specs.declared.import.Row.TheVariants as row
 use Rattle.fr_base.specs.declared.import.RowRead.{RowRead}
@@ -31,29 +31,10 @@ use Rattle.fr_base.proofs.SoundRows.{same_text-is}
 use Rattle.fr_base.proofs.SoundRefusing.{gives_or, gives_bind, gives_next, gives_unless, gives_when, gives_when_last, gives_bind_last}
 use Rattle.fr_base.proofs.SoundImports.{at_line-gives}
 use Rattle.fr_base.proofs.AloneCells.{same_text-itself}
-use Rattle.fr_base.proofs.ReplacingLaws.{settle-other}
+use Rattle.fr_base.proofs.SettledRows.{settle-other, settle-here, other_frame}
 use Rattle.fr_base.proofs.FrameRuns.{rows_at, change_in, framed_in, act_in, run_in}
 
 -- ---- tables
-
--- what stands where this became of it
-abbrev pub left_by : {V : Type 0} → Fate V → Option V
-left_by (Becomes v) = Some v
-left_by Gone = None
-
-module _ {K V : Type 0} {o : Order K} where
-  pub settle-here : (t : Table o V) (k : K) (fate : Fate V) → get (settle t k fate) k ≡ left_by fate
-  unfolding settle remove
-  settle-here t k (Becomes v) = get-put t k v
-  settle-here t k Gone = get-only o (λ j _. not (eq_by_cmp o.compare k j)) t k ∙ out (get t k)
-    where
-      out : (there : Option V) → kept (λ j _. not (eq_by_cmp o.compare k j)) k there ≡ None
-      out None = refl
-      out (Some v) = ap (λ b. cond (not b) (Some v) None) (same_key o k)
-
--- frames of one supplier that have other names stand at other keys
-pub other_frame : (s f g : Name) → same_text f g ≡ false → ◌≡◌ {A = Name × Name} (s, f) (s, g) → ⊥
-other_frame s f g other same = true≢false (sym (ap (λ (k : Name × Name). same_text f k.1) (sym same) ∙ same_text-itself f) ∙ other)
 
 -- the table with these placements too
 abbrev pub insert_all : List Placement → Table placement_order ⊤ → Table placement_order ⊤
@@ -363,7 +344,7 @@ frees_on qs rs xs ys o u w one two = record {
   signals = two.signals ∙ ap (unless_brought ys []) one.signals ∙ sym (unless-append xs ys [] (had_signals o));
 }
 
-freed-frees : (f : Name) (r : Row) (o : Option Frame) → same_text (frame_of_row r) f ≡ true → Frees (placement_for f (Ok r)) (signal_for f (Ok r)) o (left_by (freed r o))
+freed-frees : (f : Name) (r : Row) (o : Option Frame) → same_text (frame_of_row r) f ≡ true → Frees (placement_for f (Ok r)) (signal_for f (Ok r)) o (left_by (freed (kind_of_row r) o))
 unfolding freed
 freed-frees f (row.AddFrame g n) None same = record { node = refl; placements = refl; signals = refl }
 freed-frees f (row.AddFrame g n) (Some w) same = record { node = refl; placements = refl; signals = refl }
@@ -384,9 +365,9 @@ module _ (s f : Name) where
     | inl same ↦
         let one : frame_of_row r ≡ f = same_text-is (frame_of_row r) f same in
         subst (Frees (placement_for f (Ok r)) (signal_for f (Ok r)) (get t (s, f)))
-        (sym (ap (λ h. get (settle t (s, h) (freed r (get t (s, h)))) (s, f)) one ∙ settle-here t (s, f) (freed r (get t (s, f)))))
+        (sym (ap (λ h. get (settle t (s, h) (freed (kind_of_row r) (get t (s, h)))) (s, f)) one ∙ settle-here t (s, f) (freed (kind_of_row r) (get t (s, f)))))
         (freed-frees f r (get t (s, f)) same)
-    | inr other ↦ freed_other f r _ _ other (settle-other t (s, frame_of_row r) (s, f) (freed r (get t (s, frame_of_row r))) (other_frame s (frame_of_row r) f other))
+    | inr other ↦ freed_other f r _ _ other (settle-other t (s, frame_of_row r) (s, f) (freed (kind_of_row r) (get t (s, frame_of_row r))) (other_frame s (frame_of_row r) f other))
   ]
   free_row-frees (Err e) t = frees_same _ _ refl
 

@@ -2,17 +2,17 @@
 use Rattle.std.proofs.Common.{◌≡◌, ◌∙◌, List, ℕ, Result, Ok, Err, refl, sym, ap}
 use Rattle.std.specs.Prelude.{⊤}
 use Rattle.fr_base.specs.Refusing.{◌>>=◌, ◌>>◌, ◌or◌, refuse◌when◌}
-use Rattle.fr_base.specs.Checks.{asking, key, name, cycles, slot, channel, channels, placement, signal, parent_name, report, query, check}
+use Rattle.fr_base.specs.Checks.{asking, key, name, cycles, slot, channel, channels, placement, signal, beginning, report, query, check}
 use Rattle.fr_base.specs.QueryNames.{IsReportRead, IsQueryRead}
 use Rattle.fr_base.specs.declared.name.Name.{Name}
 use Rattle.fr_base.specs.declared.query.Query.{Query}
 use Rattle.fr_base.specs.declared.query.Query.TheVariants.{Register, Variant, Difference}
 use Rattle.fr_base.specs.declared.refusal.Refusal.{Refusal}
 use Rattle.fr_base.specs.declared.report.Report.{Report}
-use Rattle.fr_base.specs.declared.report.Report.TheVariants.{Grants, Frames, Schedule, Gaps, Layout, Load, Room, Export}
+use Rattle.fr_base.specs.declared.report.Report.TheVariants.{Grants, Frames, Schedule, Gaps, Layout, Load, Rows, Room, Export}
 
 unfoldable pub checks_open : ⊤
-unfolding ◌>>=◌ ◌>>◌ ◌or◌ refuse◌when◌ asking key name cycles slot channel channels placement signal parent_name report check
+unfolding ◌>>=◌ ◌>>◌ ◌or◌ refuse◌when◌ asking key name cycles slot channel channels placement signal beginning report check
 checks_open = tt
 
 -- the same but what a placement is
@@ -36,6 +36,7 @@ report_read Schedule result is = is
 report_read Gaps result is = is
 report_read (Layout frame) result (read, is_name, is) = rw is (rw is_name refl)
 report_read Load result is = is
+report_read Rows result is = is
 report_read (Room frame repetition) result (Ok f, is_name, (number, is_number, is)) = rw is (rw is_number (rw (sym is_name) refl))
 report_read (Room frame repetition) result (Err e, is_name, is) = rw is (rw (sym is_name) refl)
 report_read (Export header part) result (number, is_number, is) = rw is (rw is_number refl)

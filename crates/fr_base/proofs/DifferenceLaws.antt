@@ -12,6 +12,7 @@ use Rattle.fr_base.specs.Tables.{Order, Table, contains, get, only, each}
 use Rattle.fr_base.specs.Names.{same_text}
 use Rattle.fr_base.specs.Book.{Holder, Frame, Variant, Book}
 use Rattle.fr_base.specs.Step.{begun, common}
+use Rattle.fr_base.specs.declared.beginning.Beginning.TheVariants.{From}
 use Rattle.fr_base.specs.declared.request.CommonCommand.TheVariants.{OpenVariant}
 use Rattle.fr_base.specs.Signals.{SignalData, text_of_order}
 use Rattle.fr_base.specs.Merging.{gone, come, met, put_in, merge}
@@ -389,11 +390,11 @@ module _ (p : Params) (actor : Actor) where
       between-itself channel_slots same_holder grant_seen holders-exact holder-itself (seen_grants actor x.grants) i
       ++ frames-itself p (seen_frames actor x.frames) i)
 
-  differences-opened : (b : Book) (v from : Name) → IfOk (common b (OpenVariant v (Some from))) (λ after.
+  differences-opened : (b : Book) (v from : Name) → IfOk (common b (OpenVariant v (From from))) (λ after.
       (old new : Variant) → get after.variants from ≡ Some old → get after.variants v ≡ Some new → differences p actor old new ≡ [])
   unfolding common begun
   differences-opened b v from =
-      gives_bind _ (λ (y : Variant). (x : Variant) × (get b.variants from ≡ Some x) × (x.grants ≡ y.grants) × (x.frames ≡ y.frames)) (begun b (Some from)) _ begins (λ y begun.
+      gives_bind _ (λ (y : Variant). (x : Variant) × (get b.variants from ≡ Some x) × (x.grants ≡ y.grants) × (x.frames ≡ y.frames)) (begun b (From from)) _ begins (λ y begun.
       gives_when _ _ (contains b.variants v) _ (λ free.
       gives_when _ _ _ _ (λ _ old new there opened.
       let apart : eq_by_cmp names.compare from v ≡ false = elim (cases_Bool (eq_by_cmp names.compare from v)) [
@@ -404,14 +405,14 @@ module _ (p : Params) (actor : Actor) where
       let new_is : y ≡ new = same_some y new (sym (ap (λ t. cond t (Some y) (get b.variants v)) (same_key names v)) ∙ sym (get-insert b.variants v y v) ∙ opened) in
       (λ i. differences p actor (sym old_is i) (sym new_is i)) ∙ differences-none begun.0 y begun.2 begun.3)))
     where
-      begins : IfOk (begun b (Some from)) (λ (y : Variant). (x : Variant) × (get b.variants from ≡ Some x) × (x.grants ≡ y.grants) × (x.frames ≡ y.frames))
+      begins : IfOk (begun b (From from)) (λ (y : Variant). (x : Variant) × (get b.variants from ≡ Some x) × (x.grants ≡ y.grants) × (x.frames ≡ y.frames))
       begins =
           gives_or _ (get b.variants from) _ _ (λ x there.
           gives_when _ _ _ _ (λ _.
           gives_when _ _ _ _ (λ _. (x, there, refl, refl))))
 
   -- nor from the one from which it was opened
-  pub opened-none : (b after : Book) (v from : Name) (old new : Variant) → common b (OpenVariant v (Some from)) ≡ Ok after →
+  pub opened-none : (b after : Book) (v from : Name) (old new : Variant) → common b (OpenVariant v (From from)) ≡ Ok after →
       get after.variants from ≡ Some old → get after.variants v ≡ Some new → differences p actor old new ≡ []
   opened-none b after v from old new done there opened =
       subst (λ r. IfOk r (λ (after : Book). (old new : Variant) → get after.variants from ≡ Some old → get after.variants v ≡ Some new → differences p actor old new ≡ [])) done (differences-opened b v from) old new there opened

@@ -14,8 +14,8 @@ use Rattle.fr_base.specs.Book.{Holder, Frame, Variant}
 use Rattle.fr_base.specs.Seen.{seen_grants, seen_frames}
 use Rattle.fr_base.specs.Signals.{SignalData}
 use Rattle.fr_base.specs.Names.{same_text}
-use Rattle.fr_base.specs.Differences.{stands, has_row, lacked, placed_frames, starts, all_placements, all_signals, gap_of, grant_seen, frame_seen, placement_seen, signal_seen, gap_seen, same_holder, same_signal, same_gap, frames_lacked, missing}
-use Rattle.fr_base.specs.DifferenceLaws.{rows_of_frames, seen_rows, IsSeenOnlyIn, ToldIsWhatDiffers, NothingIsGoneAndNew}
+use Rattle.fr_base.specs.Differences.{stands, has_row, lacked, placed_frames, starts, all_placements, all_signals, gap_of, grant_seen, frame_seen, placement_seen, signal_seen, gap_seen, same_holder, same_signal, same_gap, rows_of_frames, seen_rows, frames_lacked, missing}
+use Rattle.fr_base.specs.DifferenceLaws.{IsSeenOnlyIn, ToldIsWhatDiffers, NothingIsGoneAndNew}
 use Rattle.fr_base.specs.declared.channel.Channel.{Channel}
 use Rattle.fr_base.specs.declared.name.Name.{Name}
 use Rattle.fr_base.specs.declared.params.Params.{Params}

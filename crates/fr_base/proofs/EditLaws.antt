@@ -15,8 +15,7 @@ use Rattle.fr_base.specs.Names.{same_text}
 use Rattle.fr_base.specs.Signals.{SignalData}
 use Rattle.fr_base.specs.Book.{Frame, Variant}
 use Rattle.fr_base.specs.Seen.{seen_grants, seen_frames}
-use Rattle.fr_base.specs.Differences.{differ, keys_of_both, between, placed_frames, starts, all_placements, all_signals, same_holder, same_signal, same_gap, grant_seen, frame_seen, placement_seen, signal_seen, gap_of, gap_seen, grants_differ, frames_differ, differences, has_row, lacked, shared, frames_lacked, frames_shared, missing, in_both}
-use Rattle.fr_base.specs.DifferenceLaws.{rows_of_frames, seen_rows}
+use Rattle.fr_base.specs.Differences.{differ, keys_of_both, between, placed_frames, starts, all_placements, all_signals, same_holder, same_signal, same_gap, grant_seen, frame_seen, placement_seen, signal_seen, gap_of, gap_seen, rows_of_frames, seen_rows, grants_differ, frames_differ, differences, has_row, lacked, shared, frames_lacked, frames_shared, missing, in_both}
 use Rattle.fr_base.specs.EditLaws.{IsWoven, NewIsOldEdited, kind_of, key_cmp, seen_cmp, difference_cmp, Rises, SeenRowsAreInOrder, DifferencesAreInOrder}
 use Rattle.fr_base.specs.declared.name.Name.{Name}
 use Rattle.fr_base.specs.declared.params.Params.{Params}

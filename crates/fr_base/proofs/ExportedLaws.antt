@@ -14,7 +14,7 @@ use Rattle.fr_base.specs.Exports.{exported}
 use Rattle.fr_base.specs.ExportedLaws.{exported_rows, OwnExportChangesNothing}
 use Rattle.fr_base.specs.ImportRows.{rows_of_body}
 use Rattle.fr_base.specs.Sound.{IsSound}
-use Rattle.fr_base.specs.Step.{free_rows, replaced, replace, outcome}
+use Rattle.fr_base.specs.Step.{clear_all, free_rows, replaced, replace, outcome}
 use Rattle.fr_base.specs.declared.limits.TheConstants.{MAX_IMPORT_BYTES}
 use Rattle.fr_base.specs.declared.answer.Answer.TheVariants.{Replaced}
 use Rattle.fr_base.specs.declared.import.Header.{Header}
@@ -25,7 +25,8 @@ use Rattle.fr_base.specs.declared.placement.Placement.{Placement}
 use Rattle.fr_base.proofs.TableLaws.{insert-same}
 use Rattle.fr_base.proofs.FrameRuns.{past_or, past_when, lifted, run_in, replace_rows-lift}
 use Rattle.fr_base.proofs.BroughtLemmas.{Frees, free_rows-free, unless_brought}
-use Rattle.fr_base.proofs.SameFileLaws.{StayOthers, free-others, step-replace}
+use Rattle.fr_base.proofs.ClearedFrames.{StayOthers, free-others}
+use Rattle.fr_base.proofs.SameFileLaws.{step-replace}
 use Rattle.fr_base.proofs.Filling.{marked, Fills, Filling, filled, RowFits, rows-fill}
 use Rattle.fr_base.proofs.ExportRows.{IsOwn, own-all, all-mid, sorted-mid, rows_of_frames, RowsAreWhole, rows-whole, places_in, signs_in, AllOrNone, places-whole, signals-whole, rows-fit, brought-read, all-read, length-read}
 
@@ -43,7 +44,7 @@ again-signals (x ∷ xs) now was e (inl none) = cc
 again-signals (x ∷ xs) now was e (inr all) = (λ i. e i ++ append-nil (x ∷ xs) i) ∙ all
 
 -- a frame that lost what rows bring is filled by them
-again : (qs rs : List Placement) (xs ys : List SignalData) (z o : Option Frame) → qs ≡ rs → xs ≡ ys → Frees qs xs z o → AllOrNone (marked rs) (had_placements z).rows → AllOrNone ys (had_signals z) → Fills (qs ++ []) (xs ++ []) o z
+pub again : (qs rs : List Placement) (xs ys : List SignalData) (z o : Option Frame) → qs ≡ rs → xs ≡ ys → Frees qs xs z o → AllOrNone (marked rs) (had_placements z).rows → AllOrNone ys (had_signals z) → Fills (qs ++ []) (xs ++ []) o z
 again qs rs xs ys z o e h frees places signs = record {
   node = frees.node;
   placements = again-placements qs (had_placements o) (had_placements z) frees.placements (subst (λ l. AllOrNone (marked l) (had_placements z).rows) (sym e) places);
@@ -52,7 +53,7 @@ again qs rs xs ys z o e h frees places signs = record {
 
 -- ---- the rows
 
-short_enough : (n : ℕ) → n ≤ MAX_IMPORT_BYTES → nat_lt MAX_IMPORT_BYTES n ≡ false
+pub short_enough : (n : ℕ) → n ≤ MAX_IMPORT_BYTES → nat_lt MAX_IMPORT_BYTES n ≡ false
 short_enough n h = grind (arith, nat_tests)
 
 module _ (c : Cluster) (b : Book) (sound : IsSound c b) (s v : Name) (x : Variant) (found : get b.variants v ≡ Some x) (header : Header) (part : ℕ) (reads : List RowRead) where
@@ -87,10 +88,10 @@ module _ (c : Cluster) (b : Book) (sound : IsSound c b) (s v : Name) (x : Varian
         run.1 ∙ ap Ok (filled s x.frames run.0 run.2)
 
 pub changes_nothing : OwnExportChangesNothing
-unfolding replace outcome replaced lifted
+unfolding replace outcome replaced lifted clear_all
 changes_nothing c b s v x header part body sound known found open_now short are =
     let reads : List RowRead = rows_of_body c.params body in
-    step-replace c b s v body known (sound.variants v x found).0
+    step-replace c b s v body false known (sound.variants v x found).0
     ∙ ap (outcome b) (
     past_or _ _ x _ found
     ∙ past_when _ x.released _ open_now

@@ -24,15 +24,17 @@ use Rattle.fr_base.specs.declared.refusal.Refusal.{Refusal}
 use Rattle.fr_base.specs.declared.refusal.Refusal.TheVariants.{NoVariant, Released, BadText, Limit}
 use Rattle.fr_base.specs.declared.actor.Actor.TheVariants.{Supplier}
 use Rattle.fr_base.specs.declared.request.Request.TheVariants as request
+use Rattle.fr_base.specs.declared.request.Manner.{Manner}
+use Rattle.fr_base.specs.declared.request.Manner.TheVariants as manner
 use Rattle.fr_base.specs.declared.request.Trial.{Trial}
 use Rattle.fr_base.specs.declared.request.Checked.TheVariants as checked
 use Rattle.fr_base.proofs.QuerySteps.{acts}
 
 -- ---- the answer
 
-module _ (c : Cluster) (b : Book) (s v : Name) (body : List ℕ) (replaces : Bool) where
+module _ (c : Cluster) (b : Book) (s v : Name) (body : List ℕ) (how : Manner) where
   abbrev asked : Trial
-  asked = record { supplier = s; variant = v; replaces = replaces; body = body }
+  asked = record { supplier = s; variant = v; manner = how; body = body }
 
   by_tests : (frozen long : Bool) (fates : List FateRow) →
       outcome b ((refuse Released when frozen) >> ((refuse Limit when long) >> Ok (record { book = b; answer = Report false (rows.Fates fates) })))
@@ -44,24 +46,24 @@ module _ (c : Cluster) (b : Book) (s v : Name) (body : List ℕ) (replaces : Boo
 
   by_variant : (o : Option Variant) →
       outcome b ((o or NoVariant) >>= λ x.
-      (refuse Released when x.released) >> ((refuse Limit when nat_lt MAX_IMPORT_BYTES (length body)) >> Ok (record { book = b; answer = Report false (rows.Fates (fates_in c.params replaces b s v body x)) })))
-      ≡ record { book = b; answer = trial_told c.params replaces b s v body o }
+      (refuse Released when x.released) >> ((refuse Limit when nat_lt MAX_IMPORT_BYTES (length body)) >> Ok (record { book = b; answer = Report false (rows.Fates (fates_in c.params how b s v body x)) })))
+      ≡ record { book = b; answer = trial_told c.params how b s v body o }
   unfolding outcome ◌or◌ ◌>>=◌
   by_variant None = refl
-  by_variant (Some x) = by_tests x.released (nat_lt MAX_IMPORT_BYTES (length body)) (fates_in c.params replaces b s v body x)
+  by_variant (Some x) = by_tests x.released (nat_lt MAX_IMPORT_BYTES (length body)) (fates_in c.params how b s v body x)
 
-  asked-checked : IsTrue (is_name v) → check c.params (Supplier s) (request.Try v replaces body) ≡ Ok (checked.Try asked)
+  asked-checked : IsTrue (is_name v) → check c.params (Supplier s) (request.Try v how body) ≡ Ok (checked.Try asked)
   unfolding check asking name ◌>>=◌
   asked-checked named = rw named refl
 
-  act-told : outcome b (act c b (Supplier s) (checked.Try asked)) ≡ record { book = b; answer = trial_told c.params replaces b s v body (get b.variants v) }
+  act-told : outcome b (act c b (Supplier s) (checked.Try asked)) ≡ record { book = b; answer = trial_told c.params how b s v body (get b.variants v) }
   unfolding act try
   act-told = by_variant (get b.variants v)
 
 pub trial-told : TrialIsTold
-trial-told c b s v body replaces known named =
-    acts c b (Supplier s) (request.Try v replaces body) (checked.Try (asked c b s v body replaces)) known (asked-checked c b s v body replaces named)
-    ∙ act-told c b s v body replaces
+trial-told c b s v body how known named =
+    acts c b (Supplier s) (request.Try v how body) (checked.Try (asked c b s v body how)) known (asked-checked c b s v body how named)
+    ∙ act-told c b s v body how
 
 -- ---- lines
 
@@ -96,18 +98,18 @@ module _ (p : Params) where
   lines-all [] = lines-below None []
   lines-all (first ∷ records) = lines-below (header_of first) records
 
-module _ (p : Params) (replaces : Bool) (s v : Name) where
-  lines-told : (reads : List RowRead) (b : Book) → map (λ row. row.line) (fates_of p replaces b s v reads) ≡ map (λ read. read.line) reads
+module _ (p : Params) (how : Manner) (s v : Name) where
+  lines-told : (reads : List RowRead) (b : Book) → map (λ row. row.line) (fates_of p how b s v reads) ≡ map (λ read. read.line) reads
   unfolding fates_of
   lines-told [] b = refl
   lines-told (read ∷ rest) b =
-      let r = read.row >>= try_row p replaces b s v in
+      let r = read.row >>= try_row p how b s v in
       λ i. line-of b read.line r i ∷ lines-told rest (fate_of b read.line r).0 i
 
 pub lines-in_turn : LinesAreInTurn
 unfolding all_rows_of_body
-lines-in_turn p replaces b s v body =
-    lines-told p replaces s v (take (MAX_ROWS + 1) (rows_of_records p (records_of body))) b ∙ lines-all p (records_of body)
+lines-in_turn p how b s v body =
+    lines-told p how s v (take (MAX_ROWS + 1) (rows_of_records p (records_of body))) b ∙ lines-all p (records_of body)
 
 -- ---- one row too many
 
@@ -138,26 +140,26 @@ module _ (p : Params) where
   late-all [] = late-below None []
   late-all (first ∷ records) = late-below (header_of first) records
 
-module _ (p : Params) (replaces : Bool) (s v : Name) where
-  late-fate : (b : Book) (read : RowRead) → IsRead read → IsLimitBehind (fate_of b read.line (read.row >>= try_row p replaces b s v)).1
+module _ (p : Params) (how : Manner) (s v : Name) where
+  late-fate : (b : Book) (read : RowRead) → IsRead read → IsLimitBehind (fate_of b read.line (read.row >>= try_row p how b s v)).1
   unfolding fate_of ◌>>=◌
   late-fate b read is late =
-      let r : Result Book Refusal = read.row >>= try_row p replaces b s v in
+      let r : Result Book Refusal = read.row >>= try_row p how b s v in
       let behind : IsLate read.line = subst IsLate (line-of b read.line r) late in
-      ap (λ (row : Result Row Refusal). (fate_of b read.line (row >>= try_row p replaces b s v)).1.refusal) (is behind)
+      ap (λ (row : Result Row Refusal). (fate_of b read.line (row >>= try_row p how b s v)).1.refusal) (is behind)
 
-  late-told : (reads : List RowRead) (b : Book) → All IsRead reads → All IsLimitBehind (fates_of p replaces b s v reads)
+  late-told : (reads : List RowRead) (b : Book) → All IsRead reads → All IsLimitBehind (fates_of p how b s v reads)
   unfolding fates_of
   late-told [] b late = All-nil IsLimitBehind
   late-told (read ∷ rest) b late =
-      let r : Result Book Refusal = read.row >>= try_row p replaces b s v in
-      All-cons IsLimitBehind (fate_of b read.line r).1 (fates_of p replaces (fate_of b read.line r).0 s v rest)
+      let r : Result Book Refusal = read.row >>= try_row p how b s v in
+      All-cons IsLimitBehind (fate_of b read.line r).1 (fates_of p how (fate_of b read.line r).0 s v rest)
       (late-fate b read (All-head IsRead read rest late)) (late-told rest (fate_of b read.line r).0 (All-tail IsRead read rest late))
 
 pub late-limit : OneTooManyIsLimit
 unfolding all_rows_of_body
-late-limit p replaces b s v body =
-    late-told p replaces s v (take (MAX_ROWS + 1) (rows_of_records p (records_of body))) b
+late-limit p how b s v body =
+    late-told p how s v (take (MAX_ROWS + 1) (rows_of_records p (records_of body))) b
     (All-take IsRead (MAX_ROWS + 1) (rows_of_records p (records_of body)) (late-all p (records_of body)))
 
 -- ---- row by row
@@ -171,18 +173,18 @@ same_rest x y xs ys e = cc
 same_ok : (x y : Book) → ◌≡◌ {A = Result Book RefusedAt} (Ok x) (Ok y) → x ≡ y
 same_ok x y e = cc
 
-module _ (p : Params) (replaces : Bool) (s v : Name) where
+module _ (p : Params) (how : Manner) (s v : Name) where
   abbrev done_by : Book → Result Row Refusal → Result Book Refusal
-  done_by b r = r >>= try_row p replaces b s v
+  done_by b r = r >>= try_row p how b s v
 
   abbrev fates : Book → List RowRead → List FateRow
-  fates b reads = fates_of p replaces b s v reads
+  fates b reads = fates_of p how b s v reads
 
   abbrev after : Book → List RowRead → Book
-  after b reads = after_fates p replaces b s v reads
+  after b reads = after_fates p how b s v reads
 
   abbrev run : Book → List RowRead → Result Book RefusedAt
-  run b reads = try_rows p replaces b s v reads
+  run b reads = try_rows p how b s v reads
 
   fates-none : (b : Book) → fates b [] ≡ []
   unfolding fates_of
@@ -209,64 +211,64 @@ module _ (p : Params) (replaces : Bool) (s v : Name) where
   after-refused b e read rest is = ap (λ r. after (fate_of b read.line r).0 rest) is
 
 -- rows together, one by one
-run-none : (p : Params) (replaces : Bool) (s v : Name) (b : Book) → try_rows p replaces b s v [] ≡ Ok b
+run-none : (p : Params) (how : Manner) (s v : Name) (b : Book) → try_rows p how b s v [] ≡ Ok b
 unfolding act_rows replace_rows
-run-none p true s v b = refl
-run-none p false s v b = refl
+run-none p (manner.Replace whole) s v b = refl
+run-none p manner.Import s v b = refl
 
-run-each : (p : Params) (replaces : Bool) (s v : Name) (b : Book) (read : RowRead) (rest : List RowRead) →
-    try_rows p replaces b s v (read ∷ rest) ≡ (at_line read.line (read.row >>= try_row p replaces b s v) >>= (λ d. try_rows p replaces d s v rest))
+run-each : (p : Params) (how : Manner) (s v : Name) (b : Book) (read : RowRead) (rest : List RowRead) →
+    try_rows p how b s v (read ∷ rest) ≡ (at_line read.line (read.row >>= try_row p how b s v) >>= (λ d. try_rows p how d s v rest))
 unfolding act_rows replace_rows
-run-each p true s v b read rest = refl
-run-each p false s v b read rest = refl
+run-each p (manner.Replace whole) s v b read rest = refl
+run-each p manner.Import s v b read rest = refl
 
-module _ (p : Params) (replaces : Bool) (s v : Name) where
-  run-one : (b d : Book) (read : RowRead) (rest : List RowRead) → done_by p replaces s v b read.row ≡ Ok d → run p replaces s v b (read ∷ rest) ≡ run p replaces s v d rest
+module _ (p : Params) (how : Manner) (s v : Name) where
+  run-one : (b d : Book) (read : RowRead) (rest : List RowRead) → done_by p how s v b read.row ≡ Ok d → run p how s v b (read ∷ rest) ≡ run p how s v d rest
   unfolding at_line ◌>>=◌
-  run-one b d read rest is = run-each p replaces s v b read rest ∙ ap (λ (r : Result Book Refusal). at_line read.line r >>= (λ d. try_rows p replaces d s v rest)) is
+  run-one b d read rest is = run-each p how s v b read rest ∙ ap (λ (r : Result Book Refusal). at_line read.line r >>= (λ d. try_rows p how d s v rest)) is
 
   -- the rows that are done
   abbrev kept_of : Book → List RowRead → List RowRead
-  kept_of b reads = done_rows reads (fates p replaces s v b reads)
+  kept_of b reads = done_rows reads (fates p how s v b reads)
 
   abbrev rows_in : List RowRead → List (Result Row Refusal)
   rows_in reads = map (λ read. read.row) reads
 
   abbrev Without : Book → List RowRead → List RowRead → Type 0
-  Without b reads kept = IsDoneWithout p replaces b s v reads kept
+  Without b reads kept = IsDoneWithout p how b s v reads kept
 
   abbrev IsDone : FateRow → Type 0
   IsDone fate = fate.refusal ≡ None
 
   without-none : (b : Book) (kept : List RowRead) → rows_in kept ≡ [] → Without b [] kept
   without-none b [] same = record {
-    done = subst (All IsDone) (sym (fates-none p replaces s v b)) (All-nil IsDone);
+    done = subst (All IsDone) (sym (fates-none p how s v b)) (All-nil IsDone);
     same = refl;
-    together = run-none p replaces s v b ∙ ap Ok (sym (after-none p replaces s v b));
+    together = run-none p how s v b ∙ ap Ok (sym (after-none p how s v b));
   }
   without-none b (k ∷ ks) same = cc
 
-  without-one : (b d : Book) (read : RowRead) (rest : List RowRead) → done_by p replaces s v b read.row ≡ Ok d →
+  without-one : (b d : Book) (read : RowRead) (rest : List RowRead) → done_by p how s v b read.row ≡ Ok d →
       ((kept : List RowRead) → rows_in kept ≡ rows_in (kept_of d rest) → Without d rest kept) →
       (kept : List RowRead) → rows_in kept ≡ read.row ∷ rows_in (kept_of d rest) → Without b (read ∷ rest) kept
   without-one b d read rest is more [] same = cc
   without-one b d read rest is more (k ∷ ks) same =
-      let here : done_by p replaces s v b k.row ≡ Ok d = ap (done_by p replaces s v b) (same_first k.row read.row (rows_in ks) (rows_in (kept_of d rest)) same) ∙ is in
+      let here : done_by p how s v b k.row ≡ Ok d = ap (done_by p how s v b) (same_first k.row read.row (rows_in ks) (rows_in (kept_of d rest)) same) ∙ is in
       let others = more ks (same_rest k.row read.row (rows_in ks) (rows_in (kept_of d rest)) same) in
       record {
-        done = subst (All IsDone) (sym (fates-one p replaces s v b d k ks here)) (All-cons IsDone (record { line = k.line; refusal = None }) (fates p replaces s v d ks) refl others.done);
-        same = after-one p replaces s v b d k ks here ∙ others.same ∙ sym (after-one p replaces s v b d read rest is);
-        together = run-one b d k ks here ∙ others.together ∙ ap Ok (sym (after-one p replaces s v b d read rest is));
+        done = subst (All IsDone) (sym (fates-one p how s v b d k ks here)) (All-cons IsDone (record { line = k.line; refusal = None }) (fates p how s v d ks) refl others.done);
+        same = after-one p how s v b d k ks here ∙ others.same ∙ sym (after-one p how s v b d read rest is);
+        together = run-one b d k ks here ∙ others.together ∙ ap Ok (sym (after-one p how s v b d read rest is));
       }
 
-  without-each : (b : Book) (read : RowRead) (rest : List RowRead) (kept : List RowRead) (o : Result Book Refusal) → done_by p replaces s v b read.row ≡ o →
+  without-each : (b : Book) (read : RowRead) (rest : List RowRead) (kept : List RowRead) (o : Result Book Refusal) → done_by p how s v b read.row ≡ o →
       ((d : Book) (kept : List RowRead) → rows_in kept ≡ rows_in (kept_of d rest) → Without d rest kept) →
       rows_in kept ≡ rows_in (kept_of b (read ∷ rest)) → Without b (read ∷ rest) kept
   without-each b read rest kept (Ok d) is more same =
-      without-one b d read rest is (more d) kept (same ∙ ap (λ fs. rows_in (done_rows (read ∷ rest) fs)) (fates-one p replaces s v b d read rest is))
+      without-one b d read rest is (more d) kept (same ∙ ap (λ fs. rows_in (done_rows (read ∷ rest) fs)) (fates-one p how s v b d read rest is))
   without-each b read rest kept (Err e) is more same =
-      let others = more b kept (same ∙ ap (λ fs. rows_in (done_rows (read ∷ rest) fs)) (fates-refused p replaces s v b e read rest is)) in
-      let still = after-refused p replaces s v b e read rest is in
+      let others = more b kept (same ∙ ap (λ fs. rows_in (done_rows (read ∷ rest) fs)) (fates-refused p how s v b e read rest is)) in
+      let still = after-refused p how s v b e read rest is in
       record {
         done = others.done;
         same = others.same ∙ sym still;
@@ -274,15 +276,15 @@ module _ (p : Params) (replaces : Bool) (s v : Name) where
       }
 
   without : (reads : List RowRead) (b : Book) (kept : List RowRead) → rows_in kept ≡ rows_in (kept_of b reads) → Without b reads kept
-  without [] b kept same = without-none b kept (same ∙ ap (λ fs. rows_in (done_rows [] fs)) (fates-none p replaces s v b))
-  without (read ∷ rest) b kept same = without-each b read rest kept (done_by p replaces s v b read.row) refl (λ d kept same. without rest d kept same) same
+  without [] b kept same = without-none b kept (same ∙ ap (λ fs. rows_in (done_rows [] fs)) (fates-none p how s v b))
+  without (read ∷ rest) b kept same = without-each b read rest kept (done_by p how s v b read.row) refl (λ d kept same. without rest d kept same) same
 
   -- what follows done_by on what was left
-  fates-append : (front : List RowRead) (b : Book) (rest : List RowRead) → fates p replaces s v b (front ++ rest) ≡ fates p replaces s v b front ++ fates p replaces s v (after p replaces s v b front) rest
+  fates-append : (front : List RowRead) (b : Book) (rest : List RowRead) → fates p how s v b (front ++ rest) ≡ fates p how s v b front ++ fates p how s v (after p how s v b front) rest
   unfolding fates_of after_fates
   fates-append [] b rest = refl
   fates-append (read ∷ front) b rest =
-      let r = done_by p replaces s v b read.row in
+      let r = done_by p how s v b read.row in
       ap (λ l. (fate_of b read.line r).1 ∷ l) (fates-append front (fate_of b read.line r).0 rest)
 
   fate-is : (d : Book) (line : ℕ) (r : Result Book Refusal) → (fate_of d line r).1 ≡ record { line = line; refusal = refusal_in r }
@@ -290,17 +292,17 @@ module _ (p : Params) (replaces : Bool) (s v : Name) where
   fate-is d line (Ok x) = refl
   fate-is d line (Err e) = refl
 
-  fates-last : (d : Book) (read : RowRead) → fates p replaces s v d (read ∷ []) ≡ record { line = read.line; refusal = refusal_in (done_by p replaces s v d read.row) } ∷ []
+  fates-last : (d : Book) (read : RowRead) → fates p how s v d (read ∷ []) ≡ record { line = read.line; refusal = refusal_in (done_by p how s v d read.row) } ∷ []
   unfolding fates_of
-  fates-last d read = ap (λ f. f ∷ []) (fate-is d read.line (done_by p replaces s v d read.row))
+  fates-last d read = ap (λ f. f ∷ []) (fate-is d read.line (done_by p how s v d read.row))
 
 pub refused-leave_nothing : RefusedRowsLeaveNothing
-refused-leave_nothing p replaces b s v reads kept same = without p replaces s v reads b kept same
+refused-leave_nothing p how b s v reads kept same = without p how s v reads b kept same
 
 pub each-fate : EachFateIsItsRows
-each-fate p replaces b d s v front read left =
-    let whole = without p replaces s v front b (done_rows front (fates_of p replaces b s v front)) refl in
-    let same : d ≡ after_fates p replaces b s v front = same_ok d (after_fates p replaces b s v front) (sym left ∙ whole.together) in
-    fates-append p replaces s v front b (read ∷ [])
-    ∙ ap (λ x. fates_of p replaces b s v front ++ fates_of p replaces x s v (read ∷ [])) (sym same)
-    ∙ ap (λ l. fates_of p replaces b s v front ++ l) (fates-last p replaces s v d read)
+each-fate p how b d s v front read left =
+    let whole = without p how s v front b (done_rows front (fates_of p how b s v front)) refl in
+    let same : d ≡ after_fates p how b s v front = same_ok d (after_fates p how b s v front) (sym left ∙ whole.together) in
+    fates-append p how s v front b (read ∷ [])
+    ∙ ap (λ x. fates_of p how b s v front ++ fates_of p how x s v (read ∷ [])) (sym same)
+    ∙ ap (λ l. fates_of p how b s v front ++ l) (fates-last p how s v d read)

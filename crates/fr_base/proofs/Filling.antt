@@ -34,10 +34,10 @@ use Rattle.fr_base.proofs.TableLaws.{get-only, same_table, kept}
 use Rattle.fr_base.proofs.SoundTables.{get-put, same_some}
 use Rattle.fr_base.proofs.SoundRows.{same_text-is, holder-is, all_more}
 use Rattle.fr_base.proofs.AloneCells.{same_text-itself, entries_of, Lacks, later, found_first, none_of, first_taken-alike}
-use Rattle.fr_base.proofs.ReplacingLaws.{settle-other}
+use Rattle.fr_base.proofs.SettledRows.{settle-other, other_frame}
 use Rattle.fr_base.proofs.FrameRuns.{past_when, past_unless, change_in, framed_in, act_in, run_in, change-is, place_test, place-is, signal-is}
-use Rattle.fr_base.proofs.BroughtLemmas.{node_of, other_frame}
-use Rattle.fr_base.proofs.SameFileLaws.{not_mine}
+use Rattle.fr_base.proofs.BroughtLemmas.{node_of}
+use Rattle.fr_base.proofs.SettledRows.{not_mine}
 use Rattle.fr_base.proofs.TableFronts.{put-last, not_yet, there-mid, there-front, signal-last, admits-next}
 
 -- ---- cells that no frame has

@@ -54,8 +54,8 @@ module _ (b : Book) (k : Name × Name) (one : Kept) (there : get b.imports k ≡
 
   common-has : (command : CommonCommand) → IfOk (common b command) Has
   unfolding common
-  common-has (OpenVariant v parent) =
-      gives_each _ (begun b parent) _ (λ x _.
+  common-has (OpenVariant v beginning) =
+      gives_each _ (begun b beginning) _ (λ x _.
       gives_when _ _ _ _ (λ _.
       gives_when _ _ _ _ (λ _. there)))
   common-has (Release v) =

@@ -16,6 +16,7 @@ use Rattle.fr_base.specs.declared.params.Params.{Params}
 use Rattle.fr_base.specs.declared.refusal.Refusal.TheVariants.{NotYours, BadName, BadText, LabelUsed, NoVariant, Released, NoNode, NoFrame, NodeDiffers, NotGranted, Limit, CellTaken, BitTaken}
 use Rattle.fr_base.specs.declared.request.Ask.{Ask}
 use Rattle.fr_base.specs.declared.request.Import as asked
+use Rattle.fr_base.specs.declared.beginning.Beginning.TheVariants.{Empty, From}
 use Rattle.fr_base.specs.declared.request.Request.TheVariants.{OpenVariant, Release, AddNode, Grant, AddFrame, DropFrame, Import, Query}
 use Rattle.fr_base.specs.declared.query.Query.TheVariants.{Variant as OfVariant}
 use Rattle.fr_base.specs.declared.report.Report.TheVariants.{Frames, Layout}
@@ -31,7 +32,7 @@ a_small_import = tt
 -- a variant, two nodes of `s1`, and a grant to the first
 unfoldable pub granted : List Ask
 granted =
-    integrator (OpenVariant (codes "v1") None)
+    integrator (OpenVariant (codes "v1") Empty)
     ∷ integrator (AddNode (codes "s1") (codes "n1"))
     ∷ integrator (AddNode (codes "s1") (codes "n2"))
     ∷ integrator (Grant (codes "v1") 1 (codes "A") (codes "s1") (codes "n1"))
@@ -100,7 +101,7 @@ pub after_a_release :
     ∷ into (codes "b") three_frames
     ∷ into (codes "b") (replicate 65537 48)
     ∷ s1 (Query (OfVariant (codes "v1") Frames))
-    ∷ integrator (OpenVariant (codes "v2") (Some (codes "v1")))
+    ∷ integrator (OpenVariant (codes "v2") (From (codes "v1")))
     ∷ s1 (Import (codes "v2") (codes "a") three_frames)
     ∷ [])))
     ≡ Imported 3 ∷ Done ∷ Imported 3 ∷ Done ∷ Imported 3 ∷ Refused Released ∷ Refused Released

@@ -62,7 +62,7 @@ Becomes c b named o = (o.book.suppliers ≡ b.suppliers) ⊎ HasNewKey c b named
 
 check-keyed : (p : Params) (actor : Actor) (r : Request) → IfOk (check p actor r) (λ what. keyed what ≡ keyed_by r)
 unfolding check
-check-keyed p actor (request.OpenVariant variant parent) = gives_when _ _ _ _ (λ _. gives_each _ _ _ (λ v _. gives_each _ _ _ (λ from _. refl)))
+check-keyed p actor (request.OpenVariant variant beginning) = gives_when _ _ _ _ (λ _. gives_each _ _ _ (λ v _. gives_each _ _ _ (λ from _. refl)))
 check-keyed p actor (request.Release variant) = gives_when _ _ _ _ (λ _. gives_each _ _ _ (λ v _. refl))
 check-keyed p actor (request.AddSupplier supplier text) = gives_when _ _ _ _ (λ _. gives_each _ _ _ (λ s _. gives_each _ _ _ (λ k _. refl)))
 check-keyed p actor (request.SetKey supplier text) = gives_when _ _ _ _ (λ _. gives_bind _ _ (name supplier) _ (name-is supplier) (λ s is. gives_each _ _ _ (λ k _. ap Some is)))
@@ -76,7 +76,7 @@ check-keyed p actor (request.Unplace variant frame number text base repetition) 
 check-keyed p actor (request.AddSignal variant frame named start length text) = gives_each _ _ _ (λ s _. gives_each _ _ _ (λ v _. gives_each _ _ _ (λ f _. gives_each _ _ _ (λ n _. gives_each _ _ _ (λ x _. refl)))))
 check-keyed p actor (request.DropSignal variant frame named) = gives_each _ _ _ (λ s _. gives_each _ _ _ (λ v _. gives_each _ _ _ (λ f _. gives_each _ _ _ (λ n _. refl))))
 check-keyed p actor (request.Import variant label body) = gives_each _ _ _ (λ s _. gives_each _ _ _ (λ v _. gives_each _ _ _ (λ l _. refl)))
-check-keyed p actor (request.Replace variant body) = gives_each _ _ _ (λ s _. gives_each _ _ _ (λ v _. refl))
+check-keyed p actor (request.Replace variant whole body) = gives_each _ _ _ (λ s _. gives_each _ _ _ (λ v _. refl))
 check-keyed p actor (request.Try variant replaces body) = gives_each _ _ _ (λ s _. gives_each _ _ _ (λ v _. refl))
 check-keyed p actor (request.Query asked) = gives_when _ _ _ _ (λ _. gives_each _ _ _ (λ q _. gives_when _ _ _ _ (λ _. refl)))
 
@@ -91,8 +91,8 @@ module _ (c : Cluster) (b : Book) where
 
   common-stays : (command : CommonCommand) → IfOk (common b command) Stays
   unfolding common
-  common-stays (OpenVariant v parent) =
-      gives_each _ (begun b parent) _ (λ x _.
+  common-stays (OpenVariant v beginning) =
+      gives_each _ (begun b beginning) _ (λ x _.
       gives_when _ _ _ _ (λ _.
       gives_when _ _ _ _ (λ _. refl)))
   common-stays (Release v) =

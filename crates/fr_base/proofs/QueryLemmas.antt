@@ -7,7 +7,7 @@ use Rattle.fr_base.specs.declared.query.Query.{Query}
 use Rattle.fr_base.specs.declared.query.Query.TheVariants.{Register, Variant, Difference}
 use Rattle.fr_base.specs.declared.import.Header.{Header}
 use Rattle.fr_base.specs.declared.report.Report.{Report}
-use Rattle.fr_base.specs.declared.report.Report.TheVariants.{Grants, Frames, Schedule, Gaps, Layout, Load, Room, Export}
+use Rattle.fr_base.specs.declared.report.Report.TheVariants.{Grants, Frames, Schedule, Gaps, Layout, Load, Rows, Room, Export}
 
 unfoldable pub names_open : ⊤
 unfolding ◌>>=◌ IsReportRead IsQueryRead
@@ -82,6 +82,7 @@ module _ {N M A E : Type 0} (f : N → A) (g : M → ℕ) where
   report_made (Layout frame) result (Ok name, made, is) = rw is (ap Layout made)
   report_made (Layout frame) result (Err e, made, is) = rw is tt
   report_made Load result is = rw is refl
+  report_made Rows result is = rw is refl
   report_made (Room frame repetition) result (Ok name, made, (Ok number, counted, is)) = rw is (ap (λ n. Room n number) made ∙ ap (Room (f frame)) counted)
   report_made (Room frame repetition) result (Ok name, made, (Err e, counted, is)) = rw is tt
   report_made (Room frame repetition) result (Err e, made, is) = rw is tt
@@ -122,6 +123,7 @@ module _ {N M A E : Type 0} (f : N → A) (g : M → Option ℕ) (Lacks Refuses 
   report_taken (Layout frame) result (Ok name, made, is) = rw (is, made) refl
   report_taken (Layout frame) result (Err e, lacks, is) = rw is (inl lacks)
   report_taken Load result is = rw is refl
+  report_taken Rows result is = rw is refl
   report_taken (Room frame repetition) result (Ok name, made, (Ok number, counted, is)) = rw (is, made, counted) refl
   report_taken (Room frame repetition) result (Ok name, made, (Err e, (refuses, none), is)) = rw is (inr (refuses, ap (option_map (Room (f frame))) none))
   report_taken (Room frame repetition) result (Err e, lacks, is) = rw is (inl lacks)

@@ -70,8 +70,8 @@ module _ (b : Book) (v : Name) (x : Variant) (there : get b.variants v ≡ Some 
 
   common-stays : (command : CommonCommand) → IfOk (common b command) (Stays v x)
   unfolding common
-  common-stays (OpenVariant w parent) =
-      gives_each _ (begun b parent) _ (λ y _.
+  common-stays (OpenVariant w beginning) =
+      gives_each _ (begun b beginning) _ (λ y _.
       gives_when _ _ (contains b.variants w) _ (λ free.
       gives_when _ _ _ _ (λ _.
       stays-with w y (λ same. true≢false (sym (ap is_some there) ∙ ap (contains b.variants) same ∙ free)))))

@@ -1,7 +1,7 @@
 -- Replacements computed on a small register.
 use Rattle.std.proofs.Common.{◌≡◌, ℕ, List, [], ◌∷◌, ◌++◌, replicate, refl, codes, false, drop}
 use Rattle.std.specs.Prelude.{⊤}
-use Rattle.fr_base.specs.Step.{freed, free_row, free_rows, replace_row, replace_rows, replaced, replace}
+use Rattle.fr_base.specs.Step.{freed, free_row, free_rows, clear_all, replace_row, replace_rows, replaced, replace}
 use Rattle.fr_base.specs.declared.answer.Answer.TheVariants.{Done, Imported, Replaced, Refused, RefusedRow}
 use Rattle.fr_base.specs.declared.answer.FrameRow.{FrameRow}
 use Rattle.fr_base.specs.declared.answer.SignalRow.{SignalRow}
@@ -20,12 +20,12 @@ use Rattle.fr_base.proofs.ImportRuns.{a_small_import, granted, into}
 
 -- what the rows below unfold
 unfoldable pub a_small_replacement : ⊤
-unfolding a_small_import freed free_row free_rows replace_row replace_rows replaced replace
+unfolding a_small_import freed free_row free_rows clear_all replace_row replace_rows replaced replace
 a_small_replacement = tt
 
 -- a replacement of `s1` in `v1`
 abbrev pub by : List ℕ → Ask
-by body = s1 (Replace (codes "v1") body)
+by body = s1 (Replace (codes "v1") false body)
 
 -- rows of placements
 abbrev pub placements : List ℕ → List ℕ
@@ -136,13 +136,13 @@ rows_of_signals = refl
 pub refused_before_rows :
     drop 4 (answers (granted ++ (
     into (codes "a") (placements (codes "f,n1,1,A,0,2\n"))
-    ∷ integrator (Replace (codes "1v") [])
-    ∷ s1 (Replace (codes "1v") [])
-    ∷ s1 (Replace (codes "v9") (replicate 65537 48))
+    ∷ integrator (Replace (codes "1v") false [])
+    ∷ s1 (Replace (codes "1v") false [])
+    ∷ s1 (Replace (codes "v9") false (replicate 65537 48))
     ∷ by (replicate 65537 48)
     ∷ by (replicate 65536 10)
     ∷ by (placements [])
-    ∷ s2 (Replace (codes "v1") (placements (codes "f,n1,1,A,0,2\n")))
+    ∷ s2 (Replace (codes "v1") false (placements (codes "f,n1,1,A,0,2\n")))
     ∷ s1 (Query (OfVariant (codes "v1") Frames))
     ∷ integrator (Release (codes "v1"))
     ∷ by (replicate 65537 48)

@@ -1,19 +1,19 @@
 -- After a replacement that was carried out, all that its file does not name is as before.
-use Rattle.std.proofs.Common.{◌≡◌, ℕ, Bool, true, false, true≢false, ◌||◌, ◌&&◌, cond, List, [], ◌∷◌, Option, Some, None, Result, Ok, Err, IfOk, IsTrue, refl, sym, ap, subst, ◌∙◌, inl, inr}
-use Rattle.std.specs.Ordering.{eq_by_cmp}
+use Rattle.std.proofs.Common.{◌≡◌, ℕ, Bool, true, false, true≢false, ◌||◌, ◌&&◌, List, [], ◌∷◌, Option, Some, None, Result, Ok, Err, IfOk, IsTrue, refl, sym, ap, subst, ◌∙◌, inl, inr}
 use Rattle.std.proofs.lemmas.Bool.{cases_Bool}
 use Rattle.fr_base.specs.Refusing.{◌>>=◌}
-use Rattle.fr_base.specs.Tables.{Order, Table, Fate, Becomes, Gone, get, settle}
+use Rattle.fr_base.specs.Tables.{Table, get, settle}
 use Rattle.fr_base.specs.Keys.{owned}
 use Rattle.fr_base.specs.Cluster.{Cluster}
 use Rattle.fr_base.specs.Names.{is_name, same_text}
 use Rattle.fr_base.specs.Checks.{asking, name, check}
 use Rattle.fr_base.specs.Book.{Frame, Variant, Book}
-use Rattle.fr_base.specs.ImportRows.{rows_of_body}
+use Rattle.fr_base.specs.ImportRows.{header_of_body, rows_of_body}
 use Rattle.fr_base.specs.ReplacingLaws.{IsElsewhereAs, ReplacedLeavesTheRest, is_freed, is_named}
-use Rattle.fr_base.specs.Step.{Outcome, RefusedAt, with_variant, own_rows, shared_by, admits, grants_after, frame_after, frames_after, changed, change_rows, frame_at, with_frame, act_row, frame_of_row, free_row, free_rows, with_freed, replace_row, replace_rows, replaced, replace, act, outcome, knows, step}
+use Rattle.fr_base.specs.Step.{Outcome, RefusedAt, with_variant, own_rows, shared_by, admits, grants_after, frame_after, frames_after, changed, change_rows, frame_at, with_frame, act_row, frame_of_row, free_row, free_rows, clear_all, whole_of, with_freed, replace_row, replace_rows, replaced, replace, act, outcome, knows, step}
 use Rattle.fr_base.specs.declared.answer.Answer.TheVariants.{Replaced}
 use Rattle.fr_base.specs.declared.actor.Actor.TheVariants.{Supplier}
+use Rattle.fr_base.specs.declared.import.Header.{Header}
 use Rattle.fr_base.specs.declared.import.Row.{Row}
 use Rattle.fr_base.specs.declared.import.Row.TheVariants as row
 use Rattle.fr_base.specs.declared.import.RowRead.{RowRead}
@@ -27,26 +27,12 @@ use Rattle.fr_base.specs.declared.request.FrameChange.{FrameChange}
 use Rattle.fr_base.specs.declared.request.FrameChange.TheVariants.{Add, Place, AddSignal}
 use Rattle.fr_base.specs.declared.request.Replacement.{Replacement}
 use Rattle.fr_base.specs.declared.request.Request.TheVariants as request
-use Rattle.fr_base.proofs.TableLaws.{equal, get-insert}
-use Rattle.fr_base.proofs.SoundTables.{get-put, get-remove_other, insert-again, same_some}
+use Rattle.fr_base.proofs.SoundTables.{get-put, insert-again, same_some}
 use Rattle.fr_base.proofs.SoundRefusing.{gives_or, gives_bind, gives_then, gives_unless, gives_when}
 use Rattle.fr_base.proofs.SoundImports.{at_line-gives}
 use Rattle.fr_base.proofs.AloneCells.{same_text-itself}
-
--- ---- tables
-
-module _ {K V : Type 0} {o : Order K} where
-  -- what becomes of a row leaves every other
-  pub settle-other : (t : Table o V) (k q : K) (fate : Fate V) → (k ≡ q → ⊥) → get (settle t k fate) q ≡ get t q
-  unfolding settle
-  settle-other t k q (Becomes v) other = elim (cases_Bool (eq_by_cmp o.compare q k)) [
-    | inl tie ↦ absurd (other (sym (o.exact q k (equal _ tie))))
-    | inr apart ↦ get-insert t k v q ∙ ap (λ b. cond b (Some v) (get t q)) apart
-  ]
-  settle-other t k q Gone other = elim (cases_Bool (eq_by_cmp o.compare k q)) [
-    | inl tie ↦ absurd (other (o.exact k q (equal _ tie)))
-    | inr apart ↦ get-remove_other o t k q apart
-  ]
+use Rattle.fr_base.proofs.SettledRows.{settle-other}
+use Rattle.fr_base.proofs.ClearedFrames.{begins}
 
 pub or_later : (a c : Bool) → IsTrue c → IsTrue (a || c)
 or_later true c h = refl
@@ -54,9 +40,9 @@ or_later false c h = h
 
 -- ---- the rows that a replacement is of
 
-module _ (p : Params) (b : Book) (s v : Name) (all : List RowRead) where
+module _ (p : Params) (b : Book) (s v : Name) (whole : Option Header) (all : List RowRead) where
   abbrev Rest : Book → Type 0
-  Rest = IsElsewhereAs b s v all
+  Rest = IsElsewhereAs b s v whole all
 
   -- the rows are among them
   abbrev AreOf : List RowRead → Type 0
@@ -140,11 +126,14 @@ module _ (p : Params) (b : Book) (r : Replacement) where
   abbrev reads : List RowRead
   reads = rows_of_body p r.body
 
+  abbrev whole : Option Header
+  whole = whole_of r.whole (header_of_body r.body)
+
   -- where it was carried out, all else is as before
   abbrev Told : Outcome → Type 0
-  Told o = (rows : ℕ) → o.answer ≡ Replaced rows → IsElsewhereAs b r.supplier r.variant reads o.book
+  Told o = (rows : ℕ) → o.answer ≡ Replaced rows → IsElsewhereAs b r.supplier r.variant whole reads o.book
 
-  replaced-told : (count : ℕ) (made : Result Book RefusedAt) → IfOk made (IsElsewhereAs b r.supplier r.variant reads) → Told (replaced b count made)
+  replaced-told : (count : ℕ) (made : Result Book RefusedAt) → IfOk made (IsElsewhereAs b r.supplier r.variant whole reads) → Told (replaced b count made)
   unfolding replaced
   replaced-told count (Ok d) h rows told = h
   replaced-told count (Err fault) h rows told = cc
@@ -155,19 +144,20 @@ module _ (p : Params) (b : Book) (r : Replacement) where
       gives_or _ (get b.variants r.variant) _ _ (λ x found.
       gives_when _ _ _ _ (λ _.
       gives_when _ _ _ _ (λ _.
-      replaced-told _ _ (rows-leave p b r.supplier r.variant reads reads (λ f h. h) (with_freed b r.supplier r.variant x reads) (record {
+      let begun : Table owned Frame = clear_all r.supplier whole reads x.frames in
+      replaced-told _ _ (rows-leave p b r.supplier r.variant whole reads reads (λ f h. h) (with_freed b r.supplier r.variant x whole reads) (record {
         x = x;
         there = found;
-        frames = free_rows r.supplier reads x.frames;
+        frames = free_rows r.supplier reads begun;
         is = refl;
-        others = λ k other. all_freed-others p b r.supplier r.variant reads reads (λ f h. h) x.frames k other;
+        others = λ k other. all_freed-others p b r.supplier r.variant whole reads reads (λ f h. h) begun k other ∙ begins r.supplier whole reads x.frames k;
       })))))
 
-module _ (c : Cluster) (b : Book) (s : Name) (variant body : List ℕ) where
+module _ (c : Cluster) (b : Book) (s : Name) (variant body : List ℕ) (whole : Bool) where
   abbrev pub it : Replacement
-  it = record { supplier = s; variant = variant; body = body }
+  it = record { supplier = s; variant = variant; whole = whole; body = body }
 
-  pub check-is : IfOk (check c.params (Supplier s) (request.Replace variant body)) (λ what. what ≡ checked.Replace it)
+  pub check-is : IfOk (check c.params (Supplier s) (request.Replace variant whole body)) (λ what. what ≡ checked.Replace it)
   unfolding check asking name ◌>>=◌
   check-is = elim (cases_Bool (is_name variant)) [ inl h ↦ rw h refl | inr h ↦ rw h tt ]
 
@@ -180,11 +170,11 @@ module _ (c : Cluster) (b : Book) (s : Name) (variant body : List ℕ) where
   unfolding act
   act-told what is = subst (λ w. IfOk (act c b (Supplier s) w) (Told c.params b it)) (sym is) (replace-told c.params b it)
 
-  step-told : Told c.params b it (step c b (Supplier s) (request.Replace variant body))
+  step-told : Told c.params b it (step c b (Supplier s) (request.Replace variant whole body))
   unfolding step
   step-told = outcome-told _ (
       gives_unless _ _ (knows b (Supplier s)) _ (λ _.
-      gives_bind _ _ (check c.params (Supplier s) (request.Replace variant body)) _ check-is (λ what is. act-told what is)))
+      gives_bind _ _ (check c.params (Supplier s) (request.Replace variant whole body)) _ check-is (λ what is. act-told what is)))
 
 pub leaves_the_rest : ReplacedLeavesTheRest
-leaves_the_rest c b s variant body rows told = step-told c b s variant body rows told
+leaves_the_rest c b s variant body whole rows told = step-told c b s variant body whole rows told

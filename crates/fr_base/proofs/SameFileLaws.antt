@@ -17,13 +17,14 @@ use Rattle.fr_base.specs.Schedule.{fill, first_taken}
 use Rattle.fr_base.specs.Signals.{SignalData}
 use Rattle.fr_base.specs.Layouts.{with_signal}
 use Rattle.fr_base.specs.Brought.{nodes_for, placements_for, signals_for, had_placements, had_signals, put_in}
-use Rattle.fr_base.specs.ImportRows.{rows_of_body}
+use Rattle.fr_base.specs.ImportRows.{header_of_body, rows_of_body}
 use Rattle.fr_base.specs.ReplacingLaws.{is_named}
 use Rattle.fr_base.specs.ReplacedLaws.{SameFileChangesNothing}
-use Rattle.fr_base.specs.Step.{Outcome, RefusedAt, shared_by, cell_taken, admits_frame, frame_after, at_line, freed, frame_of_row, free_row, free_rows, replace_rows, replaced, replace, act, outcome, step}
+use Rattle.fr_base.specs.Step.{Outcome, RefusedAt, shared_by, cell_taken, admits_frame, frame_after, at_line, kind_of_row, freed, frame_of_row, free_row, free_rows, clear_all, whole_of, replace_rows, replaced, replace, act, outcome, step}
 use Rattle.fr_base.specs.declared.answer.Answer.TheVariants.{Replaced}
 use Rattle.fr_base.specs.declared.actor.Actor.TheVariants.{Supplier}
 use Rattle.fr_base.specs.declared.limits.TheConstants.{MAX_IMPORT_BYTES, MAX_PLACEMENTS}
+use Rattle.fr_base.specs.declared.import.Header.{Header}
 use Rattle.fr_base.specs.declared.import.Row.{Row}
 use Rattle.fr_base.specs.declared.import.Row.TheVariants as row
 use Rattle.fr_base.specs.declared.import.RowRead.{RowRead}
@@ -42,7 +43,9 @@ use Rattle.fr_base.proofs.SoundRows.{same_text-is}
 use Rattle.fr_base.proofs.SoundRefusing.{gives_or, gives_bind, gives_each, gives_bind_last, gives_unless, gives_when}
 use Rattle.fr_base.proofs.SoundImports.{at_line-gives}
 use Rattle.fr_base.proofs.AloneCells.{same_text-itself, entries_of}
-use Rattle.fr_base.proofs.ReplacingLaws.{settle-other}
+use Rattle.fr_base.proofs.SettledRows.{settle-other, not_mine}
+use Rattle.fr_base.proofs.ClearedFrames.{StayOthers, free-others}
+use Rattle.fr_base.proofs.ClearedAgain.{alike_freed}
 use Rattle.fr_base.proofs.FrameRuns.{past_or, past_when, past_unless, having, rows_at, change_in, framed_in, act_in, run_in, at, lifted, variant_at, put_at, replace_rows-lift, change-is, change-none, place-is, signal-is}
 use Rattle.fr_base.proofs.BroughtLemmas.{Frees, Makes, RowsMake, There, change-makes, free_rows-free, insert_all, node_of, rows-make, unless_brought}
 
@@ -295,23 +298,6 @@ freed-again named ns qs xs o None (Some c) (Some d) first made again =
 
 -- ---- frames of other suppliers
 
-pub not_mine : (s f : Name) (k : Name × Name) → is_of s k ≡ false → ◌≡◌ {A = Name × Name} (s, f) k → ⊥
-not_mine s f k other same = true≢false (sym (same_text-itself s) ∙ ap (is_of s) same ∙ other)
-
-module _ (s : Name) where
-  -- they stay
-  unfoldable pub StayOthers : Table owned Frame → Table owned Frame → Type 0
-  StayOthers t u = (k : Name × Name) → is_of s k ≡ false → get u k ≡ get t k
-
-  pub free-others : (reads : List RowRead) (t : Table owned Frame) → StayOthers t (free_rows s reads t)
-  unfolding StayOthers free_rows free_row
-  free-others [] t k other = refl
-  free-others (read ∷ rest) t k other = free-others rest (free_row s read.row t) k other ∙ one read.row
-    where
-      one : (r : Result Row Refusal) → get (free_row s r t) k ≡ get t k
-      one (Ok r) = settle-other t (s, frame_of_row r) k (freed r (get t (s, frame_of_row r))) (not_mine s (frame_of_row r) k other)
-      one (Err e) = refl
-
 module _ (p : Params) (b : Book) (s v : Name) (y : Variant) where
   change-stays : (t : Table owned Frame) (f : Name) (what : FrameChange) → IfOk (change_in p b s v y t f what) (StayOthers s t)
   unfolding StayOthers
@@ -368,49 +354,59 @@ module _ (p : Params) (b : Book) (s v : Name) (y : Variant) where
       fall_same (Some w) u e = sym e
 
   -- the rows of the same file again
-  pub runs_again : (reads : List RowRead) (t last : Table owned Frame) → run_in p b s v y true (free_rows s reads t) reads ≡ Ok last → run_in p b s v y true (free_rows s reads last) reads ≡ Ok last
-  runs_again reads t last made = rows-again p b s v y last reads (free_rows s reads t) (free_rows s reads last) (freed-behind reads t last made) made
+  pub runs_again : (whole : Option Header) (reads : List RowRead) (t last : Table owned Frame) → run_in p b s v y true (free_rows s reads (clear_all s whole reads t)) reads ≡ Ok last →
+      run_in p b s v y true (free_rows s reads (clear_all s whole reads last)) reads ≡ Ok last
+  runs_again whole reads t last made =
+      let begun : Table owned Frame = clear_all s whole reads t in
+      let makes = (ok_of _ _ last made (rows-make p b s v y reads (free_rows s reads begun))).1 in
+      let same = alike_freed p b s v y reads whole t last makes in
+      ap (λ z. run_in p b s v y true z reads) same
+      ∙ rows-again p b s v y last reads (free_rows s reads begun) (free_rows s reads last) (freed-behind reads begun last made) made
 
 -- ---- the step
 
-pub step-replace : (c : Cluster) (b : Book) (s : Name) (variant body : List ℕ) → contains b.suppliers s ≡ true → is_name variant ≡ true →
-    step c b (Supplier s) (request.Replace variant body) ≡ outcome b (replace c.params b (record { supplier = s; variant = variant; body = body }))
+pub step-replace : (c : Cluster) (b : Book) (s : Name) (variant body : List ℕ) (whole : Bool) → contains b.suppliers s ≡ true → is_name variant ≡ true →
+    step c b (Supplier s) (request.Replace variant whole body) ≡ outcome b (replace c.params b (record { supplier = s; variant = variant; whole = whole; body = body }))
 unfolding step act check asking name ◌>>=◌ ◌>>◌ refuse◌when◌
-step-replace c b s variant body known named = rw (known, named) refl
+step-replace c b s variant body whole known named = rw (known, named) refl
 
-module _ (c : Cluster) (b : Book) (s : Name) (variant body : List ℕ) (known : contains b.suppliers s ≡ true) (named : is_name variant ≡ true) where
+module _ (c : Cluster) (b : Book) (s : Name) (variant body : List ℕ) (whole : Bool) (known : contains b.suppliers s ≡ true) (named : is_name variant ≡ true) where
   abbrev it : Replacement
-  it = record { supplier = s; variant = variant; body = body }
+  it = record { supplier = s; variant = variant; whole = whole; body = body }
 
   abbrev reads : List RowRead
   reads = rows_of_body c.params body
 
+  -- the frames before the rows act
+  abbrev begun : Table owned Frame → Table owned Frame
+  begun t = clear_all s (whole_of whole (header_of_body body)) reads t
+
   -- the same again
   abbrev IsStable : Outcome → Type 0
-  IsStable o = (after : Book) (rows : ℕ) → o ≡ record { book = after; answer = Replaced rows } → step c after (Supplier s) (request.Replace variant body) ≡ record { book = after; answer = Replaced rows }
+  IsStable o = (after : Book) (rows : ℕ) → o ≡ record { book = after; answer = Replaced rows } → step c after (Supplier s) (request.Replace variant whole body) ≡ record { book = after; answer = Replaced rows }
 
   module _ (x : Variant) (found : get b.variants variant ≡ Some x) (open_now : x.released ≡ false) (short : nat_lt MAX_IMPORT_BYTES (length body) ≡ false) where
     abbrev now : Table owned Frame → Book
     now t = at c.params b s variant x t
 
-    again_at : (u : Table owned Frame) → run_in c.params b s variant x true (free_rows s reads x.frames) reads ≡ Ok u →
-        step c (now u) (Supplier s) (request.Replace variant body) ≡ record { book = now u; answer = Replaced (length reads) }
+    again_at : (u : Table owned Frame) → run_in c.params b s variant x true (free_rows s reads (begun x.frames)) reads ≡ Ok u →
+        step c (now u) (Supplier s) (request.Replace variant whole body) ≡ record { book = now u; answer = Replaced (length reads) }
     unfolding replace outcome replaced lifted
     again_at u made =
-        step-replace c (now u) s variant body known named
+        step-replace c (now u) s variant body whole known named
         ∙ ap (outcome (now u)) (
         past_or _ _ (having c.params b s variant x u) _ (variant_at c.params b s variant x u)
         ∙ past_when _ x.released _ open_now
         ∙ past_when _ (nat_lt MAX_IMPORT_BYTES (length body)) _ short
         ∙ ap (λ z. Ok (replaced (now u) (length reads) z)) (
-        ap (λ z. replace_rows c.params z s variant reads) (put_at c.params b s variant x u (free_rows s reads u))
-        ∙ replace_rows-lift c.params b s variant x open_now known reads (free_rows s reads u)
-        ∙ ap (lifted c.params b s variant x) (runs_again c.params b s variant x reads x.frames u made)))
+        ap (λ z. replace_rows c.params z s variant reads) (put_at c.params b s variant x u (free_rows s reads (begun u)))
+        ∙ replace_rows-lift c.params b s variant x open_now known reads (free_rows s reads (begun u))
+        ∙ ap (lifted c.params b s variant x) (runs_again c.params b s variant x (whole_of whole (header_of_body body)) reads x.frames u made)))
 
-    made-stable : (made : Result (Table owned Frame) RefusedAt) → run_in c.params b s variant x true (free_rows s reads x.frames) reads ≡ made → IsStable (replaced b (length reads) (lifted c.params b s variant x made))
+    made-stable : (made : Result (Table owned Frame) RefusedAt) → run_in c.params b s variant x true (free_rows s reads (begun x.frames)) reads ≡ made → IsStable (replaced b (length reads) (lifted c.params b s variant x made))
     unfolding replaced lifted
     made-stable (Ok u) made after rows is =
-        subst (λ (o : Outcome). step c o.book (Supplier s) (request.Replace variant body) ≡ record { book = o.book; answer = o.answer }) is (again_at u made)
+        subst (λ (o : Outcome). step c o.book (Supplier s) (request.Replace variant whole body) ≡ record { book = o.book; answer = o.answer }) is (again_at u made)
     made-stable (Err fault) made after rows is = let no = ap (λ (o : Outcome). o.answer) is in cc
 
   outcome-stable : (r : Result Outcome Refusal) → IfOk r IsStable → IsStable (outcome b r)
@@ -424,16 +420,16 @@ module _ (c : Cluster) (b : Book) (s : Name) (variant body : List ℕ) (known : 
       gives_or _ (get b.variants variant) _ _ (λ x found.
       gives_when _ _ _ _ (λ open_now.
       gives_when _ _ _ _ (λ short.
-      subst (λ z. IsStable (replaced b (length reads) z)) (sym (replace_rows-lift c.params b s variant x open_now known reads (free_rows s reads x.frames)))
+      subst (λ z. IsStable (replaced b (length reads) z)) (sym (replace_rows-lift c.params b s variant x open_now known reads (free_rows s reads (begun x.frames))))
       (made-stable x found open_now short _ refl))))
 
-  stable : IsStable (step c b (Supplier s) (request.Replace variant body))
-  stable = subst IsStable (sym (step-replace c b s variant body known named)) (outcome-stable _ replace-stable)
+  stable : IsStable (step c b (Supplier s) (request.Replace variant whole body))
+  stable = subst IsStable (sym (step-replace c b s variant body whole known named)) (outcome-stable _ replace-stable)
 
-was_asked : (c : Cluster) (b after : Book) (s : Name) (variant body : List ℕ) (rows : ℕ) → step c b (Supplier s) (request.Replace variant body) ≡ record { book = after; answer = Replaced rows } →
+was_asked : (c : Cluster) (b after : Book) (s : Name) (variant body : List ℕ) (whole : Bool) (rows : ℕ) → step c b (Supplier s) (request.Replace variant whole body) ≡ record { book = after; answer = Replaced rows } →
     (contains b.suppliers s ≡ true) × (is_name variant ≡ true)
 unfolding step act check asking name outcome ◌>>=◌ ◌>>◌ refuse◌when◌
-was_asked c b after s variant body rows told = elim (cases_Bool (contains b.suppliers s)) [
+was_asked c b after s variant body whole rows told = elim (cases_Bool (contains b.suppliers s)) [
   | inl known ↦ elim (cases_Bool (is_name variant)) [
     | inl named ↦ (known, named)
     | inr unnamed ↦ let no = ap (λ (o : Outcome). o.answer) (rw (known, unnamed) at told) in cc
@@ -442,6 +438,6 @@ was_asked c b after s variant body rows told = elim (cases_Bool (contains b.supp
 ]
 
 pub changes_nothing : SameFileChangesNothing
-changes_nothing c b after s variant body rows told =
-    let asked = was_asked c b after s variant body rows told in
-    stable c b s variant body asked.0 asked.1 after rows told
+changes_nothing c b after s variant body whole rows told =
+    let asked = was_asked c b after s variant body whole rows told in
+    stable c b s variant body whole asked.0 asked.1 after rows told

@@ -7,7 +7,7 @@ use Rattle.fr_base.specs.Names.{is_name, is_key}
 use Rattle.fr_base.specs.Cycles.{Cycles, are_cycles}
 use Rattle.fr_base.specs.Signals.{is_signal_length, order_of_text}
 use Rattle.fr_base.specs.Channels.{channels_in, has_channel, channel_of_text, channels_of_text}
-use Rattle.fr_base.specs.Checks.{asking, key, name, cycles, slot, channel, channels, placement, signal, parent_name, query, has_repetition, check}
+use Rattle.fr_base.specs.Checks.{asking, key, name, cycles, slot, channel, channels, placement, signal, beginning, query, has_repetition, check}
 use Rattle.fr_base.specs.Sound.{HasChannelSlot, FitsCluster}
 use Rattle.fr_base.specs.declared.name.Name.{Name}
 use Rattle.fr_base.specs.declared.params.Params.{Params}
@@ -44,7 +44,7 @@ IsFormedChange p (Frame f what) = IsFormedFrame p f what
 
 -- the names and the key that a command brings into the book are names and a key, its slot, channels and cycles fit the cluster, and its signal has 1 to 64 bits
 abbrev pub HasForm : Params → Command → Type 0
-HasForm p (Common (OpenVariant v parent)) = IsTrue (is_name v)
+HasForm p (Common (OpenVariant v beginning)) = IsTrue (is_name v)
 HasForm p (Common (Release v)) = ⊤
 HasForm p (AddSupplier s k) = IsTrue (is_name s) × IsTrue (is_key k)
 HasForm p (SetKey s k) = IsTrue (is_key k)
@@ -113,10 +113,10 @@ signal-form n start length text named = gives_or _ (order_of_text text) _ _ (λ 
 -- what passes the check has its form
 pub check-form : (p : Params) (actor : Actor) (r : Request) → IfOk (check p actor r) (IsFormed p actor)
 unfolding check
-check-form p actor (request.OpenVariant variant parent) =
+check-form p actor (request.OpenVariant variant begins) =
     gives_when _ _ _ _ (λ _.
     gives_bind _ _ (name variant) _ (name-form variant) (λ v h.
-    gives_each _ (parent_name parent) _ (λ from _. h)))
+    gives_each _ (beginning begins) _ (λ from _. h)))
 check-form p actor (request.Release variant) =
     gives_when _ _ _ _ (λ _.
     gives_each _ (name variant) _ (λ v _. tt))
@@ -181,10 +181,10 @@ check-form p actor (request.Import variant label body) =
     gives_bind _ _ (name variant) _ (name-form variant) (λ v named.
     gives_bind _ _ (name label) _ (name-form label) (λ l labelled.
     record { asks = asks; variant = named; label = labelled })))
-check-form p actor (request.Replace variant body) =
+check-form p actor (request.Replace variant whole body) =
     gives_bind _ _ (asking actor) _ (asking-form actor) (λ s asks.
     gives_each _ (name variant) _ (λ v _. asks))
-check-form p actor (request.Try variant replaces body) =
+check-form p actor (request.Try variant how body) =
     gives_bind _ _ (asking actor) _ (asking-form actor) (λ s asks.
     gives_each _ (name variant) _ (λ v _. asks))
 check-form p actor (request.Query asked) =

@@ -1,5 +1,5 @@
 -- Each command leaves a sound book sound.
-use Rattle.std.proofs.Common.{◌≡◌, ℕ, suc, ◌≤◌, true, false, List, Option, Some, None, is_some, Ok, IfOk, IsTrue, refl, sym, ap, subst, ◌∙◌, inr, leb-false, true≢false}
+use Rattle.std.proofs.Common.{◌≡◌, ℕ, suc, ◌≤◌, true, false, List, Option, Some, None, is_some, Ok, IfOk, IsTrue, refl, sym, ap, subst, ◌∙◌, inr, leb-false, true≢false, arith}
 use Rattle.std.specs.Prelude.{⊤}
 use Rattle.std.proofs.lemmas.Slice.Eq.{bytes_eq-Decides}
 use Rattle.fr_base.specs.Tables.{Table, get, contains, insert, settle}
@@ -20,6 +20,8 @@ use Rattle.fr_base.specs.declared.channel.Channel.{Channel}
 use Rattle.fr_base.specs.declared.request.Command.{Command}
 use Rattle.fr_base.specs.declared.request.Command.TheVariants.{Common, AddSupplier, SetKey, AddNode, Rows}
 use Rattle.fr_base.specs.declared.request.CommonCommand.{CommonCommand}
+use Rattle.fr_base.specs.declared.beginning.Beginning.{Beginning}
+use Rattle.fr_base.specs.declared.beginning.Beginning.TheVariants.{Empty, From, Flat}
 use Rattle.fr_base.specs.declared.request.CommonCommand.TheVariants.{OpenVariant, Release}
 use Rattle.fr_base.specs.declared.request.Change.{Change}
 use Rattle.fr_base.specs.declared.request.Change.TheVariants as change
@@ -128,10 +130,14 @@ module _ (c : Cluster) (b : Book) (sound : IsSound c b) (s : Name) (x : Variant)
 -- ---- each command
 
 module _ (c : Cluster) (b : Book) (sound : IsSound c b) where
-  pub begun-sound : (parent : Option Name) → IfOk (begun b parent) (λ x. IsSoundVariant c.params b.nodes x × IsOpenedFrom b.variants x.parent x.depth)
+  pub begun-sound : (beginning : Beginning Name) → IfOk (begun b beginning) (λ x. IsSoundVariant c.params b.nodes x × IsOpenedFrom b.variants x.parent x.depth)
   unfolding begun empty_variant
-  begun-sound None = (empty_variant-sound c.params b.nodes, refl)
-  begun-sound (Some parent) =
+  begun-sound Empty = (empty_variant-sound c.params b.nodes, refl)
+  begun-sound (Flat from) =
+      gives_or _ (get b.variants from) _ _ (λ x found.
+      gives_unless _ _ _ _ (λ released.
+      (marked-sound c.params b.nodes x (sound.variants from x found).1 None 1 false (omega arith), refl)))
+  begun-sound (From parent) =
       gives_or _ (get b.variants parent) _ _ (λ x found.
       gives_unless _ _ _ _ (λ released.
       gives_when _ _ _ _ (λ shallow.
@@ -142,8 +148,8 @@ module _ (c : Cluster) (b : Book) (sound : IsSound c b) where
 
   pub common-sound : (command : CommonCommand) → HasForm c.params (Common command) → IfOk (common b command) (IsSound c)
   unfolding common
-  common-sound (OpenVariant v parent) named =
-      gives_bind _ _ (begun b parent) _ (begun-sound parent) (λ x fine.
+  common-sound (OpenVariant v beginning) named =
+      gives_bind _ _ (begun b beginning) _ (begun-sound beginning) (λ x fine.
       gives_when _ _ _ _ (λ fresh.
       gives_when _ _ _ _ (λ room.
       with_variant-sound c b sound v x named fine.0 fine.1 (λ old found _. absurd (none_there _ old fresh found)) (inr (leb-false _ _ room)))))

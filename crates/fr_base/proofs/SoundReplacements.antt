@@ -1,15 +1,18 @@
 -- A replacement leaves a sound book sound, and its suppliers, nodes and kept imports as they were.
-use Rattle.std.proofs.Common.{◌≡◌, ℕ, ◌≤◌, List, [], ◌∷◌, Option, Some, None, Result, Ok, Err, IfOk, refl}
+use Rattle.std.proofs.Common.{◌≡◌, ℕ, ◌≤◌, List, [], ◌∷◌, Option, Some, None, Result, Ok, Err, IfOk, refl, inl, inr}
 use Rattle.std.specs.Prelude.{⊤}
-use Rattle.std.specs.List.{AllByRecursion}
+use Rattle.std.specs.List.{AllByRecursion, list_any}
+use Rattle.std.proofs.lemmas.Bool.{cases_Bool}
 use Rattle.fr_base.specs.Refusing.{◌>>=◌}
 use Rattle.fr_base.specs.Tables.{Table, get, settle}
 use Rattle.fr_base.specs.Keys.{owned}
 use Rattle.fr_base.specs.Cluster.{Cluster}
 use Rattle.fr_base.specs.Book.{Frame, Variant, Book}
-use Rattle.fr_base.specs.ImportRows.{rows_of_body}
-use Rattle.fr_base.specs.Step.{RefusedAt, frame_at, at_line, freed, frame_of_row, free_row, free_rows, with_freed, replace_row, replace_rows, replaced, replace}
+use Rattle.fr_base.specs.ImportRows.{header_of_body, rows_of_body}
+use Rattle.fr_base.specs.Step.{RefusedAt, frame_at, at_line, kind_of_row, freed, frame_of_row, free_row, free_rows, names_with, cleared, clear_frames, frame_names, clear_all, whole_of, with_freed, replace_row, replace_rows, replaced, replace}
 use Rattle.fr_base.specs.Sound.{IsSoundVariant, IsSound}
+use Rattle.fr_base.specs.declared.import.Header.{Header}
+use Rattle.fr_base.specs.declared.import.Header.TheVariants.{Frames, Placements, Signals}
 use Rattle.fr_base.specs.declared.import.Row.{Row}
 use Rattle.fr_base.specs.declared.import.Row.TheVariants as row
 use Rattle.fr_base.specs.declared.import.RowRead.{RowRead}
@@ -31,16 +34,16 @@ module _ (p : Params) (nodes : Table owned ⊤) (few : p.payload_words ≤ 127) 
   abbrev IsFine : Variant → Type 0
   IsFine = IsSoundVariant p nodes
 
-  freed-sound : (v : Variant) → IsFine v → (k : Name × Name) (r : Row) (there : Option Frame) → get v.frames k ≡ there → IsFine (record v { frames = settle v.frames k (freed r there) })
+  freed-sound : (v : Variant) → IsFine v → (k : Name × Name) (kind : Header) (there : Option Frame) → get v.frames k ≡ there → IsFine (record v { frames = settle v.frames k (freed kind there) })
   unfolding freed settle
-  freed-sound v sound k (row.AddFrame f n) (Some frame) found = lesser_frame-sound p nodes v sound k frame frame found (λ q h. h) (sound.frames k frame found)
-  freed-sound v sound k (row.Place f n q) (Some frame) found = bared_variant-sound p nodes v sound k frame found
-  freed-sound v sound k (row.AddSignal f signal) (Some frame) found = unsignalled_variant-sound p nodes v sound k frame found few
-  freed-sound v sound k r None found = dropped-sound p nodes v sound k
+  freed-sound v sound k Frames (Some frame) found = lesser_frame-sound p nodes v sound k frame frame found (λ q h. h) (sound.frames k frame found)
+  freed-sound v sound k Placements (Some frame) found = bared_variant-sound p nodes v sound k frame found
+  freed-sound v sound k Signals (Some frame) found = unsignalled_variant-sound p nodes v sound k frame found few
+  freed-sound v sound k kind None found = dropped-sound p nodes v sound k
 
   free_row-sound : (s : Name) (v : Variant) → IsFine v → (r : Result Row Refusal) → IsFine (record v { frames = free_row s r v.frames })
   unfolding free_row
-  free_row-sound s v sound (Ok r) = freed-sound v sound (s, frame_of_row r) r (get v.frames (s, frame_of_row r)) refl
+  free_row-sound s v sound (Ok r) = freed-sound v sound (s, frame_of_row r) (kind_of_row r) (get v.frames (s, frame_of_row r)) refl
   free_row-sound s v sound (Err e) = sound
 
   free_rows-sound : (s : Name) (reads : List RowRead) (v : Variant) → IsFine v → IsFine (record v { frames = free_rows s reads v.frames })
@@ -48,14 +51,40 @@ module _ (p : Params) (nodes : Table owned ⊤) (few : p.payload_words ≤ 127) 
   free_rows-sound s [] v sound = sound
   free_rows-sound s (read ∷ rest) v sound = free_rows-sound s rest (record v { frames = free_row s read.row v.frames }) (free_row-sound s v sound read.row)
 
-pub with_freed-keeps : (b : Book) (s v : Name) (x : Variant) (reads : List RowRead) → Keeps b (with_freed b s v x reads)
-with_freed-keeps b s v x reads = record { suppliers = refl; nodes = refl; imports = refl; variants = λ w h. contains-more b.variants v _ w h }
+  -- ---- all frames of a supplier, each cleared
+
+  cleared-sound : (v : Variant) → IsFine v → (s f : Name) (kind : Header) (reads : List RowRead) (there : Option Frame) → get v.frames (s, f) ≡ there →
+      IsFine (record v { frames = settle v.frames (s, f) (cleared kind reads f there) })
+  unfolding cleared settle
+  cleared-sound v sound s f Frames reads (Some frame) found = elim (cases_Bool (list_any (λ read. names_with f frame.node read.row) reads)) [
+    | inl stays ↦ rw stays (lesser_frame-sound p nodes v sound (s, f) frame frame found (λ q h. h) (sound.frames (s, f) frame found))
+    | inr goes ↦ rw goes (dropped-sound p nodes v sound (s, f))
+  ]
+  cleared-sound v sound s f Frames reads None found = dropped-sound p nodes v sound (s, f)
+  cleared-sound v sound s f Placements reads there found = freed-sound v sound (s, f) Placements there found
+  cleared-sound v sound s f Signals reads there found = freed-sound v sound (s, f) Signals there found
+
+  clear_frames-sound : (s : Name) (kind : Header) (reads : List RowRead) (names : List Name) (v : Variant) → IsFine v → IsFine (record v { frames = clear_frames s kind reads names v.frames })
+  unfolding clear_frames
+  clear_frames-sound s kind reads [] v sound = sound
+  clear_frames-sound s kind reads (f ∷ rest) v sound =
+      clear_frames-sound s kind reads rest (record v { frames = settle v.frames (s, f) (cleared kind reads f (get v.frames (s, f))) }) (cleared-sound v sound s f kind reads (get v.frames (s, f)) refl)
+
+  clear_all-sound : (s : Name) (whole : Option Header) (reads : List RowRead) (v : Variant) → IsFine v → IsFine (record v { frames = clear_all s whole reads v.frames })
+  unfolding clear_all
+  clear_all-sound s None reads v sound = sound
+  clear_all-sound s (Some kind) reads v sound = clear_frames-sound s kind reads (frame_names s v.frames) v sound
+
+pub with_freed-keeps : (b : Book) (s v : Name) (x : Variant) (whole : Option Header) (reads : List RowRead) → Keeps b (with_freed b s v x whole reads)
+with_freed-keeps b s v x whole reads = record { suppliers = refl; nodes = refl; imports = refl; variants = λ w h. contains-more b.variants v _ w h }
 
 -- a sound book is sound where frames were freed
-pub with_freed-sound : (c : Cluster) (b : Book) → IsSound c b → (s v : Name) (x : Variant) → get b.variants v ≡ Some x → (reads : List RowRead) → IsSound c (with_freed b s v x reads)
-with_freed-sound c b sound s v x found reads =
-    changed-sound c b sound v x (record x { frames = free_rows s reads x.frames }) found
-    (free_rows-sound c.params b.nodes (few_words c.params sound.cluster.params) s reads x (sound.variants v x found).1) refl refl (λ was. was)
+pub with_freed-sound : (c : Cluster) (b : Book) → IsSound c b → (s v : Name) (x : Variant) → get b.variants v ≡ Some x → (whole : Option Header) (reads : List RowRead) → IsSound c (with_freed b s v x whole reads)
+with_freed-sound c b sound s v x found whole reads =
+    let few = few_words c.params sound.cluster.params in
+    let cleared_all : Table owned Frame = clear_all s whole reads x.frames in
+    changed-sound c b sound v x (record x { frames = free_rows s reads cleared_all }) found
+    (free_rows-sound c.params b.nodes few s reads (record x { frames = cleared_all }) (clear_all-sound c.params b.nodes few s whole reads x (sound.variants v x found).1)) refl refl (λ was. was)
 
 -- ---- rows
 
@@ -108,7 +137,7 @@ replace-sound c b sound r =
     gives_when _ _ _ _ (λ _.
     gives_when _ _ _ _ (λ _.
     let reads : List RowRead = rows_of_body c.params r.body in
-    replaced-gives (IsSound c) b sound _ _ (replace_rows-sound c r.supplier r.variant reads _ (with_freed-sound c b sound r.supplier r.variant x found reads) (body-form c.params r.body)))))
+    replaced-gives (IsSound c) b sound _ _ (replace_rows-sound c r.supplier r.variant reads _ (with_freed-sound c b sound r.supplier r.variant x found (whole_of r.whole (header_of_body r.body)) reads) (body-form c.params r.body)))))
 
 pub replace-keeps : (p : Params) (b : Book) (r : Replacement) → IfOk (replace p b r) (λ o. Keeps b o.book)
 unfolding replace
@@ -118,5 +147,5 @@ replace-keeps p b r =
     gives_when _ _ _ _ (λ _.
     let reads : List RowRead = rows_of_body p r.body in
     replaced-gives (Keeps b) b (keeps_all b) _ _ (
-    gives_bind_last _ (Keeps (with_freed b r.supplier r.variant x reads)) _ (replace_rows-keep p r.supplier r.variant reads _) (λ e last.
-    keeps_on b _ e (with_freed-keeps b r.supplier r.variant x reads) last)))))
+    gives_bind_last _ (Keeps (with_freed b r.supplier r.variant x (whole_of r.whole (header_of_body r.body)) reads)) _ (replace_rows-keep p r.supplier r.variant reads _) (λ e last.
+    keeps_on b _ e (with_freed-keeps b r.supplier r.variant x (whole_of r.whole (header_of_body r.body)) reads) last)))))

@@ -7,8 +7,8 @@ use Rattle.fr_base.specs.Cluster.{Cluster}
 use Rattle.fr_base.specs.Checks.{asking, name, check}
 use Rattle.fr_base.specs.Names.{is_name}
 use Rattle.fr_base.specs.Book.{Book, own}
-use Rattle.fr_base.specs.ImportRows.{row_at, rows_from, header_of, rows_below, rows_of_records, up_to_refused, records_of, rows_of_body, all_rows_of_body}
-use Rattle.fr_base.specs.Step.{Outcome, RefusedAt, at_line, act_row, act_rows, imported, import_rows, import, with_freed, replace_row, replace_rows, replaced, replace, fate_of, fates_of, try, knows, act, outcome, step}
+use Rattle.fr_base.specs.ImportRows.{row_at, rows_from, header_of, header_of_body, rows_below, rows_of_records, up_to_refused, records_of, rows_of_body, all_rows_of_body}
+use Rattle.fr_base.specs.Step.{Outcome, RefusedAt, at_line, act_row, act_rows, imported, import_rows, import, whole_of, with_freed, replace_row, replace_rows, replaced, replace, fate_of, fates_of, try, knows, act, outcome, step}
 use Rattle.fr_base.specs.Fates.{told_by, answer_told}
 use Rattle.fr_base.specs.declared.limits.TheConstants.{MAX_ROWS, MAX_IMPORTS, MAX_IMPORT_BYTES}
 use Rattle.fr_base.specs.declared.answer.Answer.{Answer}
@@ -26,6 +26,8 @@ use Rattle.fr_base.specs.declared.actor.Actor.{Actor}
 use Rattle.fr_base.specs.declared.actor.Actor.TheVariants.{Supplier}
 use Rattle.fr_base.specs.declared.request.Request.TheVariants as request
 use Rattle.fr_base.specs.declared.request.Import.{Import}
+use Rattle.fr_base.specs.declared.request.Manner.{Manner}
+use Rattle.fr_base.specs.declared.request.Manner.TheVariants as manner
 use Rattle.fr_base.specs.declared.request.Replacement.{Replacement}
 use Rattle.fr_base.specs.declared.request.Checked.{Checked}
 use Rattle.fr_base.proofs.SoundRefusing.{gives_bind, gives_each, gives_unless}
@@ -101,14 +103,14 @@ module _ (acts : Book → Row → Result Book Refusal) (run : Book → List RowR
 
 module _ (p : Params) (s v : Name) where
   acts_told : (reads : List RowRead) (b : Book) →
-      answer_of answer.Imported (length (up_to_refused reads)) (act_rows p b s v (up_to_refused reads)) ≡ told_by (answer.Imported (length (fates_of p false b s v reads))) (fates_of p false b s v reads)
+      answer_of answer.Imported (length (up_to_refused reads)) (act_rows p b s v (up_to_refused reads)) ≡ told_by (answer.Imported (length (fates_of p manner.Import b s v reads))) (fates_of p manner.Import b s v reads)
   unfolding act_rows fates_of
-  acts_told reads b = rows_told (λ d. act_row p d s v) (λ d. act_rows p d s v) (λ d. fates_of p false d s v) (λ d. refl) (λ d read rest. refl) (λ d. refl) (λ d read rest. refl) reads answer.Imported b
+  acts_told reads b = rows_told (λ d. act_row p d s v) (λ d. act_rows p d s v) (λ d. fates_of p manner.Import d s v) (λ d. refl) (λ d read rest. refl) (λ d. refl) (λ d read rest. refl) reads answer.Imported b
 
-  replaces_told : (reads : List RowRead) (b : Book) →
-      answer_of answer.Replaced (length (up_to_refused reads)) (replace_rows p b s v (up_to_refused reads)) ≡ told_by (answer.Replaced (length (fates_of p true b s v reads))) (fates_of p true b s v reads)
+  replaces_told : (whole : Bool) (reads : List RowRead) (b : Book) →
+      answer_of answer.Replaced (length (up_to_refused reads)) (replace_rows p b s v (up_to_refused reads)) ≡ told_by (answer.Replaced (length (fates_of p (manner.Replace whole) b s v reads))) (fates_of p (manner.Replace whole) b s v reads)
   unfolding replace_rows fates_of
-  replaces_told reads b = rows_told (λ d. replace_row p d s v) (λ d. replace_rows p d s v) (λ d. fates_of p true d s v) (λ d. refl) (λ d read rest. refl) (λ d. refl) (λ d read rest. refl) reads answer.Replaced b
+  replaces_told whole reads b = rows_told (λ d. replace_row p d s v) (λ d. replace_rows p d s v) (λ d. fates_of p (manner.Replace whole) d s v) (λ d. refl) (λ d read rest. refl) (λ d. refl) (λ d read rest. refl) reads answer.Replaced b
 
 -- ---- the answers
 
@@ -132,11 +134,11 @@ module _ (b : Book) (done : ℕ → Answer) where
   refused-told e = refl
 
 module _ (p : Params) (b : Book) where
-  abbrev all_told : (ℕ → Answer) → Bool → Book → Name → Name → List ℕ → Result Outcome Refusal → Type 0
-  all_told done replaces d s v body r = IsTold b done r (Ok (record { book = b; answer = answer.Report false (shows.Fates (fates_of p replaces d s v (all_rows_of_body p body))) }))
+  abbrev all_told : (ℕ → Answer) → Manner → Book → Name → Name → List ℕ → Result Outcome Refusal → Type 0
+  all_told done how d s v body r = IsTold b done r (Ok (record { book = b; answer = answer.Report false (shows.Fates (fates_of p how d s v (all_rows_of_body p body))) }))
 
   imported_rows-told : (i : Import) → nat_le MAX_IMPORTS (len (own i.supplier b.imports)) ≡ false →
-      all_told answer.Imported false b i.supplier i.variant i.body ((refuse Limit when nat_le MAX_IMPORTS (len (own i.supplier b.imports))) >> Ok (import_rows p b i (rows_of_body p i.body)))
+      all_told answer.Imported manner.Import b i.supplier i.variant i.body ((refuse Limit when nat_le MAX_IMPORTS (len (own i.supplier b.imports))) >> Ok (import_rows p b i (rows_of_body p i.body)))
   unfolding outcome ◌>>◌ refuse◌when◌
   imported_rows-told i few = rw few (
       imported-told b i _ _
@@ -144,7 +146,7 @@ module _ (p : Params) (b : Book) where
       ∙ acts_told p i.supplier i.variant (all_rows_of_body p i.body) b)
 
   import-told : (i : Import) → nat_le MAX_IMPORTS (len (own i.supplier b.imports)) ≡ false →
-      IsTold b answer.Imported (import p b i None) (try p b (record { supplier = i.supplier; variant = i.variant; replaces = false; body = i.body }))
+      IsTold b answer.Imported (import p b i None) (try p b (record { supplier = i.supplier; variant = i.variant; manner = manner.Import; body = i.body }))
   unfolding import try
   import-told i few =
       alike_bind (IsTold b answer.Imported) (refused-told b answer.Imported) (get b.variants i.variant or NoVariant) _ refl _ _ (λ x _.
@@ -153,20 +155,20 @@ module _ (p : Params) (b : Book) where
       imported_rows-told i few)))
 
   replaced_rows-told : (r : Replacement) (d : Book) →
-      all_told answer.Replaced true d r.supplier r.variant r.body (Ok (replaced b (length (rows_of_body p r.body)) (replace_rows p d r.supplier r.variant (rows_of_body p r.body))))
+      all_told answer.Replaced (manner.Replace r.whole) d r.supplier r.variant r.body (Ok (replaced b (length (rows_of_body p r.body)) (replace_rows p d r.supplier r.variant (rows_of_body p r.body))))
   unfolding outcome
   replaced_rows-told r d =
       replaced-told b _ _
       ∙ ap (λ reads. answer_of answer.Replaced (length reads) (replace_rows p d r.supplier r.variant reads)) (sym (body_ends p r.body))
-      ∙ replaces_told p r.supplier r.variant (all_rows_of_body p r.body) d
+      ∙ replaces_told p r.supplier r.variant r.whole (all_rows_of_body p r.body) d
 
-  replace-told : (r : Replacement) → IsTold b answer.Replaced (replace p b r) (try p b (record { supplier = r.supplier; variant = r.variant; replaces = true; body = r.body }))
+  replace-told : (r : Replacement) → IsTold b answer.Replaced (replace p b r) (try p b (record { supplier = r.supplier; variant = r.variant; manner = manner.Replace r.whole; body = r.body }))
   unfolding replace try
   replace-told r =
       alike_bind (IsTold b answer.Replaced) (refused-told b answer.Replaced) (get b.variants r.variant or NoVariant) _ refl _ _ (λ x _.
       alike_when (IsTold b answer.Replaced) (refused-told b answer.Replaced) Released x.released _ refl _ _ (λ _.
       alike_when (IsTold b answer.Replaced) (refused-told b answer.Replaced) Limit (nat_lt MAX_IMPORT_BYTES (length r.body)) _ refl _ _ (λ _.
-      replaced_rows-told r (with_freed b r.supplier r.variant x (rows_of_body p r.body)))))
+      replaced_rows-told r (with_freed b r.supplier r.variant x (whole_of r.whole (header_of_body r.body)) (rows_of_body p r.body)))))
 
 -- ---- the step
 
@@ -178,19 +180,19 @@ unfolding outcome
 outcome-leaves b (Ok o) h = h
 outcome-leaves b (Err e) h = refl
 
-pub trial-stays : (c : Cluster) (b : Book) (actor : Actor) (variant body : List ℕ) (replaces : Bool) → (step c b actor (request.Try variant replaces body)).book ≡ b
+pub trial-stays : (c : Cluster) (b : Book) (actor : Actor) (variant body : List ℕ) (how : Manner) → (step c b actor (request.Try variant how body)).book ≡ b
 unfolding step act check
-trial-stays c b actor variant body replaces = outcome-leaves b _ (
+trial-stays c b actor variant body how = outcome-leaves b _ (
     gives_unless _ _ (knows b actor) _ (λ _.
-    gives_bind _ (λ (what : Checked). IfOk (act c b actor what) (λ o. o.book ≡ b)) (check c.params actor (request.Try variant replaces body)) _ (
+    gives_bind _ (λ (what : Checked). IfOk (act c b actor what) (λ o. o.book ≡ b)) (check c.params actor (request.Try variant how body)) _ (
     gives_each _ (asking actor) _ (λ s _.
     gives_each _ (name variant) _ (λ v _.
-    trial-leaves (λ d. d ≡ b) b refl c.params (record { supplier = s; variant = v; replaces = replaces; body = body }))))
+    trial-leaves (λ d. d ≡ b) b refl c.params (record { supplier = s; variant = v; manner = how; body = body }))))
     (λ what h. h)))
 
 module _ (c : Cluster) (b : Book) (s : Name) (variant : List ℕ) where
   pub import-as_told : (label body : List ℕ) → is_name label ≡ true → get b.imports (s, label) ≡ None → nat_lt (len (own s b.imports)) MAX_IMPORTS ≡ true →
-      (step c b (Supplier s) (request.Import variant label body)).answer ≡ answer_told answer.Imported (step c b (Supplier s) (request.Try variant false body)).answer
+      (step c b (Supplier s) (request.Import variant label body)).answer ≡ answer_told answer.Imported (step c b (Supplier s) (request.Try variant manner.Import body)).answer
   unfolding step act check asking name outcome ◌>>=◌ ◌>>◌ refuse◌when◌
   import-as_told label body labelled free few = elim (cases_Bool (contains b.suppliers s)) [
     | inl known ↦ elim (cases_Bool (is_name variant)) [
@@ -200,12 +202,12 @@ module _ (c : Cluster) (b : Book) (s : Name) (variant : List ℕ) where
     | inr unknown ↦ rw unknown refl
   ]
 
-  pub replacement-as_told : (body : List ℕ) →
-      (step c b (Supplier s) (request.Replace variant body)).answer ≡ answer_told answer.Replaced (step c b (Supplier s) (request.Try variant true body)).answer
+  pub replacement-as_told : (body : List ℕ) (whole : Bool) →
+      (step c b (Supplier s) (request.Replace variant whole body)).answer ≡ answer_told answer.Replaced (step c b (Supplier s) (request.Try variant (manner.Replace whole) body)).answer
   unfolding step act check asking name outcome ◌>>=◌ ◌>>◌ refuse◌when◌
-  replacement-as_told body = elim (cases_Bool (contains b.suppliers s)) [
+  replacement-as_told body whole = elim (cases_Bool (contains b.suppliers s)) [
     | inl known ↦ elim (cases_Bool (is_name variant)) [
-      | inl named ↦ rw (known, named) (replace-told c.params b (record { supplier = s; variant = variant; body = body }))
+      | inl named ↦ rw (known, named) (replace-told c.params b (record { supplier = s; variant = variant; whole = whole; body = body }))
       | inr unnamed ↦ rw (known, unnamed) refl
     ]
     | inr unknown ↦ rw unknown refl

@@ -14,6 +14,7 @@ use Rattle.fr_base.specs.declared.params.Params.{Params}
 use Rattle.fr_base.specs.declared.refusal.Refusal.{Refusal}
 use Rattle.fr_base.specs.declared.refusal.Refusal.TheVariants.{NotYours, BadName, BadText, BadSlot, NoVariant, Released, NoNode, NoFrame, NodeDiffers, NotGranted, Limit, CellTaken, Exists}
 use Rattle.fr_base.specs.declared.request.Ask.{Ask}
+use Rattle.fr_base.specs.declared.request.Manner.TheVariants as manner
 use Rattle.fr_base.specs.declared.request.Request.TheVariants.{Release, Try, Query}
 use Rattle.fr_base.specs.declared.query.Query.TheVariants.{Variant as OfVariant}
 use Rattle.fr_base.specs.declared.report.Report.TheVariants.{Frames}
@@ -29,19 +30,19 @@ a_small_trial = tt
 
 -- a trial by `s1` in `v1`, of an import and of a replacement
 abbrev tried : List ℕ → Ask
-tried body = s1 (Try (codes "v1") false body)
+tried body = s1 (Try (codes "v1") manner.Import body)
 
 abbrev tried_anew : List ℕ → Ask
-tried_anew body = s1 (Try (codes "v1") true body)
+tried_anew body = s1 (Try (codes "v1") (manner.Replace false) body)
 
 -- what is told of the rows
-abbrev Told : List FateRow → Answer
+abbrev pub Told : List FateRow → Answer
 Told rows = Report false (Fates rows)
 
-abbrev done_at : ℕ → FateRow
+abbrev pub done_at : ℕ → FateRow
 done_at line = record { line = line; refusal = None }
 
-abbrev refused_at : ℕ → Refusal → FateRow
+abbrev pub refused_at : ℕ → Refusal → FateRow
 refused_at line why = record { line = line; refusal = Some why }
 
 -- ten rows, of which some are refused
@@ -123,9 +124,9 @@ the_fates_of_a_replacement = refl
 -- that is told of line 1, and a header alone has no rows
 pub refused_before_rows :
     drop 4 (answers (granted ++ (
-    integrator (Try (codes "v1") false [])
-    ∷ s1 (Try (codes "1v") false [])
-    ∷ s1 (Try (codes "v9") false (replicate 65537 48))
+    integrator (Try (codes "v1") manner.Import [])
+    ∷ s1 (Try (codes "1v") manner.Import [])
+    ∷ s1 (Try (codes "v9") manner.Import (replicate 65537 48))
     ∷ tried (replicate 65537 48)
     ∷ tried (replicate 65536 10)
     ∷ tried []

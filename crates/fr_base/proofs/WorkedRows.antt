@@ -7,7 +7,7 @@ use Rattle.fr_base.specs.Tables.{empty, get, len, insert, only, remove, from_row
 use Rattle.fr_base.specs.Keys.{numbers, names, channel_order, channels_order, owned, channel_slots, placement_order}
 use Rattle.fr_base.specs.Names.{is_name, is_key}
 use Rattle.fr_base.specs.Cycles.{Cycles, is_cycle_count, is_repetition, is_cycle_set, all_cycles, cycles_of, has_cycle, first_common}
-use Rattle.fr_base.specs.Checks.{asking, key, name, cycles, slot, channel, channels, placement, signal, parent_name, report, query, check}
+use Rattle.fr_base.specs.Checks.{asking, key, name, cycles, slot, channel, channels, placement, signal, beginning, report, query, check}
 use Rattle.fr_base.specs.Cells.{cells_of, has_cell, cluster_cells}
 use Rattle.fr_base.specs.Schedule.{fill, first_taken, entries}
 use Rattle.fr_base.specs.Cluster.{ClusterFile}
@@ -38,6 +38,7 @@ use Rattle.fr_base.specs.declared.actor.Actor.TheVariants.{Integrator, Supplier}
 use Rattle.fr_base.specs.declared.actor.Actor.{Actor}
 use Rattle.fr_base.specs.declared.request.Ask.{Ask}
 use Rattle.fr_base.specs.declared.request.Request.{Request}
+use Rattle.fr_base.specs.declared.beginning.Beginning.TheVariants.{Empty, From, Flat}
 use Rattle.fr_base.specs.declared.request.Request.TheVariants.{OpenVariant, Release, AddNode, Grant, Revoke, AddFrame, DropFrame, Place, Unplace, AddSignal, DropSignal, AddSupplier, SetKey, Query}
 use Rattle.fr_base.specs.declared.query.Query.TheVariants.{Register as OfRegister, Variant as OfVariant}
 use Rattle.fr_base.specs.declared.query.Inventory.TheVariants as listed
@@ -109,7 +110,7 @@ answers asks = answers_to file.cluster (opening file) asks
 
 -- what the rows below unfold
 unfoldable pub a_small_register : ⊤
-unfolding file answers ◌>>=◌ ◌>>◌ ◌or◌ refuse◌when◌ empty get len insert only remove from_rows settle numbers names channel_order channels_order owned channel_slots placement_order is_name is_key all_cycles cycles_of asking key name cycles slot channel channels placement signal parent_name report query check cells_of has_cell cluster_cells fill first_taken entries empty_variant suppliers_of opening granted placements_of schedule_of begun common has_key add_supplier set_key add_node own_rows shared_by in_use cell_taken admits_frame admits grants_after frame_after frames_after changed change_rows done perform grants_of frames_of sendings_of gaps_of named signals_of cluster_of variants_of nodes_of held shown found reply ring moment moments gaps greatest_gap bits_of layouts.first_taken_bit layouts.admits_signal act outcome step
+unfolding file answers ◌>>=◌ ◌>>◌ ◌or◌ refuse◌when◌ empty get len insert only remove from_rows settle numbers names channel_order channels_order owned channel_slots placement_order is_name is_key all_cycles cycles_of asking key name cycles slot channel channels placement signal beginning report query check cells_of has_cell cluster_cells fill first_taken entries empty_variant suppliers_of opening granted placements_of schedule_of begun common has_key add_supplier set_key add_node own_rows shared_by in_use cell_taken admits_frame admits grants_after frame_after frames_after changed change_rows done perform grants_of frames_of sendings_of gaps_of named signals_of cluster_of variants_of nodes_of held shown found reply ring moment moments gaps greatest_gap bits_of layouts.first_taken_bit layouts.admits_signal act outcome step
 a_small_register = tt
 
 -- a report's answer, by whether the integrator asked
@@ -154,7 +155,7 @@ the_figures =
 -- a variant, a node of `s1`, a grant to it, a frame, its placement in the first cycle, and the schedule
 pub the_first_script :
     answers (
-    integrator (OpenVariant (codes "v1") None)
+    integrator (OpenVariant (codes "v1") Empty)
     ∷ integrator (AddNode (codes "s1") (codes "n1"))
     ∷ integrator (Grant (codes "v1") 1 (codes "A") (codes "s1") (codes "n1"))
     ∷ s1 (AddFrame (codes "v1") (codes "f1") (codes "n1"))
@@ -174,9 +175,9 @@ the_first_script = refl
 -- what the register then holds: of the suppliers each is told itself alone, and the integrator all; and so of nodes
 pub what_is_held :
     answers (
-    integrator (OpenVariant (codes "v1") None)
+    integrator (OpenVariant (codes "v1") Empty)
     ∷ integrator (Release (codes "v1"))
-    ∷ integrator (OpenVariant (codes "v2") (Some (codes "v1")))
+    ∷ integrator (OpenVariant (codes "v2") (From (codes "v1")))
     ∷ integrator (AddNode (codes "s2") (codes "m1"))
     ∷ integrator (AddNode (codes "s1") (codes "n2"))
     ∷ integrator (AddNode (codes "s1") (codes "n1"))
@@ -208,7 +209,7 @@ what_is_held = refl
 -- the cell of least cycle is named, A before B
 pub cells_taken :
     answers (
-    integrator (OpenVariant (codes "v1") None)
+    integrator (OpenVariant (codes "v1") Empty)
     ∷ integrator (AddNode (codes "s1") (codes "n1"))
     ∷ integrator (Grant (codes "v1") 1 (codes "A") (codes "s1") (codes "n1"))
     ∷ integrator (Grant (codes "v1") 1 (codes "B") (codes "s1") (codes "n1"))
@@ -236,7 +237,7 @@ cells_taken = refl
 -- one holder for a slot and channel
 pub two_suppliers_one_slot :
     answers (
-    integrator (OpenVariant (codes "v1") None)
+    integrator (OpenVariant (codes "v1") Empty)
     ∷ integrator (AddNode (codes "s1") (codes "n1"))
     ∷ integrator (Grant (codes "v1") 1 (codes "A") (codes "s1") (codes "n1"))
     ∷ integrator (AddNode (codes "s2") (codes "n2"))
@@ -253,7 +254,7 @@ two_suppliers_one_slot = refl
 -- a frame lies in grants to its own node
 pub two_nodes_of_one_supplier :
     answers (
-    integrator (OpenVariant (codes "v1") None)
+    integrator (OpenVariant (codes "v1") Empty)
     ∷ integrator (AddNode (codes "s1") (codes "n1"))
     ∷ integrator (AddNode (codes "s1") (codes "n2"))
     ∷ integrator (Grant (codes "v1") 1 (codes "A") (codes "s1") (codes "n1"))
@@ -269,8 +270,8 @@ two_nodes_of_one_supplier = refl
 -- refusals by the request alone, and of a variant that is not there
 pub refused_lines :
     answers (
-    integrator (OpenVariant (codes "v1") None)
-    ∷ s1 (OpenVariant (codes "v2") None)
+    integrator (OpenVariant (codes "v1") Empty)
+    ∷ s1 (OpenVariant (codes "v2") Empty)
     ∷ integrator (AddFrame (codes "v1") (codes "f1") (codes "n1"))
     ∷ s1 (Place (codes "1v") (codes "f1") 1 (codes "A") 0 64)
     ∷ s1 (Place (codes "v1") (codes "f1") 0 (codes "A") 0 64)
@@ -285,7 +286,7 @@ refused_lines = refl
 -- of several refusals the first by number
 pub first_refusals :
     answers (
-    integrator (OpenVariant (codes "v1") None)
+    integrator (OpenVariant (codes "v1") Empty)
     ∷ integrator (AddNode (codes "s1") (codes "n1"))
     ∷ integrator (Grant (codes "v1") 1 (codes "A") (codes "s1") (codes "n1"))
     ∷ s1 (AddFrame (codes "v1") (codes "f") (codes "n1"))
@@ -312,8 +313,8 @@ pub first_refusals :
     ∷ integrator (Grant (codes "v1") 1 (codes "A") (codes "s2") (codes "n1"))
     ∷ integrator (AddNode (codes "s9") (codes "n1"))
     ∷ integrator (AddNode (codes "s1") (codes "n1"))
-    ∷ integrator (OpenVariant (codes "v1") None)
-    ∷ record { actor = Supplier (codes "s3"); request = OpenVariant (codes "1v") None }
+    ∷ integrator (OpenVariant (codes "v1") Empty)
+    ∷ record { actor = Supplier (codes "s3"); request = OpenVariant (codes "1v") Empty }
     ∷ [])
     ≡ Done ∷ Done ∷ Done ∷ Done
     ∷ Refused BadName ∷ Refused BadCycles ∷ Refused BadSlot ∷ Refused BadChannel ∷ Refused NoVariant ∷ Refused NoFrame
@@ -329,7 +330,7 @@ first_refusals = refl
 -- slot 1 in cycles 0, 4, .. and slot 3 in cycles 2, 6, ..: moments 0, 220, 400, 620, ..
 pub gap_of_two_slots :
     answers (
-    integrator (OpenVariant (codes "v1") None)
+    integrator (OpenVariant (codes "v1") Empty)
     ∷ integrator (AddNode (codes "s1") (codes "n1"))
     ∷ integrator (Grant (codes "v1") 1 (codes "A") (codes "s1") (codes "n1"))
     ∷ integrator (Grant (codes "v1") 3 (codes "A") (codes "s1") (codes "n1"))
@@ -362,7 +363,7 @@ counted_answers n asks = answers_to (counting n).cluster (opening (counting n)) 
 -- twelve cycles: two sets of repetitions 4 and 6 meet in cycle 8
 pub twelve_cycles :
     counted_answers 12 (
-    integrator (OpenVariant (codes "v1") None)
+    integrator (OpenVariant (codes "v1") Empty)
     ∷ integrator (AddNode (codes "s1") (codes "n1"))
     ∷ integrator (Grant (codes "v1") 1 (codes "A") (codes "s1") (codes "n1"))
     ∷ s1 (AddFrame (codes "v1") (codes "f") (codes "n1"))
@@ -379,7 +380,7 @@ twelve_cycles = refl
 -- ten cycles: a ring of 1000 macroticks, no cycle from the tenth on, and no repetition that does not divide 10
 pub ten_cycles :
     counted_answers 10 (
-    integrator (OpenVariant (codes "v1") None)
+    integrator (OpenVariant (codes "v1") Empty)
     ∷ integrator (AddNode (codes "s1") (codes "n1"))
     ∷ integrator (Grant (codes "v1") 1 (codes "A") (codes "s1") (codes "n1"))
     ∷ s1 (AddFrame (codes "v1") (codes "f") (codes "n1"))
@@ -404,7 +405,7 @@ ten_cycles = refl
 -- a lone moment, two slots, and none
 pub gaps_alone_mixed_never :
     answers (
-    integrator (OpenVariant (codes "v1") None)
+    integrator (OpenVariant (codes "v1") Empty)
     ∷ integrator (AddNode (codes "s1") (codes "n1"))
     ∷ integrator (Grant (codes "v1") 1 (codes "A") (codes "s1") (codes "n1"))
     ∷ integrator (Grant (codes "v1") 2 (codes "A") (codes "s1") (codes "n1"))
@@ -436,7 +437,7 @@ gaps_alone_mixed_never = refl
 -- a grant under a placement stays; after the placement is gone, the grant goes once
 pub a_grant_revoked :
     answers (
-    integrator (OpenVariant (codes "v1") None)
+    integrator (OpenVariant (codes "v1") Empty)
     ∷ integrator (AddNode (codes "s1") (codes "n1"))
     ∷ integrator (AddNode (codes "s2") (codes "n2"))
     ∷ integrator (Grant (codes "v1") 1 (codes "A") (codes "s1") (codes "n1"))
@@ -476,7 +477,7 @@ a_grant_revoked = refl
 -- a dropped frame is not sent; a placement is that of its four fields
 pub a_frame_dropped :
     answers (
-    integrator (OpenVariant (codes "v1") None)
+    integrator (OpenVariant (codes "v1") Empty)
     ∷ integrator (AddNode (codes "s1") (codes "n1"))
     ∷ integrator (Grant (codes "v1") 1 (codes "A") (codes "s1") (codes "n1"))
     ∷ s1 (AddFrame (codes "v1") (codes "f1") (codes "n1"))
@@ -506,7 +507,7 @@ a_frame_dropped = refl
 -- a released variant stays; one that was opened from it goes on by itself
 pub a_variant_released :
     answers (
-    integrator (OpenVariant (codes "v1") None)
+    integrator (OpenVariant (codes "v1") Empty)
     ∷ integrator (AddNode (codes "s1") (codes "n1"))
     ∷ integrator (Grant (codes "v1") 1 (codes "A") (codes "s1") (codes "n1"))
     ∷ s1 (AddFrame (codes "v1") (codes "f1") (codes "n1"))
@@ -515,13 +516,13 @@ pub a_variant_released :
     ∷ s1 (Place (codes "v1") (codes "f1") 1 (codes "A") 1 64)
     ∷ integrator (Revoke (codes "v1") 1 (codes "A") (codes "s1"))
     ∷ integrator (Release (codes "v1"))
-    ∷ integrator (OpenVariant (codes "v2") (Some (codes "v1")))
+    ∷ integrator (OpenVariant (codes "v2") (From (codes "v1")))
     ∷ s1 (DropFrame (codes "v2") (codes "f1"))
     ∷ s1 (Query (OfVariant (codes "v1") Schedule))
     ∷ s1 (Query (OfVariant (codes "v2") Schedule))
-    ∷ integrator (OpenVariant (codes "v3") (Some (codes "v2")))
-    ∷ integrator (OpenVariant (codes "v3") (Some (codes "v9")))
-    ∷ integrator (OpenVariant (codes "v2") (Some (codes "v1")))
+    ∷ integrator (OpenVariant (codes "v3") (From (codes "v2")))
+    ∷ integrator (OpenVariant (codes "v3") (From (codes "v9")))
+    ∷ integrator (OpenVariant (codes "v2") (From (codes "v1")))
     ∷ s1 (AddFrame (codes "v2") (codes "f2") (codes "n1"))
     ∷ s1 (Place (codes "v2") (codes "f2") 1 (codes "A") 0 64)
     ∷ s1 (Query (OfVariant (codes "v2") Schedule))
@@ -549,43 +550,85 @@ pub a_variant_released :
 unfolding a_small_register
 a_variant_released = refl
 
--- sixteen variants, each opened from the one before
+-- a variant that is opened flat has all rows of a released one, and no parent; an open variant and one that is not there refuse
+pub a_variant_opened_flat :
+    answers (
+    integrator (OpenVariant (codes "v1") Empty)
+    ∷ integrator (AddNode (codes "s1") (codes "n1"))
+    ∷ integrator (Grant (codes "v1") 1 (codes "A") (codes "s1") (codes "n1"))
+    ∷ s1 (AddFrame (codes "v1") (codes "f1") (codes "n1"))
+    ∷ s1 (Place (codes "v1") (codes "f1") 1 (codes "A") 0 64)
+    ∷ integrator (OpenVariant (codes "w") (Flat (codes "v1")))
+    ∷ integrator (OpenVariant (codes "w") (Flat (codes "v9")))
+    ∷ integrator (Release (codes "v1"))
+    ∷ s1 (OpenVariant (codes "w") (Flat (codes "v1")))
+    ∷ integrator (OpenVariant (codes "w") (Flat (codes "1v")))
+    ∷ integrator (OpenVariant (codes "w") (Flat (codes "v1")))
+    ∷ integrator (OpenVariant (codes "w") (Flat (codes "v1")))
+    ∷ integrator (Query (OfRegister listed.Variants))
+    ∷ s1 (Query (OfVariant (codes "w") Schedule))
+    ∷ [])
+    ≡ Done
+    ∷ Done
+    ∷ Done
+    ∷ Done
+    ∷ Done
+    ∷ Refused NotReleased
+    ∷ Refused NoVariant
+    ∷ Done
+    ∷ Refused NotYours
+    ∷ Refused BadName
+    ∷ Done
+    ∷ Refused Exists
+    ∷ Told true (rows.Variants (
+    record { variant = codes "v1"; parent = None; depth = 1; released = true }
+    ∷ record { variant = codes "w"; parent = None; depth = 1; released = false }
+    ∷ []))
+    ∷ Sent false (record { cycle = 0; slot = 1; channel = ch.A; frame = codes "f1"; node = codes "n1"; supplier = codes "s1" } ∷ [])
+    ∷ []
+unfolding a_small_register
+a_variant_opened_flat = refl
+
+-- sixteen variants, each opened from the one before; then a variant is opened flat from the last, and another one from that
 pub depth_of_sixteen :
     answers (
-    integrator (OpenVariant (codes "v1") None)
+    integrator (OpenVariant (codes "v1") Empty)
     ∷ integrator (Release (codes "v1"))
-    ∷ integrator (OpenVariant (codes "v2") (Some (codes "v1")))
+    ∷ integrator (OpenVariant (codes "v2") (From (codes "v1")))
     ∷ integrator (Release (codes "v2"))
-    ∷ integrator (OpenVariant (codes "v3") (Some (codes "v2")))
+    ∷ integrator (OpenVariant (codes "v3") (From (codes "v2")))
     ∷ integrator (Release (codes "v3"))
-    ∷ integrator (OpenVariant (codes "v4") (Some (codes "v3")))
+    ∷ integrator (OpenVariant (codes "v4") (From (codes "v3")))
     ∷ integrator (Release (codes "v4"))
-    ∷ integrator (OpenVariant (codes "v5") (Some (codes "v4")))
+    ∷ integrator (OpenVariant (codes "v5") (From (codes "v4")))
     ∷ integrator (Release (codes "v5"))
-    ∷ integrator (OpenVariant (codes "v6") (Some (codes "v5")))
+    ∷ integrator (OpenVariant (codes "v6") (From (codes "v5")))
     ∷ integrator (Release (codes "v6"))
-    ∷ integrator (OpenVariant (codes "v7") (Some (codes "v6")))
+    ∷ integrator (OpenVariant (codes "v7") (From (codes "v6")))
     ∷ integrator (Release (codes "v7"))
-    ∷ integrator (OpenVariant (codes "v8") (Some (codes "v7")))
+    ∷ integrator (OpenVariant (codes "v8") (From (codes "v7")))
     ∷ integrator (Release (codes "v8"))
-    ∷ integrator (OpenVariant (codes "v9") (Some (codes "v8")))
+    ∷ integrator (OpenVariant (codes "v9") (From (codes "v8")))
     ∷ integrator (Release (codes "v9"))
-    ∷ integrator (OpenVariant (codes "v10") (Some (codes "v9")))
+    ∷ integrator (OpenVariant (codes "v10") (From (codes "v9")))
     ∷ integrator (Release (codes "v10"))
-    ∷ integrator (OpenVariant (codes "v11") (Some (codes "v10")))
+    ∷ integrator (OpenVariant (codes "v11") (From (codes "v10")))
     ∷ integrator (Release (codes "v11"))
-    ∷ integrator (OpenVariant (codes "v12") (Some (codes "v11")))
+    ∷ integrator (OpenVariant (codes "v12") (From (codes "v11")))
     ∷ integrator (Release (codes "v12"))
-    ∷ integrator (OpenVariant (codes "v13") (Some (codes "v12")))
+    ∷ integrator (OpenVariant (codes "v13") (From (codes "v12")))
     ∷ integrator (Release (codes "v13"))
-    ∷ integrator (OpenVariant (codes "v14") (Some (codes "v13")))
+    ∷ integrator (OpenVariant (codes "v14") (From (codes "v13")))
     ∷ integrator (Release (codes "v14"))
-    ∷ integrator (OpenVariant (codes "v15") (Some (codes "v14")))
+    ∷ integrator (OpenVariant (codes "v15") (From (codes "v14")))
     ∷ integrator (Release (codes "v15"))
-    ∷ integrator (OpenVariant (codes "v16") (Some (codes "v15")))
+    ∷ integrator (OpenVariant (codes "v16") (From (codes "v15")))
     ∷ integrator (Release (codes "v16"))
-    ∷ integrator (OpenVariant (codes "v17") (Some (codes "v16")))
-    ∷ integrator (OpenVariant (codes "v17") None)
+    ∷ integrator (OpenVariant (codes "v17") (From (codes "v16")))
+    ∷ integrator (OpenVariant (codes "v17") Empty)
+    ∷ integrator (OpenVariant (codes "w") (Flat (codes "v16")))
+    ∷ integrator (Release (codes "w"))
+    ∷ integrator (OpenVariant (codes "v18") (From (codes "w")))
     ∷ [])
     ≡ Done
     ∷ Done
@@ -621,6 +664,9 @@ pub depth_of_sixteen :
     ∷ Done
     ∷ Refused TooDeep
     ∷ Done
+    ∷ Done
+    ∷ Done
+    ∷ Done
     ∷ []
 unfolding a_small_register
 depth_of_sixteen = refl
@@ -628,7 +674,7 @@ depth_of_sixteen = refl
 -- signals of a payload of one word
 pub signals_refused :
     answers (
-    integrator (OpenVariant (codes "v1") None)
+    integrator (OpenVariant (codes "v1") Empty)
     ∷ integrator (AddNode (codes "s1") (codes "n1"))
     ∷ s1 (AddFrame (codes "v1") (codes "f") (codes "n1"))
     ∷ s1 (AddSignal (codes "v1") (codes "f") (codes "y") 3 8 (codes "big"))
@@ -682,7 +728,7 @@ s3 r = record { actor = Supplier (codes "s3"); request = r }
 -- again. Nodes and grants are as any supplier's.
 unfoldable pub joining : List Ask
 joining =
-    integrator (OpenVariant (codes "v1") None)
+    integrator (OpenVariant (codes "v1") Empty)
     ∷ integrator (AddNode (codes "s1") (codes "n1"))
     ∷ integrator (Grant (codes "v1") 1 (codes "A") (codes "s1") (codes "n1"))
     ∷ s1 (AddFrame (codes "v1") (codes "f1") (codes "n1"))
@@ -724,7 +770,7 @@ a_key_before_and_after = (refl, refl, refl)
 -- The supplier's plan, and then another key for it. A key that is somebody's is taken, the supplier's own too.
 unfoldable pub keying : List Ask
 keying =
-    integrator (OpenVariant (codes "v1") None)
+    integrator (OpenVariant (codes "v1") Empty)
     ∷ integrator (AddNode (codes "s1") (codes "n1"))
     ∷ integrator (Grant (codes "v1") 1 (codes "A") (codes "s1") (codes "n1"))
     ∷ s1 (AddFrame (codes "v1") (codes "f1") (codes "n1"))

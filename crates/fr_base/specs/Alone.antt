@@ -47,7 +47,7 @@ own_sender s (Some o) = if same_text o.supplier s then Some o else None
 
 -- whether an integrator's command is common to all suppliers, or names this one; a supplier's requests and queries are none
 abbrev pub concerns : Name → Request → Bool
-concerns s (OpenVariant v parent) = true
+concerns s (OpenVariant v beginning) = true
 concerns s (Release v) = true
 concerns s (AddSupplier t key) = same_text t s
 concerns s (SetKey t key) = same_text t s

@@ -21,13 +21,15 @@ use Rattle.fr_base.specs.declared.actor.Actor.TheVariants.{Integrator, Supplier}
 use Rattle.fr_base.specs.declared.request.Request.{Request}
 use Rattle.fr_base.specs.declared.request.Request.TheVariants as request
 use Rattle.fr_base.specs.declared.request.Command.TheVariants.{Common, AddSupplier, SetKey, AddNode, Rows}
+use Rattle.fr_base.specs.declared.beginning.Beginning.{Beginning}
+use Rattle.fr_base.specs.declared.beginning.Beginning.TheVariants.{Empty, From, Flat}
 use Rattle.fr_base.specs.declared.request.CommonCommand.TheVariants.{OpenVariant, Release}
 use Rattle.fr_base.specs.declared.request.Change.TheVariants.{Grant, Revoke, Frame}
 use Rattle.fr_base.specs.declared.request.FrameChange.TheVariants.{Add, Drop, Place, Unplace, AddSignal, DropSignal}
 use Rattle.fr_base.specs.declared.query.Query.{Query}
 use Rattle.fr_base.specs.declared.query.Query.TheVariants.{Register, Variant, Difference}
 use Rattle.fr_base.specs.declared.report.Report.{Report}
-use Rattle.fr_base.specs.declared.report.Report.TheVariants.{Grants, Frames, Schedule, Gaps, Layout, Load, Room, Export}
+use Rattle.fr_base.specs.declared.report.Report.TheVariants.{Grants, Frames, Schedule, Gaps, Layout, Load, Rows as AllRows, Room, Export}
 use Rattle.fr_base.specs.declared.request.Checked.{Checked}
 use Rattle.fr_base.specs.declared.request.Checked.TheVariants as checked
 
@@ -87,12 +89,15 @@ signal n start length text = do
   refuse BadSignal when not (is_signal_length length)
   Ok (record { name = n; start = start; length = length; order = order })
 
--- the name of a parent, if there is to be one
-unfoldable pub parent_name : Option (List ℕ) → Result (Option Name) Refusal
-parent_name None = Ok None
-parent_name (Some text) = do
+-- what a new variant begins with: the name of a released variant, or none
+unfoldable pub beginning : Beginning (List ℕ) → Result (Beginning Name) Refusal
+beginning Empty = Ok Empty
+beginning (From text) = do
   parent ← name text
-  Ok (Some parent)
+  Ok (From parent)
+beginning (Flat text) = do
+  from ← name text
+  Ok (Flat from)
 
 -- a report whose frame, if it names one, has a name
 unfoldable pub report : Report (List ℕ) ℕ → Result (Report Name ℕ) Refusal
@@ -104,6 +109,7 @@ report (Layout frame) = do
   f ← name frame
   Ok (Layout f)
 report Load = Ok Load
+report AllRows = Ok AllRows
 report (Room frame repetition) = do
   f ← name frame
   Ok (Room f repetition)
@@ -138,11 +144,11 @@ has_repetition p _ = true
 
 -- the request with checked values
 unfoldable pub check : Params → Actor → Request → Result Checked Refusal
-check p actor (request.OpenVariant variant parent) = do
+check p actor (request.OpenVariant variant begins) = do
   refuse NotYours when not (is_integrator actor)
   v ← name variant
-  from ← parent_name parent
-  Ok (checked.Command (Common (OpenVariant v from)))
+  b ← beginning begins
+  Ok (checked.Command (Common (OpenVariant v b)))
 check p actor (request.Release variant) = do
   refuse NotYours when not (is_integrator actor)
   v ← name variant
@@ -218,14 +224,14 @@ check p actor (request.Import variant label body) = do
   v ← name variant
   l ← name label
   Ok (checked.Import (record { supplier = s; variant = v; label = l; body = body }))
-check p actor (request.Replace variant body) = do
+check p actor (request.Replace variant whole body) = do
   s ← asking actor
   v ← name variant
-  Ok (checked.Replace (record { supplier = s; variant = v; body = body }))
-check p actor (request.Try variant replaces body) = do
+  Ok (checked.Replace (record { supplier = s; variant = v; whole = whole; body = body }))
+check p actor (request.Try variant manner body) = do
   s ← asking actor
   v ← name variant
-  Ok (checked.Try (record { supplier = s; variant = v; replaces = replaces; body = body }))
+  Ok (checked.Try (record { supplier = s; variant = v; manner = manner; body = body }))
 check p actor (request.Query asked) = do
   refuse NotYours when is_integrator actor && is_of_room asked
   q ← query asked

@@ -1,28 +1,12 @@
 -- Laws of a difference: it tells exactly the rows that the actor sees of the one variant and not of
 -- the other. So no row is both gone and new.
-use Rattle.std.specs.Prelude.{◌↔◌, List, map, ◌++◌}
+use Rattle.std.specs.Prelude.{◌↔◌}
 use Rattle.std.specs.List.{Contains}
-use Rattle.fr_base.specs.Tables.{Table, each}
-use Rattle.fr_base.specs.Keys.{owned}
-use Rattle.fr_base.specs.Book.{Frame, Variant}
-use Rattle.fr_base.specs.Seen.{seen_grants, seen_frames}
-use Rattle.fr_base.specs.Differences.{all_placements, all_signals, gap_of, grant_seen, frame_seen, placement_seen, signal_seen, gap_seen, gone_in, new_in, differences}
+use Rattle.fr_base.specs.Book.{Variant}
+use Rattle.fr_base.specs.Differences.{seen_rows, gone_in, new_in, differences}
 use Rattle.fr_base.specs.declared.params.Params.{Params}
 use Rattle.fr_base.specs.declared.actor.Actor.{Actor}
 use Rattle.fr_base.specs.declared.answer.SeenRow.{SeenRow}
-
--- the rows of frames: their nodes, placements, signals and gaps
-unfoldable pub rows_of_frames : Params → Table owned Frame → List SeenRow
-rows_of_frames p frames =
-    map frame_seen (each (λ f. f.node) frames).rows
-    ++ map placement_seen (all_placements frames).rows
-    ++ map signal_seen (all_signals frames).rows
-    ++ map gap_seen (each (gap_of p) frames).rows
-
--- the rows that the actor sees of a variant
-unfoldable pub seen_rows : Params → Actor → Variant → List SeenRow
-seen_rows p actor x =
-    map grant_seen (seen_grants actor x.grants).rows ++ rows_of_frames p (seen_frames actor x.frames)
 
 -- the row is seen of the one variant, and not of the other
 abbrev pub IsSeenOnlyIn : Params → Actor → Variant → Variant → SeenRow → Type 0

@@ -1,6 +1,6 @@
--- Difference: the rows in which two variants differ, as an actor sees them: what the one has and the other has not, and
--- the other way round. They come by what they are (grants, frames, placements, signals, gaps), then by their keys, and at
--- one key what is gone comes before what is new.
+-- Difference: the rows of a variant, and those in which two variants differ, as an actor sees them: what the one has and
+-- the other has not, and the other way round. They come by what they are (grants, frames, placements, signals, gaps), then
+-- by their keys, and at one key what is gone comes before what is new.
 use Rattle.std.specs.Prelude.{ℕ, ◌==◌, Bool, true, false, not, ◌&&◌, List, [], ◌∷◌, ◌++◌, map, filter, Option, Some, None, if◌then◌else◌, ⊤}
 use Rattle.std.specs.List.{flat_map}
 use Rattle.fr_base.specs.Tables.{Order, Table, get, each, from_rows}
@@ -91,6 +91,23 @@ gap_seen e = row.Gap (record { frame = e.0.1; supplier = e.0.0; gap = e.1 })
 -- the greatest gap of a frame, if it is placed
 abbrev pub gap_of : Params → Frame → Option ℕ
 gap_of p frame = greatest_gap p (map (λ q. q.0) frame.placements.rows)
+
+-- ---- all rows of a variant
+
+-- the rows of frames: their nodes, placements, signals and gaps
+unfoldable pub rows_of_frames : Params → Table owned Frame → List SeenRow
+rows_of_frames p frames =
+    map frame_seen (each (λ f. f.node) frames).rows
+    ++ map placement_seen (all_placements frames).rows
+    ++ map signal_seen (all_signals frames).rows
+    ++ map gap_seen (each (gap_of p) frames).rows
+
+-- the rows that the actor sees of a variant
+unfoldable pub seen_rows : Params → Actor → Variant → List SeenRow
+seen_rows p actor x =
+    map grant_seen (seen_grants actor x.grants).rows ++ rows_of_frames p (seen_frames actor x.frames)
+
+-- ---- what differs
 
 -- the rows in which grants differ from what they were before
 unfoldable pub grants_differ : Table channel_slots Holder → Table channel_slots Holder → List DifferenceRow

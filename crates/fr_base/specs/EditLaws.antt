@@ -8,8 +8,7 @@ use Rattle.std.specs.Ordering.{nat_cmp, ordering_then}
 use Rattle.std.specs.FinMap.Entries.{is_sorted}
 use Rattle.fr_base.specs.Keys.{owned, channel_slots}
 use Rattle.fr_base.specs.Book.{Variant}
-use Rattle.fr_base.specs.Differences.{placed_frames, starts, gone_in, new_in, differences}
-use Rattle.fr_base.specs.DifferenceLaws.{seen_rows}
+use Rattle.fr_base.specs.Differences.{placed_frames, starts, seen_rows, gone_in, new_in, differences}
 use Rattle.fr_base.specs.declared.params.Params.{Params}
 use Rattle.fr_base.specs.declared.actor.Actor.{Actor}
 use Rattle.fr_base.specs.declared.answer.DifferenceRow.{DifferenceRow}

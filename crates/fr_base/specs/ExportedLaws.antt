@@ -1,6 +1,6 @@
 -- Laws of exports that come back: a part of a variant's own export changes nothing; and all parts of an export, imported elsewhere, bring
 -- the supplier's frames along.
-use Rattle.std.specs.Prelude.{◌≡◌, ◌≢◌, ℕ, suc, ◌+◌, ◌≤◌, List, [], ◌∷◌, ◌++◌, map, length, Some, None, Ok, IsTrue, IsFalse, All, AllPairs}
+use Rattle.std.specs.Prelude.{◌≡◌, ◌≢◌, ℕ, suc, ◌+◌, ◌≤◌, false, List, [], ◌∷◌, ◌++◌, map, length, Some, None, Ok, IsTrue, IsFalse, All, AllPairs}
 use Rattle.fr_base.specs.Alone.{answers_to, book_after}
 use Rattle.fr_base.specs.Tables.{Table, empty, get, len}
 use Rattle.fr_base.specs.Keys.{owned}
@@ -44,7 +44,7 @@ abbrev pub OwnExportChangesNothing : Type 0
 OwnExportChangesNothing = (c : Cluster) (b : Book) (s v : Name) (x : Variant) (header : Header) (part : ℕ) (body : List ℕ) →
     IsSound c b → IsTrue (knows b (Supplier s)) → get b.variants v ≡ Some x → IsFalse x.released →
     length body ≤ MAX_IMPORT_BYTES → ReadsAs c.params body (exported_rows (exported header part (seen_frames (Supplier s) x.frames).rows)) →
-    step c b (Supplier s) (Replace v body)
+    step c b (Supplier s) (Replace v false body)
     ≡ record { book = b; answer = Replaced (length (exported_rows (exported header part (seen_frames (Supplier s) x.frames).rows))) }
 
 -- ---- elsewhere

@@ -152,6 +152,15 @@ unfoldable pub rows_below : Params → Option Header → List (List (List ℕ)) 
 rows_below p (Some header) records = rows_from p header 2 records
 rows_below p None records = record { line = 1; row = Err BadText } ∷ []
 
+-- the header of a file's records, if the first of them is one
+abbrev pub header_in : List (List (List ℕ)) → Option Header
+header_in [] = None
+header_in (first ∷ records) = header_of first
+
+-- the header that a body's bytes begin with, if they begin with one
+unfoldable pub header_of_body : List ℕ → Option Header
+header_of_body body = header_in (records_of body)
+
 -- a file's records as rows
 unfoldable pub rows_of_records : Params → List (List (List ℕ)) → List RowRead
 rows_of_records p [] = rows_below p None []

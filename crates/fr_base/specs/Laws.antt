@@ -42,10 +42,13 @@ use Rattle.fr_base.specs.declared.actor.Actor.{Actor}
 use Rattle.fr_base.specs.declared.actor.Actor.TheVariants.{Integrator, Supplier}
 use Rattle.fr_base.specs.declared.request.Ask.{Ask}
 use Rattle.fr_base.specs.declared.request.Request.{Request}
+use Rattle.fr_base.specs.declared.request.Manner.{Manner}
+use Rattle.fr_base.specs.declared.request.Manner.TheVariants as manner
 use Rattle.fr_base.specs.declared.request.Request.TheVariants.{SetKey, Import, Replace, Try}
 use Rattle.fr_base.specs.declared.query.Query.TheVariants.{Variant as OfVariant, Difference}
 use Rattle.fr_base.specs.declared.report.Report.{Report}
 use Rattle.fr_base.specs.declared.request.Command.TheVariants.{Rows}
+use Rattle.fr_base.specs.declared.beginning.Beginning.TheVariants.{From, Flat}
 use Rattle.fr_base.specs.declared.request.CommonCommand.TheVariants.{OpenVariant}
 use Rattle.fr_base.specs.declared.request.Change.TheVariants as change
 use Rattle.fr_base.specs.declared.request.FrameChange.TheVariants.{Place}
@@ -170,8 +173,8 @@ BadVariantIsBadName = (c : Cluster) (s : Name) (variant label body : List ℕ) (
 
 -- A trial changes nothing, whoever asks for it.
 abbrev pub TrialChangesNothing : Type 0
-TrialChangesNothing = (c : Cluster) (b : Book) (actor : Actor) (variant body : List ℕ) (replaces : Bool) →
-    (step c b actor (Try variant replaces body)).book ≡ b
+TrialChangesNothing = (c : Cluster) (b : Book) (actor : Actor) (variant body : List ℕ) (how : Manner) →
+    (step c b actor (Try variant how body)).book ≡ b
 
 -- An import under a label that is not kept, where the supplier may keep one more, is answered as its trial tells. Imported, with so many
 -- rows, exactly where so many are told and each is done; RefusedRow exactly where the first row that is not done is this one; and refused
@@ -179,12 +182,13 @@ TrialChangesNothing = (c : Cluster) (b : Book) (actor : Actor) (variant body : L
 abbrev pub ImportIsTold : Type 0
 ImportIsTold = (c : Cluster) (b : Book) (s : Name) (variant label body : List ℕ) →
     IsTrue (is_name label) → get b.imports (s, label) ≡ None → IsTrue (nat_lt (len (own s b.imports)) MAX_IMPORTS) →
-    (step c b (Supplier s) (Import variant label body)).answer ≡ answer_told Imported (step c b (Supplier s) (Try variant false body)).answer
+    (step c b (Supplier s) (Import variant label body)).answer ≡ answer_told Imported (step c b (Supplier s) (Try variant manner.Import body)).answer
 
 -- A replacement is answered as its trial tells.
 abbrev pub ReplacementIsTold : Type 0
-ReplacementIsTold = (c : Cluster) (b : Book) (s : Name) (variant body : List ℕ) →
-    (step c b (Supplier s) (Replace variant body)).answer ≡ answer_told Replaced (step c b (Supplier s) (Try variant true body)).answer
+ReplacementIsTold = (c : Cluster) (b : Book) (s : Name) (variant body : List ℕ) (whole : Bool) →
+    (step c b (Supplier s) (Replace variant whole body)).answer
+    ≡ answer_told Replaced (step c b (Supplier s) (Try variant (manner.Replace whole) body)).answer
 
 -- ---- a supplier alone
 
@@ -305,7 +309,7 @@ NothingDiffersFromItself = (p : Params) (actor : Actor) (x : Variant) → differ
 
 -- A variant that was just opened does not differ from its parent.
 abbrev pub OpenedDiffersNowhere : Type 0
-OpenedDiffersNowhere = (p : Params) (actor : Actor) (b after : Book) (v from : Name) (old new : Variant) → common b (OpenVariant v (Some from)) ≡ Ok after →
+OpenedDiffersNowhere = (p : Params) (actor : Actor) (b after : Book) (v from : Name) (old new : Variant) → common b (OpenVariant v (From from)) ≡ Ok after →
     get after.variants from ≡ Some old → get after.variants v ≡ Some new → differences p actor old new ≡ []
 
 -- The difference of two released variants is the same for an actor ever after, as the answers to

@@ -46,10 +46,12 @@ pub mod ExportParts
 pub mod Brought
 pub mod ReplacedLaws
 pub mod ExportedLaws
+pub mod WholeLaws
 pub mod QueryLaws
 pub mod LoadLaws
 pub mod EditLaws
 pub mod KeyLaws
+pub mod OpenedLaws
 pub mod FateLaws
 pub mod RefusedRooms
 pub mod RunLaws

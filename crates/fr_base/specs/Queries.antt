@@ -1,6 +1,6 @@
 -- Query: an actor sees its own rows, and the integrator those of all suppliers. Of the register these are the cluster's
 -- figures with the suppliers, the variants, and the nodes; of a variant grants, frames, schedule, gaps, layouts, the load,
--- the room for a frame, and records for a file, each in its order; and in what two variants differ.
+-- its rows of all kinds, the room for a frame, and records for a file, each in its order; and in what two variants differ.
 use Rattle.std.specs.Prelude.{ℕ, ◌==◌, List, [], ◌∷◌, ◌++◌, map, codes, Result, Ok, Err, ⊤}
 use Rattle.std.specs.List.{flat_map}
 use Rattle.fr_base.specs.Refusing.{◌>>=◌, ◌>>◌, ◌or◌, refuse◌when◌}
@@ -11,7 +11,7 @@ use Rattle.fr_base.specs.Schedule.{entries}
 use Rattle.fr_base.specs.Moments.{greatest_gap}
 use Rattle.fr_base.specs.Seen.{seen_suppliers, seen_nodes, seen_grants, seen_frames}
 use Rattle.fr_base.specs.Exports.{exported}
-use Rattle.fr_base.specs.Differences.{differences}
+use Rattle.fr_base.specs.Differences.{seen_rows, differences}
 use Rattle.fr_base.specs.Load.{load_of}
 use Rattle.fr_base.specs.Room.{own_room}
 use Rattle.fr_base.specs.Checks.{is_integrator}
@@ -47,7 +47,7 @@ use Rattle.fr_base.specs.declared.query.Query.TheVariants.{Register as OfRegiste
 use Rattle.fr_base.specs.declared.query.Inventory.{Inventory}
 use Rattle.fr_base.specs.declared.query.Inventory.TheVariants.{Cluster as TheCluster, Variants, Nodes}
 use Rattle.fr_base.specs.declared.report.Report.{Report}
-use Rattle.fr_base.specs.declared.report.Report.TheVariants.{Grants, Frames, Schedule, Gaps, Layout, Load, Room, Export}
+use Rattle.fr_base.specs.declared.report.Report.TheVariants.{Grants, Frames, Schedule, Gaps, Layout, Load, Rows, Room, Export}
 
 -- the word by which a report is asked for
 abbrev pub word_of : {F M : Type 0} → Report F M → List ℕ
@@ -57,6 +57,7 @@ word_of Schedule = codes "schedule"
 word_of Gaps = codes "gaps"
 word_of (Layout frame) = codes "layout"
 word_of Load = codes "load"
+word_of Rows = codes "rows"
 word_of (Room frame repetition) = codes "room"
 word_of (Export header.Frames part) = codes "export_frames"
 word_of (Export header.Placements part) = codes "export_placements"
@@ -85,6 +86,7 @@ name_of_rows (rows.Schedule _) = codes "schedule"
 name_of_rows (rows.Gaps _) = codes "gaps"
 name_of_rows (rows.Layout _) = codes "layout"
 name_of_rows (rows.Load _) = codes "load"
+name_of_rows (rows.Seen _) = codes "rows"
 name_of_rows (rows.Room _) = codes "room"
 name_of_rows (rows.FrameRecords _) = codes "export_frames"
 name_of_rows (rows.PlacementRecords _) = codes "export_placements"
@@ -199,6 +201,7 @@ shown p actor variant (Layout f) = do
   refuse NoFrame when len (named f (seen_frames actor variant.frames)) == 0
   Ok (rows.Layout (signals_of (named f (seen_frames actor variant.frames))))
 shown p actor variant Load = Ok (rows.Load (load_of p actor (seen_grants actor variant.grants) (seen_frames actor variant.frames)))
+shown p actor variant Rows = Ok (rows.Seen (seen_rows p actor variant))
 shown p Integrator variant (Room f repetition) = Err NotYours
 shown p (Supplier s) variant (Room f repetition) = do
   refuse Released when variant.released

@@ -5,7 +5,7 @@ use Rattle.fr_base.specs.Refusing.{◌>>=◌}
 use Rattle.fr_base.specs.declared.query.Query.{Query}
 use Rattle.fr_base.specs.declared.query.Query.TheVariants.{Register, Variant, Difference}
 use Rattle.fr_base.specs.declared.report.Report.{Report}
-use Rattle.fr_base.specs.declared.report.Report.TheVariants.{Grants, Frames, Schedule, Gaps, Layout, Load, Room, Export}
+use Rattle.fr_base.specs.declared.report.Report.TheVariants.{Grants, Frames, Schedule, Gaps, Layout, Load, Rows, Room, Export}
 
 -- the result of a report whose names and numbers are read by these two relations
 unfoldable pub IsReportRead : {N M A E : Type 0} → (N → Result A E → Type 0) → (M → Result ℕ E → Type 0) → Report N M → Result (Report A ℕ) E → Type 0
@@ -16,6 +16,7 @@ IsReportRead reads counts Gaps result = result ≡ Ok Gaps
 IsReportRead {N} {M} {A} {E} reads counts (Layout frame) result =
     (name : Result A E) × reads frame name × (result ≡ (name >>= (λ f. Ok (Layout f))))
 IsReportRead reads counts Load result = result ≡ Ok Load
+IsReportRead reads counts Rows result = result ≡ Ok Rows
 IsReportRead {N} {M} {A} {E} reads counts (Room frame repetition) result =
     (name : Result A E) × reads frame name × MatchResult name
     (λ f. (number : Result ℕ E) × counts repetition number × (result ≡ (number >>= (λ r. Ok (Room f r)))))
@@ -43,6 +44,7 @@ report_with f g Schedule = Schedule
 report_with f g Gaps = Gaps
 report_with f g (Layout frame) = Layout (f frame)
 report_with f g Load = Load
+report_with f g Rows = Rows
 report_with f g (Room frame repetition) = Room (f frame) (g repetition)
 report_with f g (Export header part) = Export header (g part)
 
@@ -60,6 +62,7 @@ report_by f g Schedule = Some Schedule
 report_by f g Gaps = Some Gaps
 report_by f g (Layout frame) = Some (Layout (f frame))
 report_by f g Load = Some Load
+report_by f g Rows = Some Rows
 report_by f g (Room frame repetition) = option_map (Room (f frame)) (g repetition)
 report_by f g (Export header part) = option_map (Export header) (g part)
 

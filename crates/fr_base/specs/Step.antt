@@ -4,9 +4,10 @@
 -- rows and for the supplier's own. An import's rows are such changes in turn: a row of frames adds the frame; a row of
 -- placements is its frame, added where it is not there, and then its placement; a row of signals adds the signal. All are carried out and the import
 -- is kept, or the first refused row is told and nothing is changed. An import whose label is kept has its answer again,
--- or is `LabelUsed`. A replacement's rows act so where the frames that they name have lost what the file brings anew. A
--- refusal leaves the book as it was. A trial tells what would become of each row of a file, and changes nothing.
-use Rattle.std.specs.Prelude.{ℕ, suc, ◌==◌, Bool, true, false, not, ◌&&◌, List, [], ◌∷◌, length, nat_le, nat_lt, Option, Some, None, is_some, Result, Ok, Err, ⊤}
+-- or is `LabelUsed`. A replacement's rows act so where the frames that they name have lost what the file brings anew; where
+-- it is whole, all the supplier's frames have. A refusal leaves the book as it was. A trial tells what would become of each
+-- row of a file, and changes nothing.
+use Rattle.std.specs.Prelude.{ℕ, suc, ◌==◌, Bool, true, false, not, ◌&&◌, if◌then◌else◌, List, [], ◌∷◌, length, map, nat_le, nat_lt, Option, Some, None, is_some, Result, Ok, Err, ⊤}
 use Rattle.std.specs.List.{list_any}
 use Rattle.std.specs.Option.{option_and_then}
 use Rattle.fr_base.specs.Refusing.{◌>>=◌, ◌>>◌, ◌or◌, refuse◌when◌}
@@ -18,7 +19,7 @@ use Rattle.fr_base.specs.Checks.{check}
 use Rattle.fr_base.specs.Channels.{has_channel}
 use Rattle.fr_base.specs.Cluster.{Cluster, keys_of}
 use Rattle.fr_base.specs.Layouts.{LayoutData, has_signal, with_signal, without_signal, admits_signal}
-use Rattle.fr_base.specs.ImportRows.{rows_of_body, all_rows_of_body}
+use Rattle.fr_base.specs.ImportRows.{header_of_body, rows_of_body, all_rows_of_body}
 use Rattle.fr_base.specs.Queries.{reply}
 use Rattle.fr_base.specs.Names.{same_text}
 use Rattle.fr_base.specs.Book.{Holder, Frame, Variant, Kept, Book, Sender, file_of, empty_variant, held_by_node, own, own_grants, granted, placements_of, schedule_of}
@@ -32,6 +33,8 @@ use Rattle.fr_base.specs.declared.answer.Answer.{Answer}
 use Rattle.fr_base.specs.declared.answer.Answer.TheVariants as answer
 use Rattle.fr_base.specs.declared.refusal.Refusal.{Refusal}
 use Rattle.fr_base.specs.declared.refusal.Refusal.TheVariants.{UnknownKey, LabelUsed, NoVariant, Released, NotReleased, TooDeep, NoSupplier, NoNode, NoFrame, NoSignal, NoPlacement, Exists, NodeDiffers, NotGranted, InUse, Limit, Taken, CellTaken, KeyTaken}
+use Rattle.fr_base.specs.declared.import.Header.{Header}
+use Rattle.fr_base.specs.declared.import.Header.TheVariants.{Frames, Placements, Signals}
 use Rattle.fr_base.specs.declared.import.Row.{Row}
 use Rattle.fr_base.specs.declared.import.Row.TheVariants as row
 use Rattle.fr_base.specs.declared.import.RowRead.{RowRead}
@@ -40,6 +43,8 @@ use Rattle.fr_base.specs.declared.actor.Actor.TheVariants.{Integrator, Supplier}
 use Rattle.fr_base.specs.declared.request.Request.{Request}
 use Rattle.fr_base.specs.declared.request.Command.{Command}
 use Rattle.fr_base.specs.declared.request.Command.TheVariants.{Common, AddSupplier, SetKey, AddNode, Rows}
+use Rattle.fr_base.specs.declared.beginning.Beginning.{Beginning}
+use Rattle.fr_base.specs.declared.beginning.Beginning.TheVariants.{Empty, From, Flat}
 use Rattle.fr_base.specs.declared.request.CommonCommand.{CommonCommand}
 use Rattle.fr_base.specs.declared.request.CommonCommand.TheVariants.{OpenVariant, Release}
 use Rattle.fr_base.specs.declared.request.Change.{Change}
@@ -47,6 +52,8 @@ use Rattle.fr_base.specs.declared.request.Change.TheVariants.{Grant, Revoke, Fra
 use Rattle.fr_base.specs.declared.request.FrameChange.{FrameChange}
 use Rattle.fr_base.specs.declared.request.FrameChange.TheVariants.{Add, Drop, Place, Unplace, AddSignal, DropSignal}
 use Rattle.fr_base.specs.declared.request.Import.{Import}
+use Rattle.fr_base.specs.declared.request.Manner.{Manner}
+use Rattle.fr_base.specs.declared.request.Manner.TheVariants as manner
 use Rattle.fr_base.specs.declared.request.Replacement.{Replacement}
 use Rattle.fr_base.specs.declared.request.Trial.{Trial}
 use Rattle.fr_base.specs.declared.answer.FateRow.{FateRow}
@@ -60,10 +67,15 @@ with_variant b v variant = record b { variants = insert b.variants v variant }
 
 -- ---- the integrator's commands, common to all suppliers
 
--- the variant that a new one begins as: an empty one, or one with all rows of a released parent, and one deeper
-unfoldable pub begun : Book → Option Name → Result Variant Refusal
-begun b None = Ok empty_variant
-begun b (Some parent) = do
+-- the variant that a new one begins as: an empty one; one with all rows of a released parent, and one deeper; or, opened flat, one with
+-- all rows of a released variant, and without a parent
+unfoldable pub begun : Book → Beginning Name → Result Variant Refusal
+begun b Empty = Ok empty_variant
+begun b (Flat from) = do
+  variant ← get b.variants from or NoVariant
+  refuse NotReleased when not variant.released
+  Ok (record variant { parent = None; depth = 1; released = false })
+begun b (From parent) = do
   variant ← get b.variants parent or NoVariant
   refuse NotReleased when not variant.released
   refuse TooDeep when nat_le MAX_DEPTH variant.depth
@@ -71,8 +83,8 @@ begun b (Some parent) = do
 
 -- OpenVariant: an open variant. Release: the variant is frozen.
 unfoldable pub common : Book → CommonCommand → Result Book Refusal
-common b (OpenVariant v parent) = do
-  variant ← begun b parent
+common b (OpenVariant v beginning) = do
+  variant ← begun b beginning
   refuse Exists when contains b.variants v
   refuse Limit when nat_le MAX_VARIANTS (len b.variants)
   Ok (with_variant b v variant)
@@ -299,13 +311,19 @@ import p b i (Some kept) = do
 
 -- ---- a replacement
 
--- What becomes of what stands at a row's frame, before the rows act: a frame that is there loses its placements where the
--- rows are placements, and its signals where they are signals.
-unfoldable pub freed : Row → Option Frame → Fate Frame
-freed (row.AddFrame f n) (Some frame) = Becomes frame
-freed (row.Place f n q) (Some frame) = Becomes (record frame { placements = empty })
-freed (row.AddSignal f signal) (Some frame) = Becomes (record frame { signals = [] })
-freed row None = Gone
+-- the kind of a row, as a file's header tells it
+abbrev pub kind_of_row : Row → Header
+kind_of_row (row.AddFrame f n) = Frames
+kind_of_row (row.Place f n q) = Placements
+kind_of_row (row.AddSignal f signal) = Signals
+
+-- What becomes of what stands at a frame that rows of this kind name, before the rows act: a frame that is there loses its placements
+-- where they are placements, and its signals where they are signals.
+unfoldable pub freed : Header → Option Frame → Fate Frame
+freed Frames (Some frame) = Becomes frame
+freed Placements (Some frame) = Becomes (record frame { placements = empty })
+freed Signals (Some frame) = Becomes (record frame { signals = [] })
+freed kind None = Gone
 
 -- the frame that a row names
 abbrev pub frame_of_row : Row → Name
@@ -315,7 +333,7 @@ frame_of_row (row.AddSignal f signal) = f
 
 -- the frames after the frame of a row was freed; a refused row names none
 unfoldable pub free_row : Name → Result Row Refusal → Table owned Frame → Table owned Frame
-free_row s (Ok row) frames = settle frames (s, frame_of_row row) (freed row (get frames (s, frame_of_row row)))
+free_row s (Ok row) frames = settle frames (s, frame_of_row row) (freed (kind_of_row row) (get frames (s, frame_of_row row)))
 free_row s (Err refusal) frames = frames
 
 -- and after those of all rows were
@@ -323,9 +341,43 @@ unfoldable pub free_rows : Name → List RowRead → Table owned Frame → Table
 free_rows s [] frames = frames
 free_rows s (read ∷ rest) frames = free_rows s rest (free_row s read.row frames)
 
--- the book where each frame of the variant that a row names was freed
-abbrev pub with_freed : Book → Name → Name → Variant → List RowRead → Book
-with_freed b s v variant reads = with_variant b v (record variant { frames = free_rows s reads variant.frames })
+-- whether a row names the frame together with the node
+abbrev pub names_with : Name → Name → Result Row Refusal → Bool
+names_with f n (Ok (row.AddFrame g m)) = same_text g f && same_text m n
+names_with f n (Ok (row.Place g m q)) = same_text g f && same_text m n
+names_with f n (Ok (row.AddSignal g signal)) = false
+names_with f n (Err refusal) = false
+
+-- What becomes of what stands at a frame where the file is the whole of its kind: each frame counts as one that the rows name. And below
+-- the header of frames a frame is dropped, unless a row names it together with the node that it has.
+unfoldable pub cleared : Header → List RowRead → Name → Option Frame → Fate Frame
+cleared Frames reads f (Some frame) = if list_any (λ read. names_with f frame.node read.row) reads then Becomes frame else Gone
+cleared Frames reads f None = Gone
+cleared Placements reads f there = freed Placements there
+cleared Signals reads f there = freed Signals there
+
+-- the frames after those of these names were cleared
+unfoldable pub clear_frames : Name → Header → List RowRead → List Name → Table owned Frame → Table owned Frame
+clear_frames s kind reads [] frames = frames
+clear_frames s kind reads (f ∷ rest) frames = clear_frames s kind reads rest (settle frames (s, f) (cleared kind reads f (get frames (s, f))))
+
+-- the names of the supplier's frames
+abbrev pub frame_names : Name → Table owned Frame → List Name
+frame_names s frames = map (λ row. row.0.1) (own s frames).rows
+
+-- the frames after all the supplier's were cleared; where no kind is given, none was
+unfoldable pub clear_all : Name → Option Header → List RowRead → Table owned Frame → Table owned Frame
+clear_all s None reads frames = frames
+clear_all s (Some kind) reads frames = clear_frames s kind reads (frame_names s frames) frames
+
+-- the kind of which a file is the whole, if it is one
+abbrev pub whole_of : Bool → Option Header → Option Header
+whole_of true header = header
+whole_of false header = None
+
+-- the book where first all frames of the variant were cleared, if the file is the whole of a kind, and then each that a row names was freed
+abbrev pub with_freed : Book → Name → Name → Variant → Option Header → List RowRead → Book
+with_freed b s v variant whole reads = with_variant b v (record variant { frames = free_rows s reads (clear_all s whole reads variant.frames) })
 
 -- What a row of a replacement does: a row of frames leaves a frame that is there with this node, and else adds it; the others do what
 -- those of an import do.
@@ -348,22 +400,22 @@ unfoldable pub replaced : Book → ℕ → Result Book RefusedAt → Outcome
 replaced b count (Ok after) = record { book = after; answer = answer.Replaced count }
 replaced b count (Err fault) = record { book = b; answer = answer.RefusedRow fault.line fault.refusal }
 
--- A replacement: its variant is there and open, and its bytes are within the limit. First each frame that a row names is freed, and then
--- the rows act.
+-- A replacement: its variant is there and open, and its bytes are within the limit. First each frame that a row names is freed, or each
+-- of the supplier's where the file is whole, and then the rows act.
 unfoldable pub replace : Params → Book → Replacement → Result Outcome Refusal
 replace p b r = do
   variant ← get b.variants r.variant or NoVariant
   refuse Released when variant.released
   refuse Limit when nat_lt MAX_IMPORT_BYTES (length r.body)
   Ok (replaced b (length (rows_of_body p r.body))
-      (replace_rows p (with_freed b r.supplier r.variant variant (rows_of_body p r.body)) r.supplier r.variant (rows_of_body p r.body)))
+      (replace_rows p (with_freed b r.supplier r.variant variant (whole_of r.whole (header_of_body r.body)) (rows_of_body p r.body)) r.supplier r.variant (rows_of_body p r.body)))
 
 -- ---- a trial
 
 -- what a row of a file does, as an import or as a replacement
-abbrev pub try_row : Params → Bool → Book → Name → Name → Row → Result Book Refusal
-try_row p true b s v row = replace_row p b s v row
-try_row p false b s v row = act_row p b s v row
+abbrev pub try_row : Params → Manner → Book → Name → Name → Row → Result Book Refusal
+try_row p (manner.Replace whole) b s v row = replace_row p b s v row
+try_row p manner.Import b s v row = act_row p b s v row
 
 -- what becomes of a row, and the rows after it; a refused row changes nothing
 unfoldable pub fate_of : {B : Type 0} → B → ℕ → Result B Refusal → B × FateRow
@@ -371,16 +423,16 @@ fate_of before line (Ok after) = (after, record { line = line; refusal = None })
 fate_of before line (Err refusal) = (before, record { line = line; refusal = Some refusal })
 
 -- what becomes of the rows in turn, each on the rows that those before it left
-unfoldable pub fates_of : Params → Bool → Book → Name → Name → List RowRead → List FateRow
-fates_of p replaces b s v [] = []
-fates_of p replaces b s v (read ∷ rest) =
-    (fate_of b read.line (read.row >>= try_row p replaces b s v)).1
-    ∷ fates_of p replaces (fate_of b read.line (read.row >>= try_row p replaces b s v)).0 s v rest
+unfoldable pub fates_of : Params → Manner → Book → Name → Name → List RowRead → List FateRow
+fates_of p how b s v [] = []
+fates_of p how b s v (read ∷ rest) =
+    (fate_of b read.line (read.row >>= try_row p how b s v)).1
+    ∷ fates_of p how (fate_of b read.line (read.row >>= try_row p how b s v)).0 s v rest
 
--- the book on which the first row acts: in that of a replacement the frames that its rows name are freed
-abbrev pub tried : Bool → Book → Name → Name → Variant → List RowRead → Book
-tried true b s v variant reads = with_freed b s v variant reads
-tried false b s v variant reads = b
+-- the book on which the first row acts: in that of a replacement the frames that its rows name are freed, or all where it is whole
+abbrev pub tried : Manner → Book → Name → Name → Variant → Option Header → List RowRead → Book
+tried (manner.Replace whole) b s v variant header reads = with_freed b s v variant (whole_of whole header) reads
+tried manner.Import b s v variant header reads = b
 
 -- A trial: its variant is there and open, and its bytes are within the limit. What becomes of each row is told, and the book stays.
 unfoldable pub try : Params → Book → Trial → Result Outcome Refusal
@@ -391,7 +443,7 @@ try p b t = do
   Ok (record {
     book = b;
     answer = answer.Report false (shows.Fates
-        (fates_of p t.replaces (tried t.replaces b t.supplier t.variant variant (rows_of_body p t.body)) t.supplier t.variant (all_rows_of_body p t.body)));
+        (fates_of p t.manner (tried t.manner b t.supplier t.variant variant (header_of_body t.body) (rows_of_body p t.body)) t.supplier t.variant (all_rows_of_body p t.body)));
   })
 
 -- ---- the step

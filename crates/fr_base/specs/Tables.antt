@@ -1,6 +1,6 @@
 -- Table: rows in the order of their keys, no two rows with one key. What stands at a key, a row put in, a row taken
 -- out, the rows that pass a test.
-use Rattle.std.specs.Prelude.{ℕ, Bool, not, T, List, [], ◌∷◌, map, length, filter, Option, is_some}
+use Rattle.std.specs.Prelude.{ℕ, Bool, not, T, List, [], ◌∷◌, map, length, filter, Option, Some, None, is_some}
 use Rattle.std.specs.declared.cmp.Ordering.{Ordering}
 use Rattle.std.specs.Ordering.{eq_by_cmp}
 use Rattle.std.specs.Cmp.{IsTotalOrder}
@@ -61,6 +61,11 @@ remove {o = o} t k = only (λ j _. not (eq_by_cmp o.compare k j)) t
 pub data Fate (V : Type 0) : Type 0 where
   Becomes : V → Fate V
   Gone : Fate V
+
+-- what stands where this became of it
+abbrev pub left_by : {V : Type 0} → Fate V → Option V
+left_by (Becomes v) = Some v
+left_by Gone = None
 
 -- the table where the row at a key had this fate
 unfoldable pub settle : {K V : Type 0} {o : Order K} → Table o V → K → Fate V → Table o V

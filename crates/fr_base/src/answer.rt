@@ -49,6 +49,8 @@ pub enum ReportRows {
     Layout(Rows<SignalRow>),
     /// How full each slot and channel is, by slot and channel.
     Load(Rows<LoadRow>),
+    /// A variant's grants, frames, placements, signals and greatest gaps: by what they are, then by their keys.
+    Seen(Rows<SeenRow>),
     /// Where a frame may still be placed, by slot, channels and base.
     Room(Rows<Placement>),
     /// A part of the frames as records of a file, by supplier and frame.
@@ -114,6 +116,7 @@ impl ReportRows {
             ReportRows::Gaps(_) => "gaps",
             ReportRows::Layout(_) => "layout",
             ReportRows::Load(_) => "load",
+            ReportRows::Seen(_) => "rows",
             ReportRows::Room(_) => "room",
             ReportRows::FrameRecords(_) => "export_frames",
             ReportRows::PlacementRecords(_) => "export_placements",
@@ -296,7 +299,7 @@ pub struct DifferenceRow {
     pub row: SeenRow,
 }
 
-/// A row of a variant, as a difference tells it.
+/// A row of a variant.
 #[derive(Clone, Copy, PartialEq, Eq)]
 pub enum SeenRow {
     /// A node holds a slot and channel.

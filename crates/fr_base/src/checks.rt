@@ -6,9 +6,10 @@ ghost use Rattle.fr_base.specs.Refusing.{refuse◌when◌};
 ghost use Rattle.fr_base.specs.Changes.{in_rows};
 ghost use Rattle.fr_base.specs.declared.request.Request.TheVariants as request;
 ghost use Rattle.fr_base.specs.Cycles.{is_repetition};
-ghost use Rattle.fr_base.specs.Checks.{asking, has_repetition, is_integrator, is_of_room, check, key, name, cycles, slot, channel, channels, placement, signal, parent_name};
+ghost use Rattle.fr_base.specs.Checks.{asking, has_repetition, is_integrator, is_of_room, check, key, name, cycles, slot, channel, channels, placement, signal, beginning};
 
 use crate::actor::Actor;
+use crate::beginning::Beginning;
 use crate::body::{Body, BodyRef};
 use crate::channel::{Channel, Channels};
 use crate::cycles::CycleSet;
@@ -20,8 +21,8 @@ use crate::query::{Query, QueryReader};
 use crate::refusal::Refusal;
 use crate::report::Report;
 use crate::request::{
-    Change, Checked, Command, CommonCommand, FrameChange, Import, Replacement, Request, RowsChange,
-    Trial,
+    Change, Checked, Command, CommonCommand, FrameChange, Import, Manner, Replacement, Request,
+    RowsChange, Trial,
 };
 use crate::signal::{Order, Signal};
 use crate::slot::Slot;
@@ -37,7 +38,7 @@ pub fn check<'a>(
     ensures { result ≡ check params.now actor.now request.now }
 {
     match request {
-        Request::OpenVariant { variant, parent } => open_variant(actor, variant, parent),
+        Request::OpenVariant { variant, beginning } => open_variant(actor, variant, beginning),
         Request::Release { variant } => release(actor, variant),
         Request::AddSupplier { supplier, key } => add_supplier(actor, supplier, key),
         Request::SetKey { supplier, key } => set_key(actor, supplier, key),
@@ -103,12 +104,16 @@ pub fn check<'a>(
             label,
             body,
         } => import(actor, variant, label, body),
-        Request::Replace { variant, body } => replace(actor, variant, body),
+        Request::Replace {
+            variant,
+            whole,
+            body,
+        } => replace(actor, variant, *whole, body),
         Request::Try {
             variant,
-            replaces,
+            manner,
             body,
-        } => trial(actor, variant, *replaces, body),
+        } => trial(actor, variant, *manner, body),
         Request::Query(asked) => query(params, actor, asked),
     }
 }
@@ -117,14 +122,14 @@ pub fn check<'a>(
 fn open_variant(
     actor: &Actor,
     variant: &Text,
-    parent: &Option<Text>,
+    begins: &Beginning<Text>,
 ) -> Result<Checked<'static>, Refusal>
     ensures { (p : Params)
-        → result ≡ check p actor.now (request.OpenVariant variant.now parent.now) }
+        → result ≡ check p actor.now (request.OpenVariant variant.now begins.now) }
 {
     integrator(actor)?;
-    let (variant, parent) = (name(variant)?, parent_name(parent)?);
-    Ok(common(CommonCommand::OpenVariant { variant, parent }))
+    let (variant, beginning) = (name(variant)?, beginning(begins)?);
+    Ok(common(CommonCommand::OpenVariant { variant, beginning }))
 }
 
 #[tactic(auto, unfolding(crate::proofs::ChecksLemmas::checks_open))]
@@ -313,14 +318,21 @@ fn import<'a>(
 }
 
 #[tactic(auto, unfolding(crate::proofs::ChecksLemmas::checks_open))]
-fn replace<'a>(actor: &Actor, variant: &Text, body: &'a Body) -> Result<Checked<'a>, Refusal>
-    ensures { (p : Params) → result ≡ check p actor.now (request.Replace variant.now body.now) }
+fn replace<'a>(
+    actor: &Actor,
+    variant: &Text,
+    whole: bool,
+    body: &'a Body,
+) -> Result<Checked<'a>, Refusal>
+    ensures { (p : Params)
+        → result ≡ check p actor.now (request.Replace variant.now whole body.now) }
 {
     let (supplier, variant) = (asking(actor)?, name(variant)?);
     let body = BodyRef::of(body);
     Ok(Checked::Replace(Replacement {
         supplier,
         variant,
+        whole,
         body,
     }))
 }
@@ -329,18 +341,18 @@ fn replace<'a>(actor: &Actor, variant: &Text, body: &'a Body) -> Result<Checked<
 fn trial<'a>(
     actor: &Actor,
     variant: &Text,
-    replaces: bool,
+    manner: Manner,
     body: &'a Body,
 ) -> Result<Checked<'a>, Refusal>
     ensures { (p : Params)
-        → result ≡ check p actor.now (request.Try variant.now replaces body.now) }
+        → result ≡ check p actor.now (request.Try variant.now manner body.now) }
 {
     let (supplier, variant) = (asking(actor)?, name(variant)?);
     let body = BodyRef::of(body);
     Ok(Checked::Try(Trial {
         supplier,
         variant,
-        replaces,
+        manner,
         body,
     }))
 }
@@ -558,14 +570,15 @@ pub(crate) fn placement(
     })
 }
 
-// The name of the parent, if there is to be one.
+// What a new variant begins with: the name of a released variant, or none.
 #[tactic(auto, unfolding(crate::proofs::ChecksLemmas::checks_open))]
-fn parent_name(parent: &Option<Text>) -> Result<Option<Name>, Refusal>
-    ensures { result ≡ parent_name parent.now }
+fn beginning(begins: &Beginning<Text>) -> Result<Beginning<Name>, Refusal>
+    ensures { result ≡ beginning begins.now }
 {
-    match parent {
-        Some(text) => Ok(Some(name(text)?)),
-        None => Ok(None),
+    match begins {
+        Beginning::Empty => Ok(Beginning::Empty),
+        Beginning::From(text) => Ok(Beginning::From(name(text)?)),
+        Beginning::Flat(text) => Ok(Beginning::Flat(name(text)?)),
     }
 }
 

@@ -24,6 +24,9 @@ pub struct Field {
     pub name: &'static str,
     /// Its kind.
     pub kind: Kind,
+    /// The name of another field that it needs. It is given only where that is given: a field is
+    /// given where it is there, and is neither null nor `false`.
+    pub needs: Option<&'static str>,
 }
 
 /// The form of a request.
@@ -35,19 +38,34 @@ pub struct Form {
     pub fields: &'static [Field],
 }
 
-// A form: its word, and its fields, each a kind and a name.
+// A form: its word, and its fields, each a kind and a name, and where it needs another field the
+// name of that.
 macro_rules! form {
-    ($word:literal $(, $kind:ident $name:literal)*) => {
+    ($word:literal $(, $kind:ident $name:literal $(with $other:literal)?)*) => {
         Form {
             word: $word,
-            fields: &[$(Field { name: $name, kind: Kind::$kind }),*],
+            fields: &[$(Field {
+                name: $name,
+                kind: Kind::$kind,
+                needs: other!($($other)?),
+            }),*],
         }
+    };
+}
+
+// The field that a field needs, if it needs one.
+macro_rules! other {
+    () => {
+        None
+    };
+    ($other:literal) => {
+        Some($other)
     };
 }
 
 // The forms of all requests, in the order in which they are listed.
 const TABLE: &[Form] = &[
-    form!("open_variant", Text "variant", TextOrNull "from"),
+    form!("open_variant", Text "variant", TextOrNull "from", Flag "flat" with "from"),
     form!("release", Text "variant"),
     form!("add_supplier", Text "supplier", Text "key"),
     form!("set_key", Text "supplier", Text "key"),
@@ -70,8 +88,8 @@ const TABLE: &[Form] = &[
     ),
     form!("drop_signal", Text "variant", Text "frame", Text "signal"),
     form!("import", Text "variant", Text "label", Text "body"),
-    form!("replace", Text "variant", Text "body"),
-    form!("try", Text "variant", Text "body", Flag "replace"),
+    form!("replace", Text "variant", Text "body", Flag "whole"),
+    form!("try", Text "variant", Text "body", Flag "replace", Flag "whole" with "replace"),
     form!("cluster"),
     form!("variants"),
     form!("nodes"),
@@ -81,6 +99,7 @@ const TABLE: &[Form] = &[
     form!("schedule", Text "variant"),
     form!("gaps", Text "variant"),
     form!("load", Text "variant"),
+    form!("rows", Text "variant"),
     form!("layout", Text "variant", Text "frame"),
     form!("room", Text "variant", Text "frame", Number "repetition"),
     form!("export_frames", Text "variant", Number "part"),

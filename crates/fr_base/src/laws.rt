@@ -7,12 +7,14 @@ ghost use Rattle.fr_base.specs.ExportParts.{AllRecordsAreTold, ExportHasParts, E
 ghost use Rattle.fr_base.specs.ReplacingLaws.{ReplacedLeavesTheRest};
 ghost use Rattle.fr_base.specs.RoomLaws.{RefusedRoomRefuses, RoomIsTold, ToldRoomFits, ToldRoomIsInOrder, ToldRoomIsPlace};
 ghost use Rattle.fr_base.specs.ReplacedLaws.{ReplacedIsFiled, SameFileChangesNothing};
+ghost use Rattle.fr_base.specs.WholeLaws.{TakenIsSent, WholeExportChangesNothing, WholeIsFiled};
 ghost use Rattle.fr_base.specs.ExportedLaws.{ExportIsImported, OwnExportChangesNothing};
 
 mod edits;
 mod fates;
 mod keys;
 mod loads;
+mod openings;
 mod queries;
 mod rooms;
 mod runs;
@@ -24,7 +26,11 @@ pub use fates::{
 };
 pub use keys::{key_stays, set_key_changes_one_key, set_key_is_done};
 pub use loads::{load_counts_the_schedule, load_shows_each_lane, load_shows_own_lanes};
-pub use queries::{difference_is_told, inventory_is_told, load_is_told, query_changes_nothing};
+pub use openings::{flat_is_first, opened_is_alike};
+pub use queries::{
+    difference_is_of_rows, difference_is_told, inventory_is_told, load_is_told,
+    query_changes_nothing, rows_are_told,
+};
 pub use rooms::{no_room_where_released, refused_room_refuses_each};
 pub use runs::{available_run_is_steps, runs_are_one};
 
@@ -107,7 +113,8 @@ pub fn bad_variant_is_bad_name()
     ensures { BadVariantIsBadName }
 {}
 
-/// A replacement that was carried out changes no more than the frames that its file names: all else is as before.
+/// A replacement that was carried out changes no more than the frames that its file names: all else is as before. A whole
+/// one clears the supplier's other frames.
 pub fn replaced_leaves_the_rest()
     ensures { ReplacedLeavesTheRest }
 {}
@@ -120,6 +127,23 @@ pub fn replaced_is_filed()
 /// The file of a replacement, sent again, is answered the same and changes nothing.
 pub fn same_file_changes_nothing()
     ensures { SameFileChangesNothing }
+{}
+
+/// After a whole replacement the supplier's frames are exactly what its file says, below each header.
+pub fn whole_is_filed()
+    ensures { WholeIsFiled }
+{}
+
+/// After a whole replacement in a sound book, what is taken is what was sent: the export of its kind has the rows of its file
+/// and no others, each once.
+pub fn taken_is_sent()
+    ensures { TakenIsSent }
+{}
+
+/// In a sound book part 0 of an open variant's own export, where it has all records, sent there as a whole replacement,
+/// changes nothing.
+pub fn whole_export_changes_nothing()
+    ensures { WholeExportChangesNothing }
 {}
 
 /// In a sound book a part of an open variant's own export, sent there as a replacement, changes nothing.

@@ -1,5 +1,5 @@
 //! What a query asks, and how the names and numbers in it are read.
-ghost use Rattle.fr_base.specs.QueryNames.{IsQueryRead, IsReportRead};
+ghost use Rattle.fr_base.specs.QueryNames.{IsQueryRead};
 
 use crate::report::Report;
 
@@ -65,38 +65,6 @@ impl<N, M> Query<N, M> {
                 let variant = reader.read_name(variant)?;
                 let from = reader.read_name(from)?;
                 Ok(Query::Difference { variant, from })
-            }
-        }
-    }
-}
-
-impl<N, M> Report<N, M> {
-    // The same report, with the names and numbers that the reader makes of its own.
-    #[tactic(auto, unfolding(crate::specs::QueryNames::IsReportRead))]
-    fn read<A: Drop, E: Drop, R: QueryReader<N, M, A, E>>(&self, reader: &R) -> Result<Report<A>, E>
-        ensures { IsReportRead (R.reads reader.now) (R.counts reader.now) self.now result }
-    {
-        match self {
-            Report::Grants => Ok(Report::Grants),
-            Report::Frames => Ok(Report::Frames),
-            Report::Schedule => Ok(Report::Schedule),
-            Report::Gaps => Ok(Report::Gaps),
-            Report::Layout { frame } => {
-                let frame = reader.read_name(frame)?;
-                Ok(Report::Layout { frame })
-            }
-            Report::Load => Ok(Report::Load),
-            Report::Room { frame, repetition } => {
-                let frame = reader.read_name(frame)?;
-                let repetition = reader.read_number(repetition)?;
-                Ok(Report::Room { frame, repetition })
-            }
-            Report::Export { header, part } => {
-                let part = reader.read_number(part)?;
-                Ok(Report::Export {
-                    header: *header,
-                    part,
-                })
             }
         }
     }

@@ -1,5 +1,6 @@
 //! Who asks what: requests as they were sent, and the same with checked values.
 use crate::actor::Actor;
+use crate::beginning::Beginning;
 use crate::body::{Body, BodyRef};
 use crate::channel::Channel;
 use crate::key::Key;
@@ -15,7 +16,7 @@ pub enum Request {
     /// The integrator opens a variant: empty, or with all rows of a released one.
     OpenVariant {
         variant: Text,
-        parent: Option<Text>,
+        beginning: Beginning<Text>,
     },
     /// The integrator freezes a variant.
     Release {
@@ -103,15 +104,17 @@ pub enum Request {
         label: Text,
         body: Body,
     },
-    /// A supplier sends the rows of a file in place of what the frames that it names have: all of them, or none.
+    /// A supplier sends the rows of a file: all of them, or none. They stand in place of what the frames
+    /// that the file names have. Where it is `whole`, they stand in place of what all its frames have.
     Replace {
         variant: Text,
+        whole: bool,
         body: Body,
     },
     /// A supplier asks what would become of each row of a file, as an import or as a replacement, and nothing is changed.
     Try {
         variant: Text,
-        replaces: bool,
+        manner: Manner,
         body: Body,
     },
     /// The integrator or a supplier asks what the register holds, and nothing is changed.
@@ -124,7 +127,7 @@ impl Drop for Request {
         match self {
             Request::OpenVariant {
                 variant: _,
-                parent: _,
+                beginning: _,
             } => {}
             Request::Release { variant: _ } => {}
             Request::AddSupplier {
@@ -197,16 +200,27 @@ impl Drop for Request {
             } => {}
             Request::Replace {
                 variant: _,
+                whole: _,
                 body: _,
             } => {}
             Request::Try {
                 variant: _,
-                replaces: _,
+                manner: _,
                 body: _,
             } => {}
             Request::Query(_) => {}
         }
     }
+}
+
+/// How the rows of a file act.
+#[derive(Clone, Copy, Debug, PartialEq, Eq)]
+pub enum Manner {
+    /// As those of an import: what they bring is new.
+    Import,
+    /// As those of a replacement: they stand in place of what the frames that the file names have, or,
+    /// where it is `whole`, of what all the supplier's frames have.
+    Replace { whole: bool },
 }
 
 /// A request and who asks it.
@@ -236,9 +250,14 @@ pub enum Command {
 #[derive(Clone, Copy, PartialEq, Eq)]
 pub enum CommonCommand {
     /// The variant is opened: empty, or with all rows of a released one.
-    OpenVariant { variant: Name, parent: Option<Name> },
+    OpenVariant {
+        variant: Name,
+        beginning: Beginning<Name>,
+    },
     /// The variant is frozen.
-    Release { variant: Name },
+    Release {
+        variant: Name,
+    },
 }
 
 /// A change of one supplier's rows in a variant.
@@ -301,6 +320,8 @@ pub struct Import<'a> {
 pub struct Replacement<'a> {
     pub supplier: Name,
     pub variant: Name,
+    /// Whether the file stands in place of what all the supplier's frames have.
+    pub whole: bool,
     pub body: BodyRef<'a>,
 }
 
@@ -309,8 +330,8 @@ pub struct Replacement<'a> {
 pub struct Trial<'a> {
     pub supplier: Name,
     pub variant: Name,
-    /// Whether it is tried as a replacement, or else as an import.
-    pub replaces: bool,
+    /// As what it is tried.
+    pub manner: Manner,
     pub body: BodyRef<'a>,
 }
 

@@ -8,12 +8,8 @@ use Rattle.clap.proofs.WalkLemmas.{one_text-rows}
 use Rattle.clap.specs.Matches.{ReadsOne, one_text}
 use Rattle.clap.specs.Walk.{Row, Text, one_of, rows_of}
 use Rattle.clap.specs.declared.parser.matches.Found.{Found}
-use Rattle.fr_base.specs.declared.report.Report.{Report}
-use Rattle.fr_base.specs.declared.query.Inventory.TheVariants.{Cluster, Variants, Nodes}
-use Rattle.fr_base.specs.declared.query.Query.{Query}
-use Rattle.fr_base.specs.declared.query.Query.TheVariants.{Register as OfRegister, Variant as OfVariant, Difference as OfTwo}
-use Rattle.fr_base.specs.declared.report.Report.TheVariants.{Grants, Frames, Schedule, Gaps, Layout, Load, Room, Export}
-use Rattle.fr_cli.specs.Words.{HasNames, HasNumber, HasReport, IsJobIn, IsJobOf, IsNumberIn, max_number, word_of_delivery, word_of_job, word_of_report}
+use Rattle.fr_cli.specs.Reports.{asked_with}
+use Rattle.fr_cli.specs.Words.{HasNumber, IsJobIn, IsJobOf, IsNumberIn, word_of_delivery}
 use Rattle.fr_cli.specs.declared.delivery.DeliveryKind.{DeliveryKind}
 use Rattle.fr_cli.specs.declared.delivery.DeliveryKind.TheVariants.{Import as ByLabel, Replacement, Trial}
 use Rattle.fr_cli.specs.declared.words.Job.{Job}
@@ -65,29 +61,13 @@ apart a b differ same = let no : true ≡ false = sym ((bytes_eq-Decides a b).1 
 pub numbers_of : (rows : List Row) (job : Job) → IsJobOf job (codes "serve") rows
     → ((port : ℕ) × HasNumber (codes "PORT") 1 65535 rows port) × ((count : ℕ) × HasNumber (codes "count") 1 1000000 rows count)
     × ((seconds : ℕ) × HasNumber (codes "seconds") 1 3600 rows seconds)
+unfolding asked_with
 numbers_of rows (Serve db port count seconds) is = ((port, is.2), (count, is.3), (seconds, is.4))
 numbers_of rows Run is = apart _ _ refl is
 numbers_of rows (Create db config) is = apart _ _ refl is.0
 numbers_of rows (Migrate db) is = apart _ _ refl is.0
 numbers_of rows (Ask db) is = apart _ _ refl is.0
-numbers_of rows (ReportOn db query) is = asked query.query is.0
-  where
-    report : {X : Type 0} (report : Report (Bor Text) ℕ) → codes "serve" ≡ word_of_report report → X
-    report Grants same = apart _ _ refl same
-    report Frames same = apart _ _ refl same
-    report Schedule same = apart _ _ refl same
-    report Gaps same = apart _ _ refl same
-    report (Layout frame) same = apart _ _ refl same
-    report Load same = apart _ _ refl same
-    report (Room frame repetition) same = apart _ _ refl same
-    report (Export header part) same = apart _ _ refl same
-
-    asked : {X : Type 0} (query : Query (Bor Text) ℕ) → codes "serve" ≡ word_of_job query → X
-    asked (OfRegister Cluster) same = apart _ _ refl same
-    asked (OfRegister Variants) same = apart _ _ refl same
-    asked (OfRegister Nodes) same = apart _ _ refl same
-    asked (OfVariant variant of) same = report of same
-    asked (OfTwo variant from) same = apart _ _ refl same
+numbers_of rows (ReportOn db query) is = absurd is.1
 numbers_of rows (Picture db variant since supplier) is = apart _ _ refl is.0
 numbers_of rows (Deliver db delivery) is = delivered delivery.kind is.0
   where
@@ -107,81 +87,3 @@ no_server rows (Some job) none lacks = cc
 no_server rows None none (inl lacks) = λ job is. let has = (numbers_of rows job is).0 in lacks has.0 has.1
 no_server rows None none (inr (inl lacks)) = λ job is. let has = (numbers_of rows job is).1 in lacks has.0 has.1
 no_server rows None none (inr (inr lacks)) = λ job is. let has = (numbers_of rows job is).2 in lacks has.0 has.1
-
--- the words for a room have a repetition; without it none is asked for
-pub repetition_of : (rows : List Row) (job : Job) → IsJobOf job (codes "room") rows → (number : ℕ) × HasNumber (codes "REPETITION") 0 max_number rows number
-repetition_of rows (ReportOn db query) is = asked query.query is.0 is.2.0
-  where
-    report : (report : Report (Bor Text) ℕ) → codes "room" ≡ word_of_report report → HasReport report rows → (number : ℕ) × HasNumber (codes "REPETITION") 0 max_number rows number
-    report Grants same has = apart _ _ refl same
-    report Frames same has = apart _ _ refl same
-    report Schedule same has = apart _ _ refl same
-    report Gaps same has = apart _ _ refl same
-    report (Layout frame) same has = apart _ _ refl same
-    report Load same has = apart _ _ refl same
-    report (Room frame repetition) same has = (repetition, has.1)
-    report (Export header part) same has = apart _ _ refl same
-
-    asked : (query : Query (Bor Text) ℕ) → codes "room" ≡ word_of_job query → HasNames query rows → (number : ℕ) × HasNumber (codes "REPETITION") 0 max_number rows number
-    asked (OfRegister Cluster) same has = apart _ _ refl same
-    asked (OfRegister Variants) same has = apart _ _ refl same
-    asked (OfRegister Nodes) same has = apart _ _ refl same
-    asked (OfVariant variant of) same has = report of same has.1
-    asked (OfTwo variant from) same has = apart _ _ refl same
-repetition_of rows Run is = apart _ _ refl is
-repetition_of rows (Create db config) is = apart _ _ refl is.0
-repetition_of rows (Migrate db) is = apart _ _ refl is.0
-repetition_of rows (Serve db port count seconds) is = apart _ _ refl is.0
-repetition_of rows (Ask db) is = apart _ _ refl is.0
-repetition_of rows (Picture db variant since supplier) is = apart _ _ refl is.0
-repetition_of rows (Check file) is = apart _ _ refl is.0
-repetition_of rows (Explain word) is = apart _ _ refl is.0
-repetition_of rows (Deliver db delivery) is = delivered delivery.kind is.0
-  where
-    delivered : {X : Type 0} (kind : DeliveryKind) → codes "room" ≡ word_of_delivery kind → X
-    delivered (ByLabel label) same = apart _ _ refl same
-    delivered Replacement same = apart _ _ refl same
-    delivered (Trial replaces) same = apart _ _ refl same
-
-pub no_room : (rows : List Row) (job : Option Job) → job ≡ None → ((number : ℕ) → HasNumber (codes "REPETITION") 0 max_number rows number → ⊥) → IsJobIn job (codes "room") rows
-no_room rows (Some job) none lacks = cc
-no_room rows None none lacks = λ job is. let has = repetition_of rows job is in lacks has.0 has.1
-
--- the words for records have a part; without it none are asked for
-pub part_of : (rows : List Row) (job : Job) → IsJobOf job (codes "export") rows → (number : ℕ) × HasNumber (codes "part") 0 max_number rows number
-part_of rows (ReportOn db query) is = asked query.query is.0 is.2.0
-  where
-    report : (report : Report (Bor Text) ℕ) → codes "export" ≡ word_of_report report → HasReport report rows → (number : ℕ) × HasNumber (codes "part") 0 max_number rows number
-    report Grants same has = apart _ _ refl same
-    report Frames same has = apart _ _ refl same
-    report Schedule same has = apart _ _ refl same
-    report Gaps same has = apart _ _ refl same
-    report (Layout frame) same has = apart _ _ refl same
-    report Load same has = apart _ _ refl same
-    report (Room frame repetition) same has = apart _ _ refl same
-    report (Export header part) same has = (part, has.1)
-
-    asked : (query : Query (Bor Text) ℕ) → codes "export" ≡ word_of_job query → HasNames query rows → (number : ℕ) × HasNumber (codes "part") 0 max_number rows number
-    asked (OfRegister Cluster) same has = apart _ _ refl same
-    asked (OfRegister Variants) same has = apart _ _ refl same
-    asked (OfRegister Nodes) same has = apart _ _ refl same
-    asked (OfVariant variant of) same has = report of same has.1
-    asked (OfTwo variant from) same has = apart _ _ refl same
-part_of rows Run is = apart _ _ refl is
-part_of rows (Create db config) is = apart _ _ refl is.0
-part_of rows (Migrate db) is = apart _ _ refl is.0
-part_of rows (Serve db port count seconds) is = apart _ _ refl is.0
-part_of rows (Ask db) is = apart _ _ refl is.0
-part_of rows (Picture db variant since supplier) is = apart _ _ refl is.0
-part_of rows (Check file) is = apart _ _ refl is.0
-part_of rows (Explain word) is = apart _ _ refl is.0
-part_of rows (Deliver db delivery) is = delivered delivery.kind is.0
-  where
-    delivered : {X : Type 0} (kind : DeliveryKind) → codes "export" ≡ word_of_delivery kind → X
-    delivered (ByLabel label) same = apart _ _ refl same
-    delivered Replacement same = apart _ _ refl same
-    delivered (Trial replaces) same = apart _ _ refl same
-
-pub no_export : (rows : List Row) (job : Option Job) → job ≡ None → ((number : ℕ) → HasNumber (codes "part") 0 max_number rows number → ⊥) → IsJobIn job (codes "export") rows
-no_export rows (Some job) none lacks = cc
-no_export rows None none lacks = λ job is. let has = part_of rows job is in lacks has.0 has.1

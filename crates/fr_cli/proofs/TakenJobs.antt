@@ -1,20 +1,25 @@
 -- Words in which `clap` finds no fault ask for a job, but for those of `check` and `export` that lack an object.
-use Rattle.std.proofs.Common.{◌≡◌, ◌⊎◌, inl, inr, ℕ, Bool, true, false, ◌||◌, cond, List, [], ◌∷◌, Option, Some, None, codes, refl, sym, ap, ◌∙◌, subst}
+use Rattle.std.proofs.Common.{◌≡◌, ◌⊎◌, inl, inr, ℕ, Bool, true, false, ◌||◌, cond, List, [], ◌∷◌, Option, Some, None, Ok, codes, refl, sym, ap, ◌∙◌, subst}
 use Rattle.std.specs.Prelude.{find, option_map}
 use Rattle.std.specs.Borrow.{Bor}
 use Rattle.std.specs.Str.{bytes_eq}
 use Rattle.std.proofs.lemmas.Slice.Eq.{bytes_eq-Decides}
 use Rattle.clap.specs.Faults.{level_fault}
 use Rattle.clap.specs.Simple.{Shape, built, label_of}
-use Rattle.clap.specs.Walk.{Row, Text, answers_to, first_of, nothing_held, one_of, rows_after}
-use Rattle.fr_base.specs.declared.query.Inventory.{Inventory}
+use Rattle.clap.specs.Walk.{Row, Rule, Text, answers_to, first_of, nothing_held, one_of, rows_after}
+use Rattle.fr_base.proofs.QueryLemmas.{names_open}
+use Rattle.fr_base.specs.QueryNames.{IsQueryRead, IsReportRead}
+use Rattle.fr_base.specs.declared.import.Header.{Header}
 use Rattle.fr_base.specs.declared.query.Inventory.TheVariants.{Cluster, Variants, Nodes}
+use Rattle.fr_base.specs.declared.query.Query.{Query}
 use Rattle.fr_base.specs.declared.query.Query.TheVariants.{Register as OfRegister, Variant as OfVariant, Difference as OfTwo}
 use Rattle.fr_base.specs.declared.report.Report.{Report}
-use Rattle.fr_base.specs.declared.report.Report.TheVariants.{Grants, Frames, Schedule, Gaps, Layout, Load, Room, Export}
-use Rattle.fr_base.specs.Queries.{word_of_inventory}
+use Rattle.fr_base.specs.declared.report.Report.TheVariants.{Grants, Frames, Schedule, Gaps, Layout, Load, Rows, Room, Export}
 use Rattle.fr_cli.specs.Commands.{slotplan}
-use Rattle.fr_cli.specs.Words.{AreTaken, AskForNone, HasKind, HasNoObject, HasNumber, HasReport, IsFlagIn, IsFoundWithoutObject, IsJobFound, IsJobIn, IsJobOf, LackAnObject, max_number, word_of_delivery, word_of_report}
+use Rattle.fr_cli.specs.Reports.{Question, asked_with, of_variant, text_of_name}
+use Rattle.fr_cli.specs.Words.{AreTaken, AskForNone, HasKind, HasNoObject, HasNumber, IsAnswerable, IsFlagIn, IsFoundWithoutObject, IsJobFound, IsJobIn, IsJobOf, IsNumberAt, IsWordAt, LackAnObject, asked_by, header_in, max_number, records, word_of_delivery}
+use Rattle.fr_cli.specs.declared.reports.ArgName.{ArgName}
+use Rattle.fr_cli.specs.declared.reports.ArgName.TheVariants as arg
 use Rattle.fr_cli.specs.declared.delivery.DeliveryKind.{DeliveryKind}
 use Rattle.fr_cli.specs.declared.delivery.DeliveryKind.TheVariants.{Import as ByLabel, Replacement, Trial}
 use Rattle.fr_cli.specs.declared.delivery.Delivery.{Delivery}
@@ -71,6 +76,22 @@ Asks s = (label_of s ≡ (codes "help", [])) ⊎ OnlyLacks s
 asks : (s : Shape) → AlwaysHasJob s → Asks s
 asks s has = inr (λ rest fine none. let (j, is) = has rest fine in absurd (none j is))
 
+-- a number of any size has a word
+abbrev NumberThere : List Rule → ArgName → Type 0
+NumberThere rules name = (has_word rules (text_of_name name) ≡ true) × IsNumber rules (text_of_name name) 0 max_number
+
+-- each name and number of a report has a word, and so of a question
+abbrev MoreThere : List Rule → Report ArgName ArgName → Type 0
+MoreThere rules (Layout frame) = has_word rules (text_of_name frame) ≡ true
+MoreThere rules (Room frame number) = (has_word rules (text_of_name frame) ≡ true) × NumberThere rules number
+MoreThere rules (Export header part) = NumberThere rules part
+MoreThere rules _ = Unit {0}
+
+abbrev WordsThere : List Rule → Question → Type 0
+WordsThere rules (OfRegister inventory) = Unit {0}
+WordsThere rules (OfVariant variant report) = (has_word rules (text_of_name variant) ≡ true) × MoreThere rules report
+WordsThere rules (OfTwo variant from) = (has_word rules (text_of_name variant) ≡ true) × (has_word rules (text_of_name from) ≡ true)
+
 module _ (s : Shape) (once : s.args_override_self ≡ false) (rest : List Text) (fine : level_fault s [] nothing_held rest false [] ≡ []) where
   there : (id : Text) → has_word s.rules id ≡ true → Stands s.rules id (rows_after s.rules [] rest)
   there id has = word_stands s id rest once has fine
@@ -79,15 +100,53 @@ module _ (s : Shape) (once : s.args_override_self ≡ false) (rest : List Text) 
       → (n : ℕ) × HasNumber id low high (rows_after s.rules [] rest) n
   count id low high has parser = number_stands s.rules id (rows_after s.rules [] rest) low high (there id has) parser
 
-  report_job : (report : Report (Bor Text) ℕ) → s.name ≡ word_of_report report → HasReport report (rows_after s.rules [] rest)
-      → has_word s.rules (codes "DB") ≡ true
-      → has_word s.rules (codes "VARIANT") ≡ true → HasJob s.name (rows_after s.rules [] rest)
-  report_job report named has db variant =
+  -- the text of an argument that stands there
+  text_at : (name : ArgName) → has_word s.rules (text_of_name name) ≡ true → (text : Bor Text) × IsWordAt (rows_after s.rules [] rest) name (Ok text)
+  text_at name has = let at = there (text_of_name name) has in (lent at.text, at.first)
+
+  number_at : (name : ArgName) → NumberThere s.rules name → (n : ℕ) × IsNumberAt (rows_after s.rules [] rest) name (Ok n)
+  number_at name has = count (text_of_name name) 0 max_number has.0 has.1
+
+  -- the report with its words
+  report_filled : (report : Report ArgName ArgName) → MoreThere s.rules report
+      → (filled : Report (Bor Text) ℕ) × IsReportRead (IsWordAt (rows_after s.rules [] rest)) (IsNumberAt (rows_after s.rules [] rest)) report (Ok filled)
+  unfolding names_open
+  report_filled Grants has = (Grants, refl)
+  report_filled Frames has = (Frames, refl)
+  report_filled Schedule has = (Schedule, refl)
+  report_filled Gaps has = (Gaps, refl)
+  report_filled Load has = (Load, refl)
+  report_filled Rows has = (Rows, refl)
+  report_filled (Layout frame) has = let of = text_at frame has in (Layout of.0, (Ok of.0, of.1, refl))
+  report_filled (Room frame number) has =
+      let of = text_at frame has.0 in
+      let every = number_at number has.1 in
+      (Room of.0 every.0, (Ok of.0, of.1, (Ok every.0, every.1, refl)))
+  report_filled (Export header part) has = let of = number_at part has in (Export header of.0, (Ok of.0, of.1, refl))
+
+  -- the query with its words
+  query_filled : (question : Question) → WordsThere s.rules question
+      → (filled : Query (Bor Text) ℕ) × IsQueryRead (IsWordAt (rows_after s.rules [] rest)) (IsNumberAt (rows_after s.rules [] rest)) question (Ok filled)
+  unfolding names_open
+  query_filled (OfRegister inventory) has = (OfRegister inventory, refl)
+  query_filled (OfVariant variant report) has =
+      let of = text_at variant has.0 in
+      let asked = report_filled report has.1 in
+      (OfVariant of.0 asked.0, (Ok of.0, of.1, (Ok asked.0, asked.1, refl)))
+  query_filled (OfTwo variant from) has =
+      let of = text_at variant has.0 in
+      let other = text_at from has.1 in
+      (OfTwo of.0 other.0, (Ok of.0, of.1, (Ok other.0, other.1, refl)))
+
+  asked_job : (question : Question) → asked_by s.name (rows_after s.rules [] rest) ≡ Some question → has_word s.rules (codes "DB") ≡ true
+      → WordsThere s.rules question → HasJob s.name (rows_after s.rules [] rest)
+  asked_job question asks db words =
       let at = there (codes "DB") db in
-      let of = there (codes "VARIANT") variant in
+      let filled = query_filled question words in
       let who = first_of (codes "supplier") (rows_after s.rules [] rest) in
-      let query : Inquiry = record { query = OfVariant (lent of.text) report; supplier = lent_if who } in
-      (job.Report (lent at.text) query, (named, at.first, ((of.first, has), lent_back who)))
+      let inquiry : Inquiry = record { query = filled.0; supplier = lent_if who } in
+      let is = subst (λ (q : Option Question). IsAnswerable q (rows_after s.rules [] rest) filled.0) (sym asks) filled.1 in
+      (job.Report (lent at.text) inquiry, (at.first, is, lent_back who))
 
   deliver_job : (kind : DeliveryKind) → s.name ≡ word_of_delivery kind → HasKind kind (rows_after s.rules [] rest)
       → has_word s.rules (codes "DB") ≡ true
@@ -127,46 +186,10 @@ serve_job s once named db port ports many counts long seconds rest fine =
     let time = count s once rest fine (codes "seconds") 1 3600 long seconds in
     (job.Serve (lent at.text) number.0 connections.0 time.0, (named, at.first, number.1, connections.1, time.1))
 
-inventory_job : (inventory : Inventory) (s : Shape) → s.args_override_self ≡ false → s.name ≡ word_of_inventory inventory
-    → has_word s.rules (codes "DB") ≡ true
-    → AlwaysHasJob s
-inventory_job inventory s once named db rest fine =
-    let at = there s once rest fine (codes "DB") db in
-    let who = first_of (codes "supplier") (rows_after s.rules [] rest) in
-    (job.Report (lent at.text) (record { query = OfRegister inventory; supplier = lent_if who }), (named, at.first, (tt, lent_back who)))
-
-diff_job : (s : Shape) → s.args_override_self ≡ false → s.name ≡ codes "diff" → has_word s.rules (codes "DB") ≡ true
-    → has_word s.rules (codes "FROM") ≡ true
-    → has_word s.rules (codes "TO") ≡ true → AlwaysHasJob s
-diff_job s once named db from to rest fine =
-    let at = there s once rest fine (codes "DB") db in
-    let before = there s once rest fine (codes "FROM") from in
-    let after = there s once rest fine (codes "TO") to in
-    let who = first_of (codes "supplier") (rows_after s.rules [] rest) in
-    let query : Inquiry = record { query = OfTwo (lent after.text) (lent before.text); supplier = lent_if who } in
-    (job.Report (lent at.text) query, (named, at.first, ((after.first, before.first), lent_back who)))
-
--- a report of a variant, of which nothing else is to be named
-plain_job : (report : Report (Bor Text) ℕ) → ((rows : List Row) → HasReport report rows) → (s : Shape) → s.args_override_self ≡ false
-    → s.name ≡ word_of_report report
-    → has_word s.rules (codes "DB") ≡ true → has_word s.rules (codes "VARIANT") ≡ true → AlwaysHasJob s
-plain_job report has s once named db variant rest fine = report_job s once rest fine report named (has (rows_after s.rules [] rest)) db variant
-
-layout_job : (s : Shape) → s.args_override_self ≡ false → s.name ≡ codes "layout" → has_word s.rules (codes "DB") ≡ true
-    → has_word s.rules (codes "VARIANT") ≡ true
-    → has_word s.rules (codes "FRAME") ≡ true → AlwaysHasJob s
-layout_job s once named db variant frame rest fine =
-    let of = there s once rest fine (codes "FRAME") frame in
-    report_job s once rest fine (Layout (lent of.text)) named of.first db variant
-
-room_job : (s : Shape) → s.args_override_self ≡ false → s.name ≡ codes "room" → has_word s.rules (codes "DB") ≡ true
-    → has_word s.rules (codes "VARIANT") ≡ true
-    → has_word s.rules (codes "FRAME") ≡ true → has_word s.rules (codes "REPETITION") ≡ true
-    → IsNumber s.rules (codes "REPETITION") 0 max_number → AlwaysHasJob s
-room_job s once named db variant frame every parser rest fine =
-    let of = there s once rest fine (codes "FRAME") frame in
-    let repetition = count s once rest fine (codes "REPETITION") 0 max_number every parser in
-    report_job s once rest fine (Room (lent of.text) repetition.0) named (of.first, repetition.1) db variant
+-- a report's subcommand
+report_job : (question : Question) (s : Shape) → s.args_override_self ≡ false → ((rows : List Row) → asked_by s.name rows ≡ Some question)
+    → has_word s.rules (codes "DB") ≡ true → WordsThere s.rules question → AlwaysHasJob s
+report_job question s once asks db words rest fine = asked_job s once rest fine question (asks (rows_after s.rules [] rest)) db words
 
 picture_job : (s : Shape) → s.args_override_self ≡ false → s.name ≡ codes "picture" → has_word s.rules (codes "DB") ≡ true
     → has_word s.rules (codes "VARIANT") ≡ true
@@ -206,15 +229,19 @@ explain_job s named rest fine =
 
 -- `export` has one where its rows are named
 export_job : (s : Shape) → s.args_override_self ≡ false → s.name ≡ codes "export" → has_word s.rules (codes "DB") ≡ true
-    → has_word s.rules (codes "VARIANT") ≡ true
-    → has_word s.rules (codes "part") ≡ true → IsNumber s.rules (codes "part") 0 max_number → OnlyLacks s
-export_job s once named db variant part parser rest fine none = inr (
-  named,
-  (λ header has.
-      let number = count s once rest fine (codes "part") 0 max_number part parser in
-      let (j, is) = report_job s once rest fine (Export header number.0) named (has, number.1) db variant in
-      none j is),
-)
+    → ((header : Header) → WordsThere s.rules (records header)) → OnlyLacks s
+export_job s once named db words rest fine none = inr (named, go (header_in (rows_after s.rules [] rest)) refl)
+  where
+    asks : (o : Option Header) → header_in (rows_after s.rules [] rest) ≡ o → asked_by s.name (rows_after s.rules [] rest) ≡ option_map records o
+    asks o is =
+        ap (λ (b : Bool). cond b (option_map records (header_in (rows_after s.rules [] rest))) (asked_with s.name)) ((bytes_eq-Decides s.name (codes "export")).1 named)
+        ∙ ap (option_map records) is
+
+    go : (o : Option Header) → header_in (rows_after s.rules [] rest) ≡ o → header_in (rows_after s.rules [] rest) ≡ None
+    go None is = is
+    go (Some header) is =
+        let (j, has) = asked_job s once rest fine (records header) (asks (Some header) is) db (words header) in
+        absurd (none j has)
 
 -- and `check` where its file is
 check_job : (s : Shape) → s.name ≡ codes "check" → OnlyLacks s
@@ -228,24 +255,26 @@ data EachAsks : List Shape → Type 0 where
 
 -- in the order of the command line
 all_ask : EachAsks (built slotplan).subs
+unfolding asked_with
 all_ask =
     asks _ (λ rest fine. (job.Run, refl))
     and asks _ (create_job _ refl refl refl refl)
     and asks _ (migrate_job _ refl refl refl)
     and asks _ (serve_job _ refl refl refl refl refl refl refl refl refl)
     and asks _ (ask_job _ refl refl refl)
-    and asks _ (inventory_job Cluster _ refl refl refl)
-    and asks _ (inventory_job Variants _ refl refl refl)
-    and asks _ (inventory_job Nodes _ refl refl refl)
-    and asks _ (diff_job _ refl refl refl refl refl)
-    and asks _ (plain_job Grants (λ rows. tt) _ refl refl refl refl)
-    and asks _ (plain_job Frames (λ rows. tt) _ refl refl refl refl)
-    and asks _ (plain_job Schedule (λ rows. tt) _ refl refl refl refl)
-    and asks _ (plain_job Gaps (λ rows. tt) _ refl refl refl refl)
-    and asks _ (plain_job Load (λ rows. tt) _ refl refl refl refl)
-    and asks _ (layout_job _ refl refl refl refl refl)
-    and asks _ (room_job _ refl refl refl refl refl refl refl)
-    and inr (export_job _ refl refl refl refl refl refl)
+    and asks _ (report_job (OfRegister Cluster) _ refl (λ rows. refl) refl tt)
+    and asks _ (report_job (OfRegister Variants) _ refl (λ rows. refl) refl tt)
+    and asks _ (report_job (OfRegister Nodes) _ refl (λ rows. refl) refl tt)
+    and asks _ (report_job (OfTwo arg.To arg.From) _ refl (λ rows. refl) refl (refl, refl))
+    and asks _ (report_job (of_variant Grants) _ refl (λ rows. refl) refl (refl, tt))
+    and asks _ (report_job (of_variant Frames) _ refl (λ rows. refl) refl (refl, tt))
+    and asks _ (report_job (of_variant Schedule) _ refl (λ rows. refl) refl (refl, tt))
+    and asks _ (report_job (of_variant Gaps) _ refl (λ rows. refl) refl (refl, tt))
+    and asks _ (report_job (of_variant Load) _ refl (λ rows. refl) refl (refl, tt))
+    and asks _ (report_job (of_variant Rows) _ refl (λ rows. refl) refl (refl, tt))
+    and asks _ (report_job (of_variant (Layout arg.Frame)) _ refl (λ rows. refl) refl (refl, refl))
+    and asks _ (report_job (of_variant (Room arg.Frame arg.Repetition)) _ refl (λ rows. refl) refl (refl, (refl, (refl, refl))))
+    and inr (export_job _ refl refl refl (λ header. (refl, (refl, refl))))
     and asks _ (picture_job _ refl refl refl refl)
     and asks _ (import_job _ refl refl refl refl refl refl refl)
     and asks _ (replace_job _ refl refl refl refl refl refl)

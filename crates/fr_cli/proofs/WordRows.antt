@@ -1,17 +1,17 @@
 -- Words of the command line, computed: their job and their numbers, or the fault for which they are refused.
-use Rattle.std.proofs.Common.{◌≡◌, ◌∙◌, [], ◌∷◌, ap, codes, inl, inr, option_map, refl, subst, sym, Bor, Global, List, None, ℕ, Some, String}
+use Rattle.std.proofs.Common.{◌≡◌, ◌∙◌, [], ◌∷◌, ap, codes, inl, inr, option_map, refl, subst, sym, Bor, Global, List, None, ℕ, Some, Ok, String}
 use Rattle.clap.proofs.OnLiterals.{clap_on_literals}
 use Rattle.clap.specs.Walk.{one_of}
 use Rattle.clap.specs.Words.{IsAmong, fault_of, subcommand_of}
 use Rattle.clap.specs.declared.error.kind.ErrorKind.TheVariants as kinds
-use Rattle.fr_base.specs.declared.import.Header.{Header}
-use Rattle.fr_base.specs.declared.import.Header.TheVariants.{Frames, Placements, Signals}
+use Rattle.fr_base.proofs.QueryLemmas.{names_open}
 use Rattle.fr_base.specs.declared.query.Query.TheVariants.{Variant as OfVariant, Difference as OfTwo}
 use Rattle.fr_base.specs.declared.report.Report.TheVariants.{Schedule}
 use Rattle.fr_cli.specs.Commands.{slotplan}
-use Rattle.fr_cli.specs.Words.{AskFor, IsFaultOf, IsFileOf, LackAnObject, word_of_header}
+use Rattle.fr_cli.specs.Reports.{asked_with}
+use Rattle.fr_cli.specs.Words.{AskFor, IsFaultOf, IsFileOf, LackAnObject}
 use Rattle.fr_cli.specs.declared.text_file.TextFile.{TextFile}
-use Rattle.fr_cli.specs.declared.text_file.TextFile.TheVariants.{Config, Requests, Rows, Target}
+use Rattle.fr_cli.specs.declared.text_file.TextFile.TheVariants.{Config, Requests, Rows, Target, Register}
 use Rattle.fr_cli.specs.declared.words.Job.TheVariants as job
 use Rattle.fr_cli.specs.declared.words.WordFault.TheVariants.{Usage}
 
@@ -122,15 +122,16 @@ is_no_job = refl
 
 schedule_is_asked : (db variant : Bor (List ℕ)) → db.now ≡ codes "car.db" → variant.now ≡ codes "v1"
     → AskFor (codes "schedule" ∷ codes "car.db" ∷ codes "v1" ∷ []) (job.Report db (record { query = OfVariant variant Schedule; supplier = None }))
-unfolding clap_on_literals
-schedule_is_asked db variant is of = (refl, ap (λ (t : List ℕ). Some t) (sym is), ((ap (λ (t : List ℕ). Some t) (sym of), tt), refl))
+unfolding clap_on_literals asked_with names_open
+schedule_is_asked db variant is of =
+    (ap (λ (t : List ℕ). Some t) (sym is), (Ok variant, ap (λ (t : List ℕ). Some t) (sym of), (Ok Schedule, refl, refl)), refl)
 
 -- what is compared is the second variant, with the first
 difference_is_asked : (db variant from : Bor (List ℕ)) → db.now ≡ codes "car.db" → variant.now ≡ codes "v2" → from.now ≡ codes "v1"
     → AskFor (codes "diff" ∷ codes "car.db" ∷ codes "v1" ∷ codes "v2" ∷ []) (job.Report db (record { query = OfTwo variant from; supplier = None }))
-unfolding clap_on_literals
+unfolding clap_on_literals asked_with names_open
 difference_is_asked db variant from is of since =
-    (refl, ap (λ (t : List ℕ). Some t) (sym is), ((ap (λ (t : List ℕ). Some t) (sym of), ap (λ (t : List ℕ). Some t) (sym since)), refl))
+    (ap (λ (t : List ℕ). Some t) (sym is), (Ok variant, ap (λ (t : List ℕ). Some t) (sym of), (Ok from, ap (λ (t : List ℕ). Some t) (sym since), refl)), refl)
 
 -- a request for help is no mistake
 help_is_no_usage : (text : String Global) → IsFaultOf (codes "--help" ∷ []) (Usage text) → ⊥
@@ -141,21 +142,16 @@ help_is_no_usage text (kind, inr (inl among), is) = elim (subst (IsAmong kind) w
 ]
 help_is_no_usage text (kind, inr (inr none), is) = let no : [] ≡ kinds.DisplayHelp ∷ [] = sym none.1 ∙ wants_help in cc
 
--- which rows `export` has
-no_header : (header : Header) → Some (codes "nodes") ≡ Some (word_of_header header) → ⊥
-no_header Frames e = let no : Some (codes "nodes") ≡ Some (codes "frames") = e in cc
-no_header Placements e = let no : Some (codes "nodes") ≡ Some (codes "placements") = e in cc
-no_header Signals e = let no : Some (codes "nodes") ≡ Some (codes "signals") = e in cc
-
 rows_are_lacking : LackAnObject (codes "export" ∷ codes "car.db" ∷ codes "v1" ∷ codes "nodes" ∷ [])
 unfolding clap_on_literals
-rows_are_lacking = inr (refl, no_header)
+rows_are_lacking = inr (refl, refl)
 
 no_file : (file : TextFile) → IsFileOf file [] → ⊥
 no_file (Config path) is = let no : None ≡ Some path.now = is.0 in cc
 no_file (Requests path) is = let no : None ≡ Some path.now = is.1 in cc
 no_file (Rows path) is = let no : None ≡ Some path.now = is.2 in cc
 no_file (Target path) is = let no : None ≡ Some path.now = is.3 in cc
+no_file (Register path) is = let no : None ≡ Some path.now = is.4 in cc
 
 file_is_lacking : LackAnObject (codes "check" ∷ [])
 unfolding clap_on_literals
@@ -164,7 +160,7 @@ file_is_lacking = inl (refl, no_file)
 -- a job's words lack nothing
 file_is_named : LackAnObject (codes "check" ∷ codes "car.toml" ∷ []) → ⊥
 unfolding clap_on_literals
-file_is_named (inl lacks) = lacks.1 (Config (record { ref_ptr = (0, 0); now = codes "car.toml" })) (refl, refl, refl, refl)
+file_is_named (inl lacks) = lacks.1 (Config (record { ref_ptr = (0, 0); now = codes "car.toml" })) (refl, refl, refl, refl, refl)
 file_is_named (inr lacks) = let no : codes "check" ≡ codes "export" = lacks.0 in cc
 
 schedule_lacks_nothing : LackAnObject (codes "schedule" ∷ codes "car.db" ∷ codes "v1" ∷ []) → ⊥

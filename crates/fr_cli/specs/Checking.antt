@@ -1,6 +1,6 @@
 -- Check: what is said of a file, and how that ends. It is a cluster file; or none, and the line begins with the word of its fault. Or its
 -- lines are requests, or its records rows, and how many is said; or each fault of them has a line. Or it cannot be read, or memory is wanting.
--- What is said of the path of a request over HTTP.
+-- What is said of the path of a request over HTTP, and of a register.
 use Rattle.std.specs.Prelude.{◌≡◌, ◌⊎◌, ◌++◌, ◌-◌, ℕ, true, false, List, length, codes, decimal, string_bytes, Result, Ok, Err}
 use Rattle.std.specs.Global.{Global, Vec}
 use Rattle.std.specs.List.{flat_map}
@@ -20,6 +20,8 @@ use Rattle.fr_cli.specs.declared.failure.Failure.{Failure}
 use Rattle.fr_cli.specs.declared.failure.Failure.TheVariants as failure
 use Rattle.fr_cli.specs.declared.fault.Fault.{Fault}
 use Rattle.fr_cli.specs.declared.fault.Fault.TheVariants.{NoMemory}
+use Rattle.fr_cli.specs.declared.hindrance.Hindrance.{Hindrance}
+use Rattle.fr_cli.specs.declared.hindrance.Hindrance.TheVariants as way
 use Rattle.fr_cli.specs.declared.text_file.TextFile.{TextFile}
 use Rattle.fr_cli.specs.declared.text_file.TextFile.TheVariants as of
 
@@ -66,15 +68,47 @@ IsCheckedPath path (Err (failure.Refused line)) = (is_fine_path path ≡ false) 
     × (line.items ≡ fault_lines_of faults)
 IsCheckedPath path (Err (failure.Fault fault)) = fault ≡ NoMemory
 
+-- what is said of a hindrance
+abbrev pub text_of_hindrance : Hindrance → List ℕ
+text_of_hindrance way.Missing = codes "there is no such file"
+text_of_hindrance way.Hidden = codes "you may not look at it: a folder of its path is shut to you"
+text_of_hindrance way.NoFile = codes "it is a folder, a pipe or a device"
+text_of_hindrance way.SecondName = codes "it has a second name, a hard link"
+text_of_hindrance way.Unreadable = codes "you may not read it"
+text_of_hindrance way.Unwritable = codes "you may not write it, as each command does"
+text_of_hindrance way.ShutFolder = codes "its log is not there, and you may not make it in the folder"
+text_of_hindrance way.InUse = codes "another program has it: a server, another command, or another SQLite"
+text_of_hindrance way.Journal = codes "a -journal lies beside it: another SQLite was ended as it changed the file"
+text_of_hindrance way.LogNoFile = codes "its log is a symbolic link, a folder or a pipe"
+text_of_hindrance way.LogSecondName = codes "its log has a second name, a hard link"
+text_of_hindrance way.ShutLog = codes "you may not read its log, or not write it"
+text_of_hindrance way.LogInUse = codes "another program has its log"
+text_of_hindrance way.NoDatabase = codes "it is no SQLite database"
+text_of_hindrance way.NoRegister = codes "it is a database without a register"
+text_of_hindrance way.OtherSchema = codes "its schema is not 2: slotplan migrate takes one of schema 1"
+text_of_hindrance way.Damaged = codes "the database is damaged, or its tables and rows make no register"
+
+-- a line for each
+abbrev pub hindrance_lines_of : List Hindrance → List ℕ
+hindrance_lines_of found = flat_map (λ hindrance. word_line (text_of_hindrance hindrance)) found
+
+-- Nothing was found in the way of using a register, and nothing is said; or each thing that was is a line; or memory was wanting.
+abbrev pub IsCheckedRegister : (List Hindrance → Type 0) → Result (Vec ℕ) Failure → Type 0
+IsCheckedRegister WereFound (Ok text) = (found : List Hindrance) × WereFound found × (are_none found ≡ true) × (text.items ≡ hindrance_lines_of found)
+IsCheckedRegister WereFound (Err (failure.RefusedRows text)) = ⊥
+IsCheckedRegister WereFound (Err (failure.Refused line)) = (found : List Hindrance) × WereFound found × (are_none found ≡ false) × (line.items ≡ hindrance_lines_of found)
+IsCheckedRegister WereFound (Err (failure.Fault fault)) = fault ≡ NoMemory
+
 -- The file at the path cannot be read; or bytes were read of it, of which this is so, and checked so.
 abbrev pub IsCheckedText : Readings → List ℕ → (List ℕ → Type 0) → (List ℕ → Result (Vec ℕ) Failure → Type 0) → Result (Vec ℕ) Failure → Type 0
 IsCheckedText read path WasRead IsCheckedAs done = ((fault : Fault) × (done ≡ Err (failure.Fault fault)) × IsUnread read path fault)
     ⊎ ((bytes : List ℕ) × WasRead bytes × IsCheckedAs bytes done)
 
--- Such a file is checked so: all of it, or of a file of rows a front. Of a path no file is read.
+-- Such a file is checked so: all of it, or of a file of rows a front. Of a path and of a register no text is read.
 abbrev pub IsCheckedFile : Readings → TextFile → Result (Vec ℕ) Failure → Type 0
 IsCheckedFile read (of.Config path) done = IsCheckedText read path.now (read.whole max_config path.now) IsChecked done
 IsCheckedFile read (of.Requests path) done = IsCheckedText read path.now (read.whole max_script path.now)
     (λ bytes. AreChecked (AreToldOfRequests bytes) (fine_requests bytes)) done
 IsCheckedFile read (of.Rows path) done = IsCheckedText read path.now (read.front max_rows path.now) (λ bytes. AreChecked (AreToldOfRows bytes) fine_rows) done
 IsCheckedFile read (of.Target path) done = read.none × IsCheckedPath path.now done
+IsCheckedFile read (of.Register path) done = read.none × IsCheckedRegister (read.hindered path.now) done

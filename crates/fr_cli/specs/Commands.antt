@@ -1,4 +1,5 @@
 -- Command line: the words that the program takes, as `clap` reads them, a subcommand for each job with its words.
+use Rattle.std.specs.List.{fold}
 use Rattle.std.specs.Prelude.{◌∷◌, [], ◌≡◌, Some, pos, true, false, codes}
 use Rattle.clap.specs.Simple.{new_shape}
 use Rattle.clap.specs.Words.{App, Rule, Text, app_of, new_app, new_rule, with_rule, with_subcommand}
@@ -6,6 +7,11 @@ use Rattle.clap.specs.declared.builder.action.ArgAction.TheVariants.{Set, SetTru
 use Rattle.clap.specs.declared.builder.command.Command.{Command}
 use Rattle.clap.specs.declared.builder.command.Command.TheViews.{out-Command as fields_of}
 use Rattle.clap.specs.declared.builder.value_parser.ValueParser.TheVariants.{Signed}
+use Rattle.fr_base.specs.declared.query.Query.TheVariants.{Register as OfRegister, Variant as OfVariant, Difference as OfTwo}
+use Rattle.fr_base.specs.declared.report.Report.{Report}
+use Rattle.fr_base.specs.declared.report.Report.TheVariants.{Layout, Room}
+use Rattle.fr_cli.specs.Reports.{Question, reports, text_of_name}
+use Rattle.fr_cli.specs.declared.reports.ArgName.{ArgName}
 
 -- a word that must stand at its place
 abbrev pub word : Text → Rule
@@ -58,23 +64,38 @@ ask = with_rule (new_app (codes "ask")) (word (codes "DB"))
 abbrev pub supplier : Rule
 supplier = record (new_rule (codes "supplier")) { long = Some (codes "supplier"); action = Some Set; value_names = 1 }
 
--- `cluster`, `variants` and `nodes`
-abbrev pub inventory : Text → App
-inventory name = with_rule (with_rule (new_app name) (word (codes "DB"))) supplier
+-- a word that is a name in what is asked
+abbrev pub argument : ArgName → Rule
+argument name = word (text_of_name name)
 
-abbrev pub diff : App
-diff = with_rule (with_rule (with_rule (with_rule (new_app (codes "diff")) (word (codes "DB"))) (word (codes "FROM"))) (word (codes "TO"))) supplier
+-- a word that is a number in what is asked
+abbrev pub numeral : ArgName → Rule
+numeral name = record (argument name) { parser = Some (Signed (pos 0) (pos 4294967295)) }
 
--- `grants`, `frames`, `schedule`, `gaps` and `load`
-abbrev pub report : Text → App
-report name = with_rule (with_rule (with_rule (new_app name) (word (codes "DB"))) (word (codes "VARIANT"))) supplier
+-- the supplier whose frame it is
+abbrev pub owner : Rule
+owner = record supplier { required = true }
 
-abbrev pub layout : App
-layout = with_rule (report (codes "layout")) (word (codes "FRAME"))
+-- the supplier that reads a report: where room is asked for it is the one whose frame it is
+abbrev pub reader : Question → Rule
+reader (OfVariant _ (Room _ _)) = owner
+reader _ = supplier
 
--- a cycle repetition
-abbrev pub repetition : Rule
-repetition = record (word (codes "REPETITION")) { parser = Some (Signed (pos 0) (pos 4294967295)) }
+-- a subcommand with a word for each name and number of a report
+abbrev pub with_more_words : App → Report ArgName ArgName → App
+with_more_words app (Layout frame) = with_rule app (argument frame)
+with_more_words app (Room frame repetition) = with_rule (with_rule app (argument frame)) (numeral repetition)
+with_more_words app _ = app
+
+-- a subcommand with a word for each name and number of what is asked
+abbrev pub with_words : App → Question → App
+with_words app (OfRegister _) = app
+with_words app (OfVariant variant report) = with_more_words (with_rule app (argument variant)) report
+with_words app (OfTwo variant from) = with_rule (with_rule app (argument from)) (argument variant)
+
+-- the subcommand of a report
+abbrev pub report : Text × Question → App
+report row = with_rule (with_words (with_rule (new_app row.0) (word (codes "DB"))) row.1) (reader row.1)
 
 -- a text that may be named, as a file, a path or another variant
 abbrev pub named : Text → Rule
@@ -94,14 +115,6 @@ part = record (new_rule (codes "part")) {
   defaults = codes "0" ∷ [];
   parser = Some (Signed (pos 0) (pos 4294967295));
 }
-
--- the supplier whose frame it is
-abbrev pub owner : Rule
-owner = record supplier { required = true }
-
-abbrev pub room : App
-room = with_rule (with_rule (with_rule (with_rule (with_rule (new_app (codes "room")) (word (codes "DB"))) (word (codes "VARIANT")))
-    (word (codes "FRAME"))) repetition) owner
 
 abbrev pub export : App
 export = with_rule (with_rule (with_rule (with_rule (with_rule (new_app (codes "export")) (word (codes "DB"))) (word (codes "VARIANT")))
@@ -123,9 +136,18 @@ abbrev pub try_words : App
 try_words = with_rule (with_rule (with_rule (with_rule (with_rule (new_app (codes "try")) (word (codes "DB"))) (word (codes "KEY")))
     (word (codes "VARIANT"))) (word (codes "FILE"))) (flag (codes "replace"))
 
-abbrev pub check : App
-check = with_rule (with_rule (with_rule (with_rule (new_app (codes "check")) (free_word (codes "CONFIG"))) (named (codes "requests")))
+-- `check`, with the texts that it may take
+abbrev pub check_texts : App
+check_texts = with_rule (with_rule (with_rule (with_rule (new_app (codes "check")) (free_word (codes "CONFIG"))) (named (codes "requests")))
     (named (codes "rows"))) (named (codes "path"))
+
+-- `check`, with the texts that it may take
+abbrev pub check_texts : App
+check_texts = with_rule (with_rule (with_rule (with_rule (new_app (codes "check")) (free_word (codes "CONFIG"))) (named (codes "requests")))
+    (named (codes "rows"))) (named (codes "path"))
+
+abbrev pub check : App
+check = with_rule check_texts (named (codes "register"))
 
 abbrev pub explain : App
 explain = with_rule (new_app (codes "explain")) (free_word (codes "WORD"))
@@ -137,14 +159,20 @@ unasked name = record {
   subs = [];
 }
 
+-- the program with one more report
+abbrev pub with_report : App → Text × Question → App
+with_report program row = with_subcommand program (report row).top
+
+-- the program with a subcommand for each report
+abbrev pub with_reports : App → App
+with_reports program = fold with_report program reports
+
 -- the program, with one subcommand for each job
 abbrev pub slotplan : App
-slotplan = with_subcommand (with_subcommand (with_subcommand (with_subcommand (with_subcommand (with_subcommand (with_subcommand (with_subcommand (with_subcommand (with_subcommand (with_subcommand
-    (with_subcommand (with_subcommand (with_subcommand (with_subcommand (with_subcommand (with_subcommand (with_subcommand (with_subcommand (with_subcommand
-    (with_subcommand (with_subcommand (with_subcommand (unasked (codes "slotplan"))
-    run.top) create.top) migrate.top) serve.top) ask.top) (inventory (codes "cluster")).top) (inventory (codes "variants")).top) (inventory (codes "nodes")).top) diff.top)
-    (report (codes "grants")).top) (report (codes "frames")).top) (report (codes "schedule")).top) (report (codes "gaps")).top) (report (codes "load")).top)
-    layout.top) room.top) export.top) picture.top) import_words.top) replace_words.top) try_words.top) check.top) explain.top
+slotplan = with_subcommand (with_subcommand (with_subcommand (with_subcommand (with_subcommand (with_subcommand (with_subcommand
+    (with_reports (with_subcommand (with_subcommand (with_subcommand (with_subcommand (with_subcommand (unasked (codes "slotplan"))
+    run.top) create.top) migrate.top) serve.top) ask.top))
+    export.top) picture.top) import_words.top) replace_words.top) try_words.top) check.top) explain.top
 
 -- The command is read so, and has no argument that its subcommands have too.
 abbrev pub IsReadAs : App → Command → Type 0

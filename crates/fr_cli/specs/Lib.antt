@@ -5,6 +5,7 @@ pub mod Output
 pub mod OutputLaws
 pub mod Answering
 pub mod Laws
+pub mod Reports
 pub mod Commands
 pub mod Words
 pub mod Texts

@@ -1,20 +1,22 @@
 -- Program's words: which job the words of the command line name, and which number a word is. When `clap` takes them; and
 -- why they are refused: they ask for help, have another fault, or name no job.
-use Rattle.std.specs.Prelude.{◌≡◌, ◌≢◌, ◌≤◌, ◌⊎◌, [], ℕ, Bool, true, false, List, None, Option, Some, codes, option_map, ⊤}
+use Rattle.std.specs.Prelude.{◌≡◌, ◌≢◌, ◌≤◌, ◌⊎◌, [], ℕ, Bool, true, false, if◌then◌else◌, List, None, Option, Some, codes, option_and_then, option_map, Result, Ok, MatchResult, ⊤}
+use Rattle.std.specs.Str.{bytes_eq}
 use Rattle.std.specs.Borrow.{Bor}
 use Rattle.std.specs.Str.Parse.{IsNumeral, digits_value, without_leading_plus}
 use Rattle.clap.specs.Walk.{Row, Text, first_of, one_of}
 use Rattle.clap.specs.Words.{IsAmong, fault_of, subcommand_of}
 use Rattle.clap.specs.declared.error.kind.ErrorKind.{ErrorKind}
 use Rattle.clap.specs.declared.error.kind.ErrorKind.TheVariants.{DisplayHelp, DisplayVersion, OutOfMemory, ValueValidation}
-use Rattle.fr_base.specs.Queries.{word_of, word_of_inventory}
+use Rattle.fr_base.specs.QueryNames.{IsQueryRead}
 use Rattle.fr_base.specs.declared.import.Header.{Header}
 use Rattle.fr_base.specs.declared.import.Header.TheVariants.{Frames, Placements, Signals}
 use Rattle.fr_base.specs.declared.query.Query.{Query}
-use Rattle.fr_base.specs.declared.query.Query.TheVariants.{Register as OfRegister, Variant as OfVariant, Difference as OfTwo}
-use Rattle.fr_base.specs.declared.report.Report.{Report}
-use Rattle.fr_base.specs.declared.report.Report.TheVariants.{Layout, Room, Export}
+use Rattle.fr_base.specs.declared.report.Report.TheVariants.{Export}
 use Rattle.fr_cli.specs.Commands.{slotplan}
+use Rattle.fr_cli.specs.Reports.{Question, asked_with, of_variant, text_of_name}
+use Rattle.fr_cli.specs.declared.reports.ArgName.{ArgName}
+use Rattle.fr_cli.specs.declared.reports.ArgName.TheVariants as arg
 use Rattle.fr_cli.specs.declared.words.Job.{Job}
 use Rattle.fr_cli.specs.declared.words.Job.TheVariants.{Run, Create, Migrate, Serve, Ask, Report as ReportOn, Picture, Deliver, Check, Explain}
 use Rattle.fr_cli.specs.declared.words.WordFault.{WordFault}
@@ -50,48 +52,41 @@ IsFlagIn flag name rows = (one_of name rows ≡ Some (codes "true") → flag ≡
 abbrev pub max_number : ℕ
 max_number = 4294967295
 
--- the word by which records are asked for
-abbrev pub word_of_header : Header → Text
-word_of_header Frames = codes "frames"
-word_of_header Placements = codes "placements"
-word_of_header Signals = codes "signals"
+-- the header of the records that are exported, if the word names one
+abbrev pub header_named : Text → Option Header
+header_named name =
+    if bytes_eq name (codes "frames") then Some Frames
+    else (if bytes_eq name (codes "placements") then Some Placements else (if bytes_eq name (codes "signals") then Some Signals else None))
 
--- The header is the one that the word names. Where none is given, it names none.
-abbrev pub IsHeaderIn : Option Header → List Row → Type 0
-IsHeaderIn (Some header) rows = Has (codes "ROWS") rows (word_of_header header)
-IsHeaderIn None rows = (header : Header) → Has (codes "ROWS") rows (word_of_header header) → ⊥
+abbrev pub header_in : List Row → Option Header
+header_in rows = option_and_then header_named (first_of (codes "ROWS") rows)
 
--- the subcommand that prints a report
-abbrev pub word_of_report : Report (Bor (List ℕ)) ℕ → Text
-word_of_report (Export header part) = codes "export"
-word_of_report report = word_of report
+-- the query for the records below a header
+abbrev pub records : Header → Question
+records header = of_variant (Export header arg.Part)
 
--- the subcommand that prints what is asked
-abbrev pub word_of_job : Query (Bor (List ℕ)) ℕ → Text
-word_of_job (OfRegister inventory) = word_of_inventory inventory
-word_of_job (OfVariant variant report) = word_of_report report
-word_of_job (OfTwo variant from) = codes "diff"
+-- What is asked with the subcommand of this name and these words. `export` asks for the records that the words name.
+abbrev pub asked_by : Text → List Row → Option Question
+asked_by name rows = if bytes_eq name (codes "export") then option_map records (header_in rows) else asked_with name
 
--- The names and numbers of a report are the words at their places.
-abbrev pub HasReport : Report (Bor (List ℕ)) ℕ → List Row → Type 0
-HasReport (Layout frame) rows = Has (codes "FRAME") rows frame.now
-HasReport (Room frame repetition) rows = Has (codes "FRAME") rows frame.now × HasNumber (codes "REPETITION") 0 max_number rows repetition
-HasReport (Export header part) rows = Has (codes "ROWS") rows (word_of_header header) × HasNumber (codes "part") 0 max_number rows part
-HasReport _ rows = ⊤
+-- The text is the word of this argument; or there is none.
+abbrev pub IsWordAt : List Row → ArgName → Result (Bor (List ℕ)) ⊤ → Type 0
+IsWordAt rows name result = MatchResult result (λ text. Has (text_of_name name) rows text.now) (λ _. first_of (text_of_name name) rows ≡ None)
+
+-- The number is the word of this argument; or that is no number, or too great.
+abbrev pub IsNumberAt : List Row → ArgName → Result ℕ ⊤ → Type 0
+IsNumberAt rows name result = MatchResult result
+    (λ number. HasNumber (text_of_name name) 0 max_number rows number)
+    (λ _. (number : ℕ) → HasNumber (text_of_name name) 0 max_number rows number → ⊥)
+
+-- The query is what is asked, with the words of its arguments for its names and numbers.
+abbrev pub IsAnswerable : Option Question → List Row → Query (Bor (List ℕ)) ℕ → Type 0
+IsAnswerable (Some question) rows query = IsQueryRead (IsWordAt rows) (IsNumberAt rows) question (Ok query)
+IsAnswerable None rows query = ⊥
 
 -- The supplier is the one that the words name, if they name one.
 abbrev pub IsOfSupplier : Option (Bor (List ℕ)) → List Row → Type 0
 IsOfSupplier supplier rows = option_map (λ name. name.now) supplier ≡ first_of (codes "supplier") rows
-
--- The names and numbers in the query are the words at their places.
-abbrev pub HasNames : Query (Bor (List ℕ)) ℕ → List Row → Type 0
-HasNames (OfRegister inventory) rows = ⊤
-HasNames (OfVariant variant report) rows = Has (codes "VARIANT") rows variant.now × HasReport report rows
-HasNames (OfTwo variant from) rows = Has (codes "TO") rows variant.now × Has (codes "FROM") rows from.now
-
--- The query is of these words, and the supplier's that is named, if one is.
-abbrev pub IsQueryIn : List Row → Inquiry → Type 0
-IsQueryIn rows inquiry = HasNames inquiry.query rows × IsOfSupplier inquiry.supplier rows
 
 -- The other variant is the one that the words name, if they name one.
 abbrev pub IsSince : Option (Bor (List ℕ)) → List Row → Type 0
@@ -103,10 +98,11 @@ Lacks name rows = first_of name rows ≡ None
 
 -- The file or the path is the one that the words name, and they name no other.
 abbrev pub IsFileOf : TextFile → List Row → Type 0
-IsFileOf (of.Config path) rows = Has (codes "CONFIG") rows path.now × Lacks (codes "requests") rows × Lacks (codes "rows") rows × Lacks (codes "path") rows
-IsFileOf (of.Requests path) rows = Lacks (codes "CONFIG") rows × Has (codes "requests") rows path.now × Lacks (codes "rows") rows × Lacks (codes "path") rows
-IsFileOf (of.Rows path) rows = Lacks (codes "CONFIG") rows × Lacks (codes "requests") rows × Has (codes "rows") rows path.now × Lacks (codes "path") rows
-IsFileOf (of.Target path) rows = Lacks (codes "CONFIG") rows × Lacks (codes "requests") rows × Lacks (codes "rows") rows × Has (codes "path") rows path.now
+IsFileOf (of.Config path) rows = Has (codes "CONFIG") rows path.now × Lacks (codes "requests") rows × Lacks (codes "rows") rows × Lacks (codes "path") rows × Lacks (codes "register") rows
+IsFileOf (of.Requests path) rows = Lacks (codes "CONFIG") rows × Has (codes "requests") rows path.now × Lacks (codes "rows") rows × Lacks (codes "path") rows × Lacks (codes "register") rows
+IsFileOf (of.Rows path) rows = Lacks (codes "CONFIG") rows × Lacks (codes "requests") rows × Has (codes "rows") rows path.now × Lacks (codes "path") rows × Lacks (codes "register") rows
+IsFileOf (of.Target path) rows = Lacks (codes "CONFIG") rows × Lacks (codes "requests") rows × Lacks (codes "rows") rows × Has (codes "path") rows path.now × Lacks (codes "register") rows
+IsFileOf (of.Register path) rows = Lacks (codes "CONFIG") rows × Lacks (codes "requests") rows × Lacks (codes "rows") rows × Lacks (codes "path") rows × Has (codes "register") rows path.now
 
 -- The file is that one. Where none is given, the words name none, or several.
 abbrev pub IsFileIn : Option TextFile → List Row → Type 0
@@ -139,7 +135,8 @@ IsJobOf (Serve db port count seconds) name rows = (name ≡ codes "serve") × Ha
     × HasNumber (codes "PORT") 1 65535 rows port × HasNumber (codes "count") 1 1000000 rows count
     × HasNumber (codes "seconds") 1 3600 rows seconds
 IsJobOf (Ask db) name rows = (name ≡ codes "ask") × Has (codes "DB") rows db.now
-IsJobOf (ReportOn db query) name rows = (name ≡ word_of_job query.query) × Has (codes "DB") rows db.now × IsQueryIn rows query
+IsJobOf (ReportOn db query) name rows = Has (codes "DB") rows db.now × IsAnswerable (asked_by name rows) rows query.query
+    × IsOfSupplier query.supplier rows
 IsJobOf (Picture db variant since supplier) name rows = (name ≡ codes "picture") × Has (codes "DB") rows db.now × Has (codes "VARIANT") rows variant.now
     × IsSince since rows × IsOfSupplier supplier rows
 IsJobOf (Deliver db delivery) name rows = (name ≡ word_of_delivery delivery.kind) × Has (codes "DB") rows db.now × IsDeliveryIn rows delivery
@@ -150,6 +147,11 @@ IsJobOf (Explain word) name rows = (name ≡ codes "explain") × (option_map (λ
 abbrev pub IsJobIn : Option Job → Text → List Row → Type 0
 IsJobIn (Some job) name rows = IsJobOf job name rows
 IsJobIn None name rows = (job : Job) → IsJobOf job name rows → ⊥
+
+-- The same of the reports alone.
+abbrev pub IsReportJobIn : Option Job → Text → List Row → Type 0
+IsReportJobIn (Some job) name rows = IsJobOf job name rows
+IsReportJobIn None name rows = (db : Bor (List ℕ)) (query : Inquiry) → IsJobOf (ReportOn db query) name rows → ⊥
 
 -- The same of the subcommand that was found, if one was.
 abbrev pub IsJobFound : Option Job → Option (Text × List Row) → Type 0
@@ -167,7 +169,7 @@ AskForNone words = IsJobFound None (subcommand_of slotplan words)
 -- The subcommand of this name has no object with these words. `check` names no file, or several. Or `export` names rows that are neither
 -- frames nor placements nor signals.
 abbrev pub HasNoObject : Text → List Row → Type 0
-HasNoObject name rows = ((name ≡ codes "check") × IsFileIn None rows) ⊎ ((name ≡ codes "export") × IsHeaderIn None rows)
+HasNoObject name rows = ((name ≡ codes "check") × IsFileIn None rows) ⊎ ((name ≡ codes "export") × (header_in rows ≡ None))
 
 -- A subcommand was found, and has no object.
 abbrev pub IsFoundWithoutObject : Option (Text × List Row) → Type 0

@@ -1,9 +1,9 @@
-//! Checks the text of a file: of a cluster, of requests, or of an import's rows; or the path of a
-//! request over HTTP.
+//! Checks the text of a file: of a cluster, of requests, or of an import's rows; the path of a
+//! request over HTTP; or whether a register can be used.
 ghost use Rattle.std.specs.Prelude.{◌≡◌, ◌++◌, IfOk, codes};
 ghost use Rattle.fr_guide.specs.RequestFile.{AreToldOfRequests};
 ghost use Rattle.fr_guide.specs.Rows.{AreToldOfRows};
-ghost use Rattle.fr_cli.specs.Checking.{AreChecked, IsChecked, IsCheckedFile, IsCheckedPath, fault_lines_of, fine_line, fine_requests, fine_rows};
+ghost use Rattle.fr_cli.specs.Checking.{AreChecked, IsChecked, IsCheckedFile, IsCheckedPath, IsCheckedRegister, fault_lines_of, fine_line, fine_requests, fine_rows, hindrance_lines_of};
 ghost use Rattle.fr_cli.specs.Endings.{word_line};
 ghost use Rattle.fr_cli.specs.Texts.{readings};
 
@@ -11,6 +11,7 @@ use crate::creating::CONFIG_BYTES;
 use crate::delivered_file::FILE_BYTES;
 use crate::failure::Failure;
 use crate::files::{read_file, read_front};
+use crate::hindrance::Hindrance;
 use crate::input::SCRIPT_BYTES;
 use crate::text_file::TextFile;
 use crate::text_files::TextFiles;
@@ -27,7 +28,8 @@ const UNTOLD: &[u8] =
     b"the register alone knows its slots, channels and cycles, and which are granted and free\n";
 
 /// A line on what the file or the path says, if it has no fault. Else it is refused: with a line on a cluster file's fault, or
-/// with a line for each fault of requests, of rows or of a path.
+/// with a line for each fault of requests, of rows or of a path. Of a register that can be used nothing is said; else it is refused,
+/// with a line for each thing that stands in the way.
 pub fn check<F: TextFiles>(
     alloc: Global,
     files: &mut F,
@@ -50,6 +52,7 @@ pub fn check<F: TextFiles>(
             check_rows(alloc, &text)
         }
         TextFile::Target { path } => check_path(alloc, path),
+        TextFile::Register { path } => check_register(alloc, files, path),
     }
 }
 
@@ -97,6 +100,30 @@ fn check_path(alloc: Global, path: &str) -> Result<Vec<u8>, Failure>
         return Ok(text.into_bytes());
     }
     Err(Failure::Refused { line: lines })
+}
+
+// Nothing, if nothing stands in the way of using the register; else, as a refusal, a line for each thing that does.
+fn check_register<F: TextFiles>(alloc: Global, files: &F, path: &str) -> Result<Vec<u8>, Failure>
+    ensures { IsCheckedRegister (F.hinders files.now path.now) result }
+{
+    let found = files.hindrances(path)?;
+    let lines = hindrance_lines(alloc, &found)?;
+    if found.is_empty() {
+        return Ok(lines);
+    }
+    Err(Failure::Refused { line: lines })
+}
+
+// What stands in the way of using a register, each on a line of its own.
+fn hindrance_lines(alloc: Global, found: &[Hindrance]) -> Result<Vec<u8>, NoMemory>
+    ensures { IfOk result (λ text. text.items ≡ hindrance_lines_of found.now) }
+{
+    let mut text = Vec::new(alloc);
+    for hindrance in found {
+        let line = fault_line(alloc, hindrance.as_str().as_bytes())?;
+        text.extend_from_slice(&line)?;
+    }
+    Ok(text)
 }
 
 // The faults of a path, each on a line of its own.

@@ -1,10 +1,14 @@
 //! The program's command line, as `clap` reads it: a subcommand for each job.
-ghost use Rattle.std.specs.Prelude.{◌≡◌, IfOk, codes, false};
-ghost use Rattle.clap.specs.Words.{Text, new_app, rule_of};
+ghost use Rattle.std.specs.Prelude.{◌≡◌, IfOk, codes, false, map};
+ghost use Rattle.std.specs.List.{fold};
+ghost use Rattle.clap.specs.Words.{App, Text, new_app, rule_of};
 ghost use Rattle.fr_cli.specs.Commands as app;
 ghost use Rattle.fr_cli.specs.Commands.{IsReadAs};
+ghost use Rattle.fr_cli.specs.Reports.{row_in, text_of_name};
 
+use crate::reports::{ArgName, ReportCommand, report_commands};
 use clap::{Arg, ArgAction, Command, value_parser};
+use fr_base::{Query, Report};
 use std::alloc::{AllocError, Global};
 
 /// The greatest port of TCP.
@@ -25,18 +29,8 @@ pub fn program<'a>(alloc: Global) -> Result<Command<'a>, AllocError>
         .subcommand(create(alloc)?)?
         .subcommand(migrate(alloc)?)?
         .subcommand(serve(alloc)?)?
-        .subcommand(ask(alloc)?)?
-        .subcommand(inventory(alloc, "cluster", CLUSTER_ABOUT, CLUSTER_HELP)?)?
-        .subcommand(inventory(alloc, "variants", VARIANTS_ABOUT, VARIANTS_HELP)?)?
-        .subcommand(inventory(alloc, "nodes", NODES_ABOUT, NODES_HELP)?)?
-        .subcommand(diff(alloc)?)?
-        .subcommand(report(alloc, "grants", GRANTS_ABOUT, GRANTS_HELP)?)?
-        .subcommand(report(alloc, "frames", FRAMES_ABOUT, FRAMES_HELP)?)?
-        .subcommand(report(alloc, "schedule", SCHEDULE_ABOUT, SCHEDULE_HELP)?)?
-        .subcommand(report(alloc, "gaps", GAPS_ABOUT, GAPS_HELP)?)?
-        .subcommand(report(alloc, "load", LOAD_ABOUT, LOAD_HELP)?)?
-        .subcommand(layout(alloc)?)?
-        .subcommand(room(alloc)?)?
+        .subcommand(ask(alloc)?)?;
+    let program = with_reports(alloc, program, report_commands())?
         .subcommand(export(alloc)?)?
         .subcommand(picture(alloc)?)?
         .subcommand(import(alloc)?)?
@@ -150,80 +144,80 @@ fn ask<'a>(alloc: Global) -> Result<Command<'a>, AllocError>
     Ok(command)
 }
 
-fn inventory<'a>(
+// The program with a subcommand for each of these reports.
+fn with_reports<'a>(
     alloc: Global,
-    name: &'a str,
-    about: &'a str,
-    help: &'a str,
+    program: Command<'a>,
+    reports: &'static [ReportCommand],
 ) -> Result<Command<'a>, AllocError>
-    ensures { IfOk result (IsReadAs (app.inventory name.entry.now)) }
+    ensures { IfOk result (λ more. (old : App) → IsReadAs old program.entry
+        → IsReadAs (fold app.with_report old (map row_in reports.now)) more) }
 {
-    let command = Command::new(alloc, name)
-        .about(about)
-        .after_help(help)
-        .arg(db(alloc))?
-        .arg(supplier(alloc))?;
+    let mut grown = program;
+    for asked in reports {
+        grown = grown.subcommand(report(alloc, asked)?)?;
+    }
+    Ok(grown)
+}
+
+// The subcommand of a report.
+fn report<'a>(alloc: Global, asked: &ReportCommand) -> Result<Command<'a>, AllocError>
+    ensures { IfOk result (IsReadAs (app.report (row_in asked.now))) }
+{
+    let command = Command::new(alloc, asked.name)
+        .about(asked.about)
+        .after_help(asked.help)
+        .arg(db(alloc))?;
+    let command = with_words(alloc, command, asked.query)?.arg(reader(alloc, asked.query))?;
     Ok(command)
 }
 
-// What differs between two variants.
-fn diff<'a>(alloc: Global) -> Result<Command<'a>, AllocError>
-    ensures { IfOk result (IsReadAs app.diff) }
-{
-    let command = Command::new(alloc, "diff")
-        .about(
-            "Prints what differs between two variants: the rows that are gone, and those that are new",
-        )
-        .after_help(DIFF_HELP)
-        .arg(db(alloc))?
-        .arg(word(
-            alloc,
-            "FROM",
-            "The variant with which the other is compared",
-        ))?
-        .arg(word(alloc, "TO", "The variant that is compared"))?
-        .arg(supplier(alloc))?;
-    Ok(command)
-}
-
-fn report<'a>(
+// The subcommand with a word for each name and number of what is asked.
+fn with_words<'a>(
     alloc: Global,
-    name: &'a str,
-    about: &'a str,
-    help: &'a str,
+    command: Command<'a>,
+    query: Query<ArgName, ArgName>,
 ) -> Result<Command<'a>, AllocError>
-    ensures { IfOk result (IsReadAs (app.report name.entry.now)) }
+    ensures { IfOk result (λ more. (a : App) → IsReadAs a command.entry
+        → IsReadAs (app.with_words a query) more) }
 {
-    let command = Command::new(alloc, name)
-        .about(about)
-        .after_help(help)
-        .arg(db(alloc))?
-        .arg(variant(alloc))?
-        .arg(supplier(alloc))?;
-    Ok(command)
+    match query {
+        Query::Register(_) => Ok(command),
+        Query::Variant { variant, report } => {
+            let command = command.arg(argument(alloc, variant))?;
+            with_more_words(alloc, command, report)
+        }
+        Query::Difference { variant, from } => {
+            let command = command
+                .arg(argument(alloc, from))?
+                .arg(argument(alloc, variant))?;
+            Ok(command)
+        }
+    }
 }
 
-// The report of one frame.
-fn layout<'a>(alloc: Global) -> Result<Command<'a>, AllocError>
-    ensures { IfOk result (IsReadAs app.layout) }
+// The subcommand with a word for each name and number of the report.
+fn with_more_words<'a>(
+    alloc: Global,
+    command: Command<'a>,
+    report: Report<ArgName, ArgName>,
+) -> Result<Command<'a>, AllocError>
+    ensures { IfOk result (λ more. (a : App) → IsReadAs a command.entry
+        → IsReadAs (app.with_more_words a report) more) }
 {
-    let command = report(alloc, "layout", LAYOUT_ABOUT, LAYOUT_HELP)?.arg(frame(alloc))?;
-    Ok(command)
-}
-
-// The room for a frame, as the supplier sees it whose frame it is.
-fn room<'a>(alloc: Global) -> Result<Command<'a>, AllocError>
-    ensures { IfOk result (IsReadAs app.room) }
-{
-    let command = Command::new(alloc, "room")
-        .about("Prints where a supplier's frame can still be placed, in every so many cycles")
-        .after_help(ROOM_HELP)
-        .arg(db(alloc))?
-        .arg(variant(alloc))?
-        .arg(frame(alloc))?
-        .arg(repetition(alloc))?
-        .arg(owner(alloc))?;
-    Ok(command)
+    match report {
+        Report::Layout { frame } => {
+            let command = command.arg(argument(alloc, frame))?;
+            Ok(command)
+        }
+        Report::Room { frame, repetition } => {
+            let command = command
+                .arg(argument(alloc, frame))?
+                .arg(numeral(alloc, repetition))?;
+            Ok(command)
+        }
+        _ => Ok(command),
+    }
 }
 
 // A variant's plan as a page.
@@ -312,11 +306,12 @@ fn trial<'a>(alloc: Global) -> Result<Command<'a>, AllocError>
     Ok(command)
 }
 
-fn check<'a>(alloc: Global) -> Result<Command<'a>, AllocError>
-    ensures { IfOk result (IsReadAs app.check) }
+// The command `check`, with the texts that it may take.
+fn check_texts<'a>(alloc: Global) -> Result<Command<'a>, AllocError>
+    ensures { IfOk result (IsReadAs app.check_texts) }
 {
     let command = Command::new(alloc, "check")
-        .about("Says what is wrong with the text of a file or a path, or that nothing is")
+        .about("Says what is wrong with the text of a file or a path, or with a register's file")
         .after_help(CHECK_HELP)
         .arg(free_word(
             alloc,
@@ -336,6 +331,18 @@ fn check<'a>(alloc: Global) -> Result<Command<'a>, AllocError>
             "PATH",
             "The path of a request over HTTP, all before its ?",
         ))?;
+    Ok(command)
+}
+
+fn check<'a>(alloc: Global) -> Result<Command<'a>, AllocError>
+    ensures { IfOk result (IsReadAs app.check) }
+{
+    let command = check_texts(alloc)?.arg(named(
+        alloc,
+        "register",
+        "DB",
+        "A register's file: what stands in the way of using it",
+    ))?;
     Ok(command)
 }
 
@@ -367,11 +374,18 @@ fn variant<'a>(alloc: Global) -> Arg<'a>
     word(alloc, "VARIANT", "The variant's name")
 }
 
-// The frame.
-fn frame<'a>(alloc: Global) -> Arg<'a>
-    ensures { (rule_of result ≡ app.word (codes "FRAME")) × (result.global ≡ false) }
+// A word that is a name in what is asked.
+fn argument<'a>(alloc: Global, name: ArgName) -> Arg<'a>
+    ensures { (rule_of result ≡ app.word (text_of_name name)) × (result.global ≡ false) }
 {
-    word(alloc, "FRAME", "The frame's name")
+    word(alloc, name.as_str(), name.help())
+}
+
+// A word that is a number in what is asked, any number.
+fn numeral<'a>(alloc: Global, name: ArgName) -> Arg<'a>
+    ensures { (rule_of result ≡ app.numeral name) × (result.global ≡ false) }
+{
+    argument(alloc, name).value_parser(value_parser!(u32))
 }
 
 // The key of a supplier.
@@ -392,13 +406,6 @@ fn rows<'a>(alloc: Global) -> Arg<'a>
     word(alloc, "FILE", "The file (CSV), at most 65,536 bytes")
 }
 
-// The cycle repetition for which room is wanted, any number.
-fn repetition<'a>(alloc: Global) -> Arg<'a>
-    ensures { (rule_of result ≡ app.repetition) × (result.global ≡ false) }
-{
-    word(alloc, "REPETITION", "The cycle repetition").value_parser(value_parser!(u32))
-}
-
 // Which part of the records is printed, any number.
 fn part<'a>(alloc: Global) -> Arg<'a>
     ensures { (rule_of result ≡ app.part) × (result.global ≡ false) }
@@ -410,6 +417,19 @@ fn part<'a>(alloc: Global) -> Arg<'a>
         .action(ArgAction::Set)
         .default_value("0")
         .value_parser(value_parser!(u32))
+}
+
+// The supplier that reads a report: where room is asked for it is the one whose frame it is.
+fn reader<'a>(alloc: Global, query: Query<ArgName, ArgName>) -> Arg<'a>
+    ensures { (rule_of result ≡ app.reader query) × (result.global ≡ false) }
+{
+    match query {
+        Query::Variant {
+            report: Report::Room { .. },
+            ..
+        } => owner(alloc),
+        _ => supplier(alloc),
+    }
 }
 
 // The supplier whose frame it is.
@@ -480,27 +500,6 @@ const PROGRAM_ABOUT: &str = "\
 Plans the static segment of a FlexRay bus: a register in which an integrator grants
 slots, and each supplier places frames and packs signals of its own";
 
-const CLUSTER_ABOUT: &str = "Prints the figures of the cluster, and the suppliers";
-
-const VARIANTS_ABOUT: &str =
-    "Prints the variants: which there are, and which was opened from which";
-
-const NODES_ABOUT: &str = "Prints the nodes of the suppliers";
-
-const GRANTS_ABOUT: &str = "Prints a variant's grants: which node holds which slot and channel";
-
-const FRAMES_ABOUT: &str = "Prints a variant's frames, with their nodes and placements";
-
-const SCHEDULE_ABOUT: &str =
-    "Prints a variant's schedule: what is sent in which cycle, slot and channel";
-
-const GAPS_ABOUT: &str =
-    "Prints the greatest gap between two sendings of each frame of a variant, in macroticks";
-
-const LAYOUT_ABOUT: &str = "Prints a frame's layout: the signals in its payload";
-
-const LOAD_ABOUT: &str = "Prints how full each slot and channel of a variant is";
-
 const PROGRAM_HELP: &str = "\
 Status 0: done. Status 1: refused, or a fault; standard error says which.
 Status 2: the words name no job.
@@ -540,94 +539,6 @@ standard output, once the file has what it changes. Empty lines are skipped.
 
 Example:
   slotplan ask car.db < changes.txt";
-
-const CLUSTER_HELP: &str = "\
-A line for each figure of the cluster file, with its key; then a line for each supplier.
-With --supplier the last line is this supplier.
-
-Example:
-  slotplan cluster car.db
-  slotplan cluster car.db --supplier s1";
-
-const NODES_HELP: &str = "\
-Each line: node, supplier. With --supplier its own nodes are shown, and the last is left
-out.
-
-Example:
-  slotplan nodes car.db
-  slotplan nodes car.db --supplier s1";
-
-const VARIANTS_HELP: &str = "\
-Each line: name, parent, depth, and open or released. A variant that was opened empty
-has - for its parent. Each supplier sees all variants.
-
-Example:
-  slotplan variants car.db
-  slotplan variants car.db --supplier s1";
-
-const DIFF_HELP: &str = "\
-A line for each grant, frame, placement, signal and greatest gap that one of the two has
-and the other has not: - where FROM has it, + where TO has it. Behind it the supplier.
-With --supplier the last is left out.
-
-Example:
-  slotplan diff car.db v1 v2
-  slotplan diff car.db v1 v2 --supplier s1";
-
-const GRANTS_HELP: &str = "\
-Each line: slot, channel, node, supplier. With --supplier the last is left out.
-
-Example:
-  slotplan grants car.db v1
-  slotplan grants car.db v1 --supplier s1";
-
-const FRAMES_HELP: &str = "\
-A line for each frame: FRAME, frame, node, supplier. With --supplier the last is left
-out. Behind it a line for each placement: AT, slot, channels, base, repetition.
-
-Example:
-  slotplan frames car.db v1
-  slotplan frames car.db v1 --supplier s1";
-
-const SCHEDULE_HELP: &str = "\
-Each line: cycle, slot, channel, frame, node, supplier. With --supplier the last is
-left out.
-
-Example:
-  slotplan schedule car.db v1
-  slotplan schedule car.db v1 --supplier s1";
-
-const GAPS_HELP: &str = "\
-Each line: GAP, macroticks or never, frame, supplier. With --supplier the last is left
-out.
-
-Example:
-  slotplan gaps car.db v1
-  slotplan gaps car.db v1 --supplier s1";
-
-const LAYOUT_HELP: &str = "\
-Each line: first bit, length, little or big, signal, supplier. With --supplier the
-last is left out; without it the frames of this name of all suppliers are shown.
-
-Example:
-  slotplan layout car.db v1 f1
-  slotplan layout car.db v1 f1 --supplier s1";
-
-const LOAD_HELP: &str = "\
-A line for each slot on each channel: slot, channel, used cycles, all cycles, node,
-supplier. Where it is not granted - stands for node and supplier. With --supplier the
-last is left out, and so are the slots and channels that are not this supplier's.
-
-Example:
-  slotplan load car.db v1
-  slotplan load car.db v1 --supplier s1";
-
-const ROOM_HELP: &str = "\
-Each line: slot, channels, repetition, and the base cycles with which the frame can be
-placed there.
-
-Example:
-  slotplan room car.db v1 f1 8 --supplier s1";
 
 const EXPORT_HELP: &str = "\
 A header, and a line for each row. Behind the last part there is the header alone. For
@@ -682,13 +593,15 @@ const CHECK_HELP: &str = "\
 Of a cluster file the first fault is told, of requests and rows each fault with its line,
 of a path each fault. Of rows it is told what each cluster refuses, as the channel a or
 slot 0. The register is not asked: it may still refuse what has no fault here, as a slot
-that its cluster lacks, or that is not granted.
+that its cluster lacks, or that is not granted. Of a register's file each thing is told
+that stands in the way of using it, and else nothing. The file is not changed.
 
 Example:
   slotplan check cluster.toml
   slotplan check --requests changes.txt
   slotplan check --rows placements.csv
-  slotplan check --path /v1/variants/sport/imports/week_48";
+  slotplan check --path /v1/variants/sport/imports/week_48
+  slotplan check --register car.db";
 
 const EXPLAIN_HELP: &str = "\
 Example:

@@ -1,8 +1,8 @@
 //! What a supplier delivers to a register: a file of rows, as an import, in place of earlier rows, or to be tried.
 ghost use Rattle.std.specs.Prelude.{◌≡◌, IfOk};
-ghost use Rattle.fr_cli.specs.Deliveries.{request_with};
+ghost use Rattle.fr_cli.specs.Deliveries.{manner_of, request_with};
 
-use fr_base::{Body, NoMemory, Request, Text};
+use fr_base::{Body, Manner, NoMemory, Request, Text};
 use std::alloc::Global;
 
 /// A file of rows that a supplier delivers, as the command line gives it.
@@ -42,12 +42,27 @@ impl Delivery<'_> {
                 label: Text::copy(alloc, label)?,
                 body,
             }),
-            DeliveryKind::Replacement => Ok(Request::Replace { variant, body }),
+            DeliveryKind::Replacement => Ok(Request::Replace {
+                variant,
+                whole: false,
+                body,
+            }),
             DeliveryKind::Trial { replaces } => Ok(Request::Try {
                 variant,
-                replaces,
+                manner: manner_of(replaces),
                 body,
             }),
         }
+    }
+}
+
+// How the rows of a file act that is tried as a replacement, or else as an import.
+fn manner_of(replaces: bool) -> Manner
+    ensures { result ≡ manner_of replaces }
+{
+    if replaces {
+        Manner::Replace { whole: false }
+    } else {
+        Manner::Import
     }
 }

@@ -1,6 +1,6 @@
-//! A text that is checked.
+//! What is checked.
 
-/// A file by its path, and what its text is to be; or a text that is no file.
+/// A file by its path, and what its text is to be; or a text that is no file, or a file that is no text.
 #[derive(Clone, Copy, PartialEq, Eq)]
 pub enum TextFile<'a> {
     /// A cluster file.
@@ -11,4 +11,6 @@ pub enum TextFile<'a> {
     Rows { path: &'a str },
     /// The path of a request over HTTP, which is no file.
     Target { path: &'a str },
+    /// A register's file, which is no text: what stands in the way of using it.
+    Register { path: &'a str },
 }

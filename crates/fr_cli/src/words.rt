@@ -2,21 +2,22 @@
 ghost use Rattle.std.specs.Prelude.{◌≡◌, ◌⊎◌, codes, map, option_map, string_bytes, IfErr, IfOk, OnOk};
 ghost use Rattle.clap.specs.Walk.{first_of, rows_of};
 ghost use Rattle.clap.specs.Words.{found_of, kind_of, subcommand_rows_of};
-ghost use Rattle.fr_base.specs.Queries.{word_of_inventory};
-ghost use Rattle.fr_cli.specs.Words.{AreTaken, AskFor, HasKind, HasReport, IsFaultOf, IsFileIn, IsFlagIn, IsHeaderIn, IsJobFound, IsJobIn, IsJobOf, IsNumberIn, IsOfKind, LackAnObject, MayRefuse, word_of_delivery, word_of_report};
+ghost use Rattle.fr_cli.specs.Words.{AreTaken, AskFor, HasKind, IsFaultOf, IsFileIn, IsFlagIn, IsJobFound, IsJobIn, IsJobOf, IsNumberIn, IsOfKind, IsReportJobIn, LackAnObject, MayRefuse, asked_by, header_in, records, word_of_delivery};
 ghost use Rattle.fr_cli.specs.declared.words.WordFault.TheVariants.{NoMemory};
 
 use crate::commands::{MAX_CONNECTIONS, MAX_PORT, MAX_SECONDS, program};
 use crate::delivery::{Delivery, DeliveryKind};
 use crate::query::Inquiry;
+use crate::reports::{ArgName, report_command};
 use crate::text_file::TextFile;
 use clap::error::ErrorKind;
 use clap::{ArgMatches, Error};
-use fr_base::{Header, Inventory, Query, Report};
+use fr_base::{Header, Query, QueryReader, Report};
 use std::alloc::Global;
 
 /// What is said of words of `check` that name no job, though `clap` takes them.
-const NO_FILE: &str = "check takes one of these: CONFIG, --requests FILE, --rows FILE, --path PATH";
+const NO_FILE: &str =
+    "check takes one of these: CONFIG, --requests FILE, --rows FILE, --path PATH, --register DB";
 
 /// What is said of words of `export` that name no job, though `clap` takes them.
 const NO_ROWS: &str = "export takes ROWS that are frames, placements or signals";
@@ -65,7 +66,8 @@ pub enum Job<'a> {
         db: &'a str,
         delivery: Delivery<'a>,
     },
-    /// Say what is wrong with the text of a file, and where, or with a path; or that nothing is.
+    /// Say what is wrong with the text of a file, and where, or with a path, or that nothing is; or what stands in the way of
+    /// using a register.
     Check {
         file: TextFile<'a>,
     },
@@ -143,28 +145,17 @@ fn named_job<'a>(name: &str, found: &ArgMatches<'a>) -> Option<Job<'a>>
         "migrate" => migrate_job(found),
         "serve" => serve_job(found),
         "ask" => ask_job(found),
-        "cluster" => inventory_job(found, Inventory::Cluster),
-        "variants" => inventory_job(found, Inventory::Variants),
-        "nodes" => inventory_job(found, Inventory::Nodes),
-        "diff" => diff_job(found),
-        "grants" => report_job(found, Report::Grants),
-        "frames" => report_job(found, Report::Frames),
-        "schedule" => report_job(found, Report::Schedule),
-        "gaps" => report_job(found, Report::Gaps),
-        "layout" => layout_job(found),
-        "load" => report_job(found, Report::Load),
-        "room" => room_job(found),
-        "export" => export_job(found),
         "picture" => picture_job(found),
         "import" => import_job(found),
         "replace" => deliver_job(found, DeliveryKind::Replacement),
         "try" => try_job(found),
         "check" => check_job(found),
         "explain" => Some(explain_job(found)),
-        _ => None,
+        _ => report_job(name, found),
     }
 }
 
+#[tactic(auto, unfolding(crate::specs::Reports::asked_with))]
 fn create_job<'a>(found: &ArgMatches<'a>) -> Option<Job<'a>>
     ensures { IsJobIn result (codes "create") (rows_of (found_of found.now)) }
 {
@@ -201,69 +192,78 @@ fn ask_job<'a>(found: &ArgMatches<'a>) -> Option<Job<'a>>
     })
 }
 
-fn inventory_job<'a>(found: &ArgMatches<'a>, inventory: Inventory) -> Option<Job<'a>>
-    ensures { IsJobIn result (word_of_inventory inventory) (rows_of (found_of found.now)) }
+// The job of a report's subcommand.
+fn report_job<'a>(name: &str, found: &ArgMatches<'a>) -> Option<Job<'a>>
+    ensures { IsReportJobIn result name.now (rows_of (found_of found.now)) }
 {
+    let asked = asked_by(name, found)?;
     let db = word(found, "DB")?;
-    let query = Inquiry {
-        query: Query::Register(inventory),
-        supplier: word(found, "supplier"),
-    };
-    Some(Job::Report { db, query })
+    match asked.read(&Words { found }) {
+        Ok(query) => {
+            let query = Inquiry {
+                query,
+                supplier: word(found, "supplier"),
+            };
+            Some(Job::Report { db, query })
+        }
+        Err(()) => None,
+    }
 }
 
-fn diff_job<'a>(found: &ArgMatches<'a>) -> Option<Job<'a>>
-    ensures { IsJobIn result (codes "diff") (rows_of (found_of found.now)) }
+// What is asked with the subcommand of this name and these words, with arguments for its names and numbers.
+fn asked_by(name: &str, found: &ArgMatches<'_>) -> Option<Query<ArgName, ArgName>>
+    ensures { result ≡ asked_by name.now (rows_of (found_of found.now)) }
 {
-    let db = word(found, "DB")?;
-    let variant = word(found, "TO")?;
-    let from = word(found, "FROM")?;
-    let query = Inquiry {
-        query: Query::Difference { variant, from },
-        supplier: word(found, "supplier"),
-    };
-    Some(Job::Report { db, query })
+    match name {
+        "export" => header(found).map(records),
+        _ => Some(report_command(name)?.query),
+    }
 }
 
-fn report_job<'a>(found: &ArgMatches<'a>, report: Report<&'a str>) -> Option<Job<'a>>
-    ensures { HasReport report.entry (rows_of (found_of found.now))
-        → IsJobIn result (word_of_report report.entry) (rows_of (found_of found.now)) }
+// The query for the records below this header.
+fn records(header: Header) -> Query<ArgName, ArgName>
+    ensures { result ≡ records header }
 {
-    let db = word(found, "DB")?;
-    let variant = word(found, "VARIANT")?;
-    let query = Inquiry {
-        query: Query::Variant { variant, report },
-        supplier: word(found, "supplier"),
-    };
-    Some(Job::Report { db, query })
+    Query::Variant {
+        variant: ArgName::Variant,
+        report: Report::Export {
+            header,
+            part: ArgName::Part,
+        },
+    }
 }
 
-fn layout_job<'a>(found: &ArgMatches<'a>) -> Option<Job<'a>>
-    ensures { IsJobIn result (codes "layout") (rows_of (found_of found.now)) }
-{
-    let frame = word(found, "FRAME")?;
-    report_job(found, Report::Layout { frame })
+// The words of a subcommand.
+#[derive(Drop)]
+struct Words<'m, 'a> {
+    found: &'m ArgMatches<'a>,
 }
 
-fn room_job<'a>(found: &ArgMatches<'a>) -> Option<Job<'a>>
-    ensures { IsJobIn result (codes "room") (rows_of (found_of found.now)) }
-{
-    let frame = word(found, "FRAME")?;
-    let repetition = number(found, "REPETITION", 0, u32::MAX)?;
-    report_job(found, Report::Room { frame, repetition })
-}
+// The names and numbers of a query are the words at the places of their arguments.
+impl<'a> QueryReader<ArgName, ArgName, &'a str, ()> for Words<'_, 'a> {
+    ghost use Rattle.clap.specs.Walk.{rows_of};
+    ghost use Rattle.clap.specs.Words.{found_of};
+    ghost use Rattle.fr_cli.specs.Words.{IsNumberAt, IsWordAt};
 
-fn export_job<'a>(found: &ArgMatches<'a>) -> Option<Job<'a>>
-    ensures { IsJobIn result (codes "export") (rows_of (found_of found.now)) }
-{
-    let header = header(found)?;
-    let part = number(found, "part", 0, u32::MAX)?;
-    report_job(found, Report::Export { header, part })
+    ghost reads = { λ words name result. IsWordAt (rows_of (found_of words.found.now)) name result };
+
+    ghost counts = { λ words name result. IsNumberAt (rows_of (found_of words.found.now)) name result };
+
+    fn read_name(&self, name: &ArgName) -> Result<&'a str, ()> {
+        word(self.found, name.as_str()).ok_or(())
+    }
+
+    fn read_number(&self, name: &ArgName) -> Result<u32, ()> {
+        match number(self.found, name.as_str(), 0, u32::MAX) {
+            Some(read) => Ok(read),
+            None => Err(()),
+        }
+    }
 }
 
 // The header of the records to export.
 fn header(found: &ArgMatches<'_>) -> Option<Header>
-    ensures { IsHeaderIn result (rows_of (found_of found.now)) }
+    ensures { result ≡ header_in (rows_of (found_of found.now)) }
 {
     match word(found, "ROWS")? {
         "frames" => Some(Header::Frames),
@@ -273,6 +273,7 @@ fn header(found: &ArgMatches<'_>) -> Option<Header>
     }
 }
 
+#[tactic(auto, unfolding(crate::specs::Reports::asked_with))]
 fn picture_job<'a>(found: &ArgMatches<'a>) -> Option<Job<'a>>
     ensures { IsJobIn result (codes "picture") (rows_of (found_of found.now)) }
 {
@@ -284,6 +285,7 @@ fn picture_job<'a>(found: &ArgMatches<'a>) -> Option<Job<'a>>
     })
 }
 
+#[tactic(auto, unfolding(crate::specs::Reports::asked_with))]
 fn import_job<'a>(found: &ArgMatches<'a>) -> Option<Job<'a>>
     ensures { IsJobIn result (codes "import") (rows_of (found_of found.now)) }
 {
@@ -312,6 +314,7 @@ fn deliver_job<'a>(found: &ArgMatches<'a>, kind: DeliveryKind<'a>) -> Option<Job
     Some(Job::Deliver { db, delivery })
 }
 
+#[tactic(auto, unfolding(crate::specs::Reports::asked_with))]
 fn check_job<'a>(found: &ArgMatches<'a>) -> Option<Job<'a>>
     ensures { IsJobIn result (codes "check") (rows_of (found_of found.now)) }
 {
@@ -328,11 +331,13 @@ fn text_file<'a>(found: &ArgMatches<'a>) -> Option<TextFile<'a>>
     let requests = word(found, "requests");
     let rows = word(found, "rows");
     let target = word(found, "path");
-    match (config, requests, rows, target) {
-        (Some(path), None, None, None) => Some(TextFile::Config { path }),
-        (None, Some(path), None, None) => Some(TextFile::Requests { path }),
-        (None, None, Some(path), None) => Some(TextFile::Rows { path }),
-        (None, None, None, Some(path)) => Some(TextFile::Target { path }),
+    let register = word(found, "register");
+    match (config, requests, rows, target, register) {
+        (Some(path), None, None, None, None) => Some(TextFile::Config { path }),
+        (None, Some(path), None, None, None) => Some(TextFile::Requests { path }),
+        (None, None, Some(path), None, None) => Some(TextFile::Rows { path }),
+        (None, None, None, Some(path), None) => Some(TextFile::Target { path }),
+        (None, None, None, None, Some(path)) => Some(TextFile::Register { path }),
         _ => None,
     }
 }

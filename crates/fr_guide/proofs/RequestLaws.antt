@@ -3,7 +3,7 @@ use Rattle.std.proofs.Common.{◌≡◌, ◌∙◌, ap, refl, sym, ℕ, Bool, tr
 use Rattle.std.specs.Prelude.{not, ◌&&◌, nat_le}
 use Rattle.std.specs.List.{list_all}
 use Rattle.fr_base.specs.Channels.{channel_of_text, channels_in, channels_of_text, has_channel}
-use Rattle.fr_base.specs.Checks.{asking, channel, channels, check, cycles, key, name, parent_name, placement, query, report, signal, slot}
+use Rattle.fr_base.specs.Checks.{asking, channel, channels, check, cycles, key, name, beginning, placement, query, report, signal, slot}
 use Rattle.fr_base.specs.Cycles.{Cycles, are_cycles, is_repetition}
 use Rattle.fr_base.specs.Names.{is_key, is_name}
 use Rattle.fr_base.specs.Refusing.{◌>>=◌, ◌>>◌, ◌or◌, refuse◌when◌}
@@ -13,8 +13,9 @@ use Rattle.fr_base.specs.declared.name.Name.{Name}
 use Rattle.fr_base.specs.declared.params.Params.{Params}
 use Rattle.fr_base.specs.declared.refusal.Refusal.{Refusal}
 use Rattle.fr_base.specs.declared.refusal.Refusal.TheVariants.{BadChannel, BadCycles, BadKey, BadName, BadSignal, BadSlot}
+use Rattle.fr_base.specs.declared.beginning.Beginning.TheVariants.{Empty, From, Flat}
 use Rattle.fr_base.specs.declared.query.Query.TheVariants.{Register as OfRegister, Variant as OfVariant, Difference as OfTwo}
-use Rattle.fr_base.specs.declared.report.Report.TheVariants.{Grants, Frames, Schedule, Gaps, Layout, Load, Room, Export}
+use Rattle.fr_base.specs.declared.report.Report.TheVariants.{Grants, Frames, Schedule, Gaps, Layout, Load, Rows, Room, Export}
 use Rattle.fr_base.specs.declared.request.Request.TheVariants as request
 use Rattle.fr_base.specs.declared.signal.Order.{Order}
 use Rattle.fr_guide.specs.Laws.{MisformedRequestsAreRefused, is_misformed}
@@ -122,9 +123,10 @@ in_turn (Err e) f g = refl
 -- ---- requests
 
 pub misformed_requests : MisformedRequestsAreRefused
-unfolding check asking formed_in ◌>>=◌ ◌>>◌ refuse◌when◌ parent_name report query
-misformed_requests p s (request.OpenVariant v None) = sym (named v _ true refl)
-misformed_requests p s (request.OpenVariant v (Some parent)) = sym (named v _ (is_name parent && true) (named_within parent _ _ refl))
+unfolding check asking formed_in ◌>>=◌ ◌>>◌ refuse◌when◌ beginning report query
+misformed_requests p s (request.OpenVariant v Empty) = sym (named v _ true refl)
+misformed_requests p s (request.OpenVariant v (From parent)) = sym (named v _ (is_name parent && true) (named_within parent _ _ refl))
+misformed_requests p s (request.OpenVariant v (Flat from)) = sym (named v _ (is_name from && true) (named_within from _ _ refl))
 misformed_requests p s (request.Release v) = sym (named v _ true refl)
 misformed_requests p s (request.AddSupplier supplier k) = sym (named supplier _ (is_key k && true) (keyed k _ true refl))
 misformed_requests p s (request.SetKey supplier k) = sym (named supplier _ (is_key k && true) (keyed k _ true refl))
@@ -145,8 +147,8 @@ misformed_requests p s (request.AddSignal v frame x start length text) =
     sym (named v _ _ (named frame _ _ (named x _ true (formed_behind (signal x start length text) _ (signal-formed x start length text) (λ y. refl)))))
 misformed_requests p s (request.DropSignal v frame x) = sym (named v _ _ (named frame _ _ (named x _ true refl)))
 misformed_requests p s (request.Import v label body) = sym (named v _ _ (named label _ true refl))
-misformed_requests p s (request.Replace v body) = sym (named v _ true refl)
-misformed_requests p s (request.Try v replaces body) = sym (named v _ true refl)
+misformed_requests p s (request.Replace v whole body) = sym (named v _ true refl)
+misformed_requests p s (request.Try v how body) = sym (named v _ true refl)
 misformed_requests p s (request.Query (OfRegister inventory)) = refl
 misformed_requests p s (request.Query (OfVariant v Grants)) = sym (named_within v _ _ refl)
 misformed_requests p s (request.Query (OfVariant v Frames)) = sym (named_within v _ _ refl)
@@ -155,6 +157,7 @@ misformed_requests p s (request.Query (OfVariant v Gaps)) = sym (named_within v 
 misformed_requests p s (request.Query (OfVariant v (Layout frame))) =
     sym (ap is_formed (in_turn (name v) _ _) ∙ named v _ (is_name frame && true) (ap is_formed (in_turn (name frame >>= (λ f. Ok (Layout f))) _ _) ∙ named_within frame _ _ refl))
 misformed_requests p s (request.Query (OfVariant v Load)) = sym (named_within v _ _ refl)
+misformed_requests p s (request.Query (OfVariant v Rows)) = sym (named_within v _ _ refl)
 misformed_requests p s (request.Query (OfVariant v (Room frame repetition))) =
     sym (ap is_formed (in_turn (name v) _ _) ∙ named v _ (is_name frame && true)
     (ap is_formed (in_turn (name frame >>= (λ f. Ok (Room f repetition))) _ _) ∙ named_within frame _ _ (repeats-formed (not (is_repetition p.cycles repetition)) _)))

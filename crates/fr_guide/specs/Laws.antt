@@ -49,7 +49,7 @@ is_misformed (Err refusal) = is_of_form refusal
 
 -- an actor that may ask the request: a supplier of this name, where a supplier or anybody may
 abbrev pub asked_by : Name → Request → Actor
-asked_by s (request.OpenVariant variant parent) = Integrator
+asked_by s (request.OpenVariant variant begins) = Integrator
 asked_by s (request.Release variant) = Integrator
 asked_by s (request.AddSupplier supplier key) = Integrator
 asked_by s (request.SetKey supplier key) = Integrator

@@ -43,7 +43,9 @@ forms =
     ∷ of_variant (codes "exports" ∷ codes "placements" ∷ codes "{part}" ∷ [])
     ∷ of_variant (codes "exports" ∷ codes "signals" ∷ codes "{part}" ∷ [])
     ∷ of_variant (codes "rows" ∷ [])
+    ∷ of_variant (codes "rows" ∷ codes "whole" ∷ [])
     ∷ of_variant (codes "tries" ∷ [])
+    ∷ of_variant (codes "tries" ∷ codes "whole" ∷ [])
     ∷ of_variant (codes "picture" ∷ [])
     ∷ of_variant (codes "since" ∷ codes "{from}" ∷ codes "picture" ∷ [])
     ∷ []

@@ -2,10 +2,12 @@
 use Rattle.std.specs.Prelude.{ℕ, Bool, false, List, [], ◌∷◌, Option, Some, None}
 use Rattle.std.specs.List.{list_all}
 use Rattle.fr_base.specs.Names.{is_key, is_name}
+use Rattle.fr_base.specs.declared.beginning.Beginning.{Beginning}
+use Rattle.fr_base.specs.declared.beginning.Beginning.TheVariants.{Empty, From, Flat}
 use Rattle.fr_base.specs.declared.query.Query.{Query}
 use Rattle.fr_base.specs.declared.query.Query.TheVariants.{Register as OfRegister, Variant as OfVariant, Difference as OfTwo}
 use Rattle.fr_base.specs.declared.report.Report.{Report}
-use Rattle.fr_base.specs.declared.report.Report.TheVariants.{Grants, Frames, Schedule, Gaps, Layout, Load, Room, Export}
+use Rattle.fr_base.specs.declared.report.Report.TheVariants.{Layout, Room}
 use Rattle.fr_base.specs.declared.request.Request.{Request}
 use Rattle.fr_base.specs.declared.request.Request.TheVariants as request
 use Rattle.fr_text.specs.RequestText.{request_of}
@@ -21,21 +23,17 @@ has_form form.Key text = is_key text
 abbrev pub name : List ℕ → Form × List ℕ
 name text = (form.Name, text)
 
--- the name of a parent, if there is to be one
-abbrev pub parent_in : Option (List ℕ) → List (Form × List ℕ)
-parent_in None = []
-parent_in (Some parent) = name parent ∷ []
+-- the name of the variant whose rows a new one begins with, if there is one
+abbrev pub origin_in : Beginning (List ℕ) → List (Form × List ℕ)
+origin_in Empty = []
+origin_in (From parent) = name parent ∷ []
+origin_in (Flat from) = name from ∷ []
 
 -- the name of a report's frame, if the report is of one
 abbrev pub frame_in : Report (List ℕ) ℕ → List (Form × List ℕ)
-frame_in Grants = []
-frame_in Frames = []
-frame_in Schedule = []
-frame_in Gaps = []
 frame_in (Layout frame) = name frame ∷ []
-frame_in Load = []
 frame_in (Room frame repetition) = name frame ∷ []
-frame_in (Export header part) = []
+frame_in _ = []
 
 -- the names in a query
 abbrev pub names_in : Query (List ℕ) ℕ → List (Form × List ℕ)
@@ -45,7 +43,7 @@ names_in (OfTwo variant from) = name variant ∷ name from ∷ []
 
 -- the texts of a request that must have a form
 unfoldable pub formed_in : Request → List (Form × List ℕ)
-formed_in (request.OpenVariant variant parent) = name variant ∷ parent_in parent
+formed_in (request.OpenVariant variant begins) = name variant ∷ origin_in begins
 formed_in (request.Release variant) = name variant ∷ []
 formed_in (request.AddSupplier supplier key) = name supplier ∷ (form.Key, key) ∷ []
 formed_in (request.SetKey supplier key) = name supplier ∷ (form.Key, key) ∷ []
@@ -59,8 +57,8 @@ formed_in (request.Unplace variant frame slot channels base repetition) = name v
 formed_in (request.AddSignal variant frame signal start length order) = name variant ∷ name frame ∷ name signal ∷ []
 formed_in (request.DropSignal variant frame signal) = name variant ∷ name frame ∷ name signal ∷ []
 formed_in (request.Import variant label body) = name variant ∷ name label ∷ []
-formed_in (request.Replace variant body) = name variant ∷ []
-formed_in (request.Try variant replaces body) = name variant ∷ []
+formed_in (request.Replace variant whole body) = name variant ∷ []
+formed_in (request.Try variant how body) = name variant ∷ []
 formed_in (request.Query query) = names_in query
 
 -- whether each of these texts has its form

@@ -175,7 +175,7 @@ fn no_form(alloc: Global, path: &str) -> Result<Vec<String>, NoMemory>
 
 // The forms that paths have.
 #[tactic(auto, unfolding(crate::specs::Paths::forms))]
-fn path_forms() -> [PathForm; 25]
+fn path_forms() -> [PathForm; 27]
     ensures { map (λ form. map (λ part. part.now) form.now) result ≡ forms }
 {
     [
@@ -242,7 +242,9 @@ fn path_forms() -> [PathForm; 25]
             "{part}",
         ],
         &["", "v1", "variants", "{variant}", "rows"],
+        &["", "v1", "variants", "{variant}", "rows", "whole"],
         &["", "v1", "variants", "{variant}", "tries"],
+        &["", "v1", "variants", "{variant}", "tries", "whole"],
         &["", "v1", "variants", "{variant}", "picture"],
         &[
             "",

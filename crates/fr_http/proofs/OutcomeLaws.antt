@@ -109,8 +109,8 @@ module _ (who : List ℕ → Option Actor) where
   by_route (Advice subject) path body found method plain = found-plain found method (matter.Advice subject body)
   by_route Commands path body found method plain = text-plain (request_of body) found method
   by_route Import path body found method plain = found-plain found method (matter.Request (request.Import (part named.Variant path) (part named.Label path) body))
-  by_route Replace path body found method plain = found-plain found method (matter.Request (request.Replace (part named.Variant path) body))
-  by_route (Try replaces) path body found method plain = found-plain found method (matter.Request (request.Try (part named.Variant path) replaces body))
+  by_route (Replace whole) path body found method plain = found-plain found method (matter.Request (request.Replace (part named.Variant path) whole body))
+  by_route (Try how) path body found method plain = found-plain found method (matter.Request (request.Try (part named.Variant path) how body))
   by_route (Query asked) path body found method plain =
       text-plain (option_map request.Query (query_by (λ name. part name path) (λ name. number_in name path) asked)) found method
   by_route (Picture since) path body found method plain = found-plain found method (matter.Picture (part named.Variant path) (other_variant since path))

@@ -71,8 +71,8 @@ matter_no_fault Explanation path body = refl
 matter_no_fault (Advice subject) path body = refl
 matter_no_fault Commands path body = text_no_fault _
 matter_no_fault Import path body = refl
-matter_no_fault Replace path body = refl
-matter_no_fault (Try replaces) path body = refl
+matter_no_fault (Replace whole) path body = refl
+matter_no_fault (Try how) path body = refl
 matter_no_fault (Query asked) path body = text_no_fault _
 matter_no_fault (Picture since) path body = refl
 

@@ -13,6 +13,7 @@ use Rattle.fr_base.specs.declared.answer.Answer.TheVariants as answer
 use Rattle.fr_base.specs.declared.answer.ReportRows.TheVariants as rows_of
 use Rattle.fr_base.specs.declared.channel.Channel.TheVariants as channel
 use Rattle.fr_base.specs.declared.refusal.Refusal.TheVariants as refusal
+use Rattle.fr_base.specs.declared.request.Manner.TheVariants as manner
 use Rattle.fr_base.specs.declared.request.Request.TheVariants as request
 use Rattle.fr_text.specs.AnswerText.{report_of, text_of, text_of_refusal}
 use Rattle.fr_text.specs.Report.{frame_record, header_line, lines_of, lines_of_rows, node_line, schedule_line}
@@ -32,7 +33,7 @@ use Rattle.fr_http.specs.declared.method.Method.TheVariants.{Get, Post, Put}
 use Rattle.fr_base.specs.declared.import.Header.TheVariants as header
 use Rattle.fr_base.specs.declared.query.Inventory.TheVariants.{Cluster, Variants, Nodes}
 use Rattle.fr_base.specs.declared.query.Query.TheVariants.{Register as OfRegister, Variant as OfVariant}
-use Rattle.fr_base.specs.declared.report.Report.TheVariants.{Grants, Frames, Schedule, Gaps, Layout, Load, Room, Export}
+use Rattle.fr_base.specs.declared.report.Report.TheVariants.{Grants, Frames, Schedule, Gaps, Layout, Load, Rows, Room, Export}
 use Rattle.fr_http.specs.declared.path_name.PathName.{PathName}
 use Rattle.fr_http.specs.declared.path_name.PathName.TheVariants as named
 use Rattle.fr_http.specs.declared.routes.Resource.{Resource}
@@ -67,7 +68,9 @@ pub routes_of_the_register :
 unfolding rows
 routes_of_the_register = refl
 
-pub routes_of_rows : map route_of (codes "/v1/variants/v1/load" ∷ codes "/v1/variants/v1/rows" ∷ []) ≡ Some (report Load) ∷ Some (One Replace) ∷ []
+pub routes_of_rows :
+    map route_of (codes "/v1/variants/v1/load" ∷ codes "/v1/variants/v1/rows" ∷ codes "/v1/variants/v1/rows/whole" ∷ codes "/v1/variants/v1/tries/whole" ∷ codes "/v1/variants/v1/rows/whole/x" ∷ [])
+    ≡ Some (report Load) ∷ Some (Two (of_variant Rows) (Replace false)) ∷ Some (One (Replace true)) ∷ Some (One (Try (manner.Replace true))) ∷ None ∷ []
 unfolding rows
 routes_of_rows = refl
 
@@ -145,11 +148,11 @@ unfolding rows
 matters = refl
 
 pub matters_of_rows :
-    matter_by Replace (codes "/v1/variants/v1/rows") (codes "x")
+    matter_by (Replace false) (codes "/v1/variants/v1/rows") (codes "x")
     ∷ matter_by (of_variant (Room named.Frame named.Repetition)) (codes "/v1/variants/v1/frames/f1/room/0000000004") []
     ∷ matter_by (of_variant (Export header.Signals named.Part)) (codes "/v1/variants/v1/exports/signals/4294967295") []
     ∷ []
-    ≡ Ok (matter.Request (request.Replace (codes "v1") (codes "x")))
+    ≡ Ok (matter.Request (request.Replace (codes "v1") false (codes "x")))
     ∷ Ok (matter.Request (request.Query (OfVariant (codes "v1") (Room (codes "f1") 4))))
     ∷ Ok (matter.Request (request.Query (OfVariant (codes "v1") (Export header.Signals 4294967295))))
     ∷ []
@@ -201,9 +204,10 @@ pub puts :
     map plan_of (
     head (codes "PUT") (codes "/v1/variants/v1/rows") (length_field (codes "7") ∷ []) ∷ head (codes "PUT") (codes "/v1/variants/v1/rows") []
     ∷ head (codes "PUT") (codes "/v1/variants/v1/rows") (length_field (codes "65537") ∷ []) ∷ head (codes "POST") (codes "/v1/variants/v1/rows") []
-    ∷ head (codes "PUT") (codes "/v1/variants/v1/load") [] ∷ []
+    ∷ head (codes "GET") (codes "/v1/variants/v1/rows") [] ∷ head (codes "PUT") (codes "/v1/variants/v1/load") [] ∷ []
     )
-    ≡ Ok (record { route = Replace; length = 7 }) ∷ Err LengthRequired ∷ Err PayloadTooLarge ∷ Err (MethodNotAllowed (Only Put)) ∷ Err (MethodNotAllowed (Only Get)) ∷ []
+    ≡ Ok (record { route = Replace false; length = 7 }) ∷ Err LengthRequired ∷ Err PayloadTooLarge ∷ Err (MethodNotAllowed (Either Get Put))
+    ∷ Ok (record { route = of_variant Rows; length = 0 }) ∷ Err (MethodNotAllowed (Only Get)) ∷ []
 unfolding rows
 puts = refl
 
@@ -213,15 +217,31 @@ pub tries :
     head (codes "POST") (codes "/v1/variants/v1/tries") (length_field (codes "7") ∷ []) ∷ head (codes "PUT") (codes "/v1/variants/v1/tries") (length_field (codes "7") ∷ [])
     ∷ head (codes "PUT") (codes "/v1/variants/v1/tries") [] ∷ head (codes "GET") (codes "/v1/variants/v1/tries") [] ∷ []
     )
-    ≡ Ok (record { route = Try false; length = 7 }) ∷ Ok (record { route = Try true; length = 7 }) ∷ Err LengthRequired ∷ Err (MethodNotAllowed (Either Post Put)) ∷ []
+    ≡ Ok (record { route = Try manner.Import; length = 7 }) ∷ Ok (record { route = Try (manner.Replace false); length = 7 }) ∷ Err LengthRequired ∷ Err (MethodNotAllowed (Either Post Put)) ∷ []
 unfolding rows
 tries = refl
 
 pub matters_of_tries :
-    matter_by (Try false) (codes "/v1/variants/v1/tries") (codes "x") ∷ matter_by (Try true) (codes "/v1/variants/v1/tries") (codes "x") ∷ []
-    ≡ Ok (matter.Request (request.Try (codes "v1") false (codes "x"))) ∷ Ok (matter.Request (request.Try (codes "v1") true (codes "x"))) ∷ []
+    matter_by (Try manner.Import) (codes "/v1/variants/v1/tries") (codes "x") ∷ matter_by (Try (manner.Replace false)) (codes "/v1/variants/v1/tries") (codes "x") ∷ []
+    ≡ Ok (matter.Request (request.Try (codes "v1") manner.Import (codes "x"))) ∷ Ok (matter.Request (request.Try (codes "v1") (manner.Replace false) (codes "x"))) ∷ []
 unfolding rows
 matters_of_tries = refl
+
+-- a file that is sent, or tried, as the whole: by PUT alone
+pub wholes :
+    map plan_of (
+    head (codes "PUT") (codes "/v1/variants/v1/rows/whole") (length_field (codes "7") ∷ []) ∷ head (codes "PUT") (codes "/v1/variants/v1/tries/whole") (length_field (codes "7") ∷ [])
+    ∷ head (codes "POST") (codes "/v1/variants/v1/rows/whole") [] ∷ head (codes "POST") (codes "/v1/variants/v1/tries/whole") [] ∷ head (codes "PUT") (codes "/v1/variants/v1/rows/whole") [] ∷ []
+    )
+    ≡ Ok (record { route = Replace true; length = 7 }) ∷ Ok (record { route = Try (manner.Replace true); length = 7 }) ∷ Err (MethodNotAllowed (Only Put)) ∷ Err (MethodNotAllowed (Only Put)) ∷ Err LengthRequired ∷ []
+unfolding rows
+wholes = refl
+
+pub matters_of_wholes :
+    matter_by (Replace true) (codes "/v1/variants/v1/rows/whole") (codes "x") ∷ matter_by (Try (manner.Replace true)) (codes "/v1/variants/v1/tries/whole") (codes "x") ∷ []
+    ≡ Ok (matter.Request (request.Replace (codes "v1") true (codes "x"))) ∷ Ok (matter.Request (request.Try (codes "v1") (manner.Replace true) (codes "x"))) ∷ []
+unfolding rows
+matters_of_wholes = refl
 
 -- `100 Continue` is due for a body that is to come by HTTP/1.1, and else not
 pub continues :

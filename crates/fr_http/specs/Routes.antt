@@ -19,8 +19,9 @@ use Rattle.fr_base.specs.declared.query.Inventory.{Inventory}
 use Rattle.fr_base.specs.declared.query.Inventory.TheVariants.{Cluster, Variants, Nodes}
 use Rattle.fr_base.specs.declared.query.Query.TheVariants.{Register as OfRegister, Variant as OfVariant, Difference as OfTwo}
 use Rattle.fr_base.specs.declared.report.Report.{Report}
-use Rattle.fr_base.specs.declared.report.Report.TheVariants.{Grants, Frames, Schedule, Gaps, Layout, Load, Room, Export}
+use Rattle.fr_base.specs.declared.report.Report.TheVariants.{Grants, Frames, Schedule, Gaps, Layout, Load, Rows, Room, Export}
 use Rattle.fr_base.specs.declared.refusal.Refusal.TheVariants.{BadText}
+use Rattle.fr_base.specs.declared.request.Manner.TheVariants as manner
 use Rattle.fr_base.specs.declared.request.Request.{Request}
 use Rattle.fr_base.specs.declared.request.Request.TheVariants as request
 use Rattle.fr_text.specs.RequestText.{request_of}
@@ -52,9 +53,9 @@ text_of_method Put = codes "PUT"
 abbrev pub method_of : Route → Method
 method_of Commands = Post
 method_of Import = Post
-method_of Replace = Put
-method_of (Try true) = Put
-method_of (Try false) = Post
+method_of (Replace whole) = Put
+method_of (Try (manner.Replace whole)) = Put
+method_of (Try manner.Import) = Post
 method_of (Query asked) = Get
 method_of (Picture since) = Get
 method_of Page = Get
@@ -125,8 +126,10 @@ table =
     ∷ (codes "/v1/variants/{variant}/exports/frames/{part}", export header.Frames)
     ∷ (codes "/v1/variants/{variant}/exports/placements/{part}", export header.Placements)
     ∷ (codes "/v1/variants/{variant}/exports/signals/{part}", export header.Signals)
-    ∷ (codes "/v1/variants/{variant}/rows", One Replace)
-    ∷ (codes "/v1/variants/{variant}/tries", Two (Try false) (Try true))
+    ∷ (codes "/v1/variants/{variant}/rows", Two (of_variant Rows) (Replace false))
+    ∷ (codes "/v1/variants/{variant}/rows/whole", One (Replace true))
+    ∷ (codes "/v1/variants/{variant}/tries", Two (Try manner.Import) (Try (manner.Replace false)))
+    ∷ (codes "/v1/variants/{variant}/tries/whole", One (Try (manner.Replace true)))
     ∷ (codes "/v1/variants/{variant}/picture", One (Picture false))
     ∷ (codes "/v1/variants/{variant}/since/{from}/picture", One (Picture true))
     ∷ []
@@ -206,8 +209,8 @@ matter_by Explanation path body = Err (Explained (Some (part named.Word path)))
 matter_by (Advice on) path body = Ok (matter.Advice on body)
 matter_by Commands path body = asked_or_refused (request_of body)
 matter_by Import path body = Ok (matter.Request (request.Import (part named.Variant path) (part named.Label path) body))
-matter_by Replace path body = Ok (matter.Request (request.Replace (part named.Variant path) body))
-matter_by (Try replaces) path body = Ok (matter.Request (request.Try (part named.Variant path) replaces body))
+matter_by (Replace whole) path body = Ok (matter.Request (request.Replace (part named.Variant path) whole body))
+matter_by (Try how) path body = Ok (matter.Request (request.Try (part named.Variant path) how body))
 matter_by (Query asked) path body =
     asked_or_refused (option_map request.Query (query_by (λ name. part name path) (λ name. number_in name path) asked))
 matter_by (Picture since) path body = Ok (matter.Picture (part named.Variant path) (other_variant since path))

@@ -105,13 +105,14 @@ pub(crate) fn asked_matter(alloc: Global, plan: &Plan<'_>, body: &[u8]) -> Resul
             label: copy_part(alloc, plan.path, PathName::Label)?,
             body: Body::copy(alloc, body)?,
         })),
-        Route::Replace => Ok(Matter::Request(Request::Replace {
+        Route::Replace { whole } => Ok(Matter::Request(Request::Replace {
             variant: copy_part(alloc, plan.path, PathName::Variant)?,
+            whole,
             body: Body::copy(alloc, body)?,
         })),
-        Route::Try { replaces } => Ok(Matter::Request(Request::Try {
+        Route::Try { manner } => Ok(Matter::Request(Request::Try {
             variant: copy_part(alloc, plan.path, PathName::Variant)?,
-            replaces,
+            manner,
             body: Body::copy(alloc, body)?,
         })),
         Route::Query(asked) => {

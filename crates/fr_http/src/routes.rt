@@ -8,7 +8,7 @@ ghost use Rattle.fr_http.specs.declared.routes.Resource.TheVariants.{One};
 
 use crate::method::{Allowed, Method};
 use crate::path_name::PathName;
-use fr_base::{Header, Inventory, Query, Report};
+use fr_base::{Header, Inventory, Manner, Query, Report};
 use fr_guide::{Subject, explains, meant_word};
 use std::str;
 
@@ -27,11 +27,12 @@ pub enum Route {
     Commands,
     /// The body is an import's file.
     Import,
-    /// The body is a file whose rows take the place of earlier ones.
-    Replace,
-    /// The body is a file, and the fate of each of its rows is told: as a replacement's, or else as
-    /// an import's.
-    Try { replaces: bool },
+    /// The body is a file whose rows take the place of earlier ones: of the frames that it names, or,
+    /// where it is `whole`, of all the supplier's frames.
+    Replace { whole: bool },
+    /// The body is a file, and the fate of each of its rows is told: as a replacement's, or as an
+    /// import's.
+    Try { manner: Manner },
     /// A query. Each name and number in it stands in the path.
     Query(Query<PathName, PathName>),
     /// The page of a variant's plan; with what is new since another variant, where the path names one.
@@ -44,9 +45,16 @@ impl Route {
         ensures { result ≡ method_of self }
     {
         match self {
-            Route::Advice(_) | Route::Commands | Route::Import | Route::Try { replaces: false } =>
-                Method::Post,
-            Route::Replace | Route::Try { replaces: true } => Method::Put,
+            Route::Advice(_)
+            | Route::Commands
+            | Route::Import
+            | Route::Try {
+                manner: Manner::Import,
+            } => Method::Post,
+            Route::Replace { .. } => Method::Put,
+            Route::Try {
+                manner: Manner::Replace { .. },
+            } => Method::Put,
             Route::Page
             | Route::Explanations
             | Route::Explanation
@@ -189,9 +197,16 @@ fn export(header: Header) -> Resource
     })
 }
 
+// The route for a file that is tried so.
+fn trial(manner: Manner) -> Route
+    ensures { result ≡ Route.Try manner }
+{
+    Route::Try { manner }
+}
+
 /// What each path leads to, by the pattern that it matches.
 #[tactic(auto, unfolding(crate::specs::Routes::table))]
-pub(crate) fn routes() -> [(&'static str, Resource); 25]
+pub(crate) fn routes() -> [(&'static str, Resource); 27]
     ensures { map (λ entry. (entry.0.now, entry.1)) result ≡ table }
 {
     use Resource::{One, Two};
@@ -239,10 +254,24 @@ pub(crate) fn routes() -> [(&'static str, Resource); 25]
             "/v1/variants/{variant}/exports/signals/{part}",
             export(Header::Signals),
         ),
-        ("/v1/variants/{variant}/rows", One(Replace)),
+        (
+            "/v1/variants/{variant}/rows",
+            Two(of_variant(Report::Rows), Replace { whole: false }),
+        ),
+        (
+            "/v1/variants/{variant}/rows/whole",
+            One(Replace { whole: true }),
+        ),
         (
             "/v1/variants/{variant}/tries",
-            Two(Try { replaces: false }, Try { replaces: true }),
+            Two(
+                trial(Manner::Import),
+                trial(Manner::Replace { whole: false }),
+            ),
+        ),
+        (
+            "/v1/variants/{variant}/tries/whole",
+            One(trial(Manner::Replace { whole: true })),
         ),
         (
             "/v1/variants/{variant}/picture",

@@ -2,7 +2,7 @@
 -- asks.
 use Rattle.std.proofs.Common.{◌≡◌, Ok, IfOk, refl, subst}
 use Rattle.std.specs.Prelude.{⊤}
-use Rattle.fr_base.specs.Checks.{asking, channel, check, key, name, parent_name, placement, query, signal, slot}
+use Rattle.fr_base.specs.Checks.{asking, channel, check, key, name, beginning, placement, query, signal, slot}
 use Rattle.fr_base.specs.declared.actor.Actor.{Actor}
 use Rattle.fr_base.specs.declared.actor.Actor.TheVariants.{Integrator, Supplier}
 use Rattle.fr_base.specs.declared.name.Name.{Name}
@@ -63,8 +63,8 @@ asking-own (Supplier s) = refl
 
 check-own : (p : Params) (actor : Actor) (r : Request) → IfOk (check p actor r) (IsOwn actor)
 unfolding check
-check-own p actor (request.OpenVariant variant parent) =
-    gives_when _ _ _ _ (λ _. gives_each _ (name variant) _ (λ v _. gives_each _ (parent_name parent) _ (λ from _. tt)))
+check-own p actor (request.OpenVariant variant begins) =
+    gives_when _ _ _ _ (λ _. gives_each _ (name variant) _ (λ v _. gives_each _ (beginning begins) _ (λ from _. tt)))
 check-own p actor (request.Release variant) = gives_when _ _ _ _ (λ _. gives_each _ (name variant) _ (λ v _. tt))
 check-own p actor (request.AddSupplier supplier text) =
     gives_when _ _ _ _ (λ _. gives_each _ (name supplier) _ (λ s _. gives_each _ (key text) _ (λ k _. tt)))

@@ -24,7 +24,7 @@ use Rattle.fr_world.specs.Pages.{nodes_in}
 use Rattle.fr_world.specs.Suppliers.{new_key, new_supplier}
 use Rattle.fr_world.specs.declared.edit.Edit.{Edit}
 use Rattle.fr_base.specs.declared.answer.VariantRow.{VariantRow}
-use Rattle.fr_world.proofs.BookFits.{common-fits, node-fits}
+use Rattle.fr_world.proofs.BookFits.{common-fits, node-fits, sound-knows}
 use Rattle.fr_world.proofs.IntegratorLaws.{common-decides, node-decides}
 use Rattle.fr_world.proofs.JoiningLaws.{joining-decides, joining-fits, key-decides, key-fits}
 use Rattle.fr_office.specs.Carried.{Does, Performs}
@@ -165,7 +165,7 @@ module _ (old mid new : Standing) (command : CommonCommand) (variants : List Var
   common_fits : (edit : Edit) → common_edit variants command ≡ Ok edit → Known old mid (λ c b. Fits c.params b edit)
   common_fits edit allowed c b stood sound =
       let r = read c b stood in
-      (r.0, common-fits c.params b command edit (ap (λ vs. common_edit vs command) (sym r.1) ∙ allowed))
+      (r.0, common-fits c.params b command edit (sound-knows c b sound command) (ap (λ vs. common_edit vs command) (sym r.1) ∙ allowed))
 
   pub common_refused : (r : Result ⊤ Refusal) (e : Refusal) → r ≡ Err e → common_edit variants command ≡ Err e → Does old mid r (λ c b. common b command)
   common_refused = edit_refused old mid new (λ c b. common b command) (common_edit variants command) common_told

@@ -16,7 +16,7 @@ use Rattle.fr_base.proofs.SoundTables.{get-passing, only-insert, only-insert_oth
 use Rattle.fr_world.specs.BookEdits.{applied, changed_at}
 use Rattle.fr_world.specs.Fits.{Fits}
 use Rattle.fr_world.specs.declared.edit.Edit.{Edit}
-use Rattle.fr_world.specs.declared.edit.Edit.TheVariants.{NewVariant, SetReleased, NewSupplier, SetKey, NewNode, Rows, KeepImport}
+use Rattle.fr_world.specs.declared.edit.Edit.TheVariants.{NewVariant, NewFlat, SetReleased, NewSupplier, SetKey, NewNode, Rows, KeepImport}
 use Rattle.fr_office.specs.ImportCounts.{AreCounted, IsCounted, count_of, counts_without, is_count_of}
 use Rattle.fr_office.specs.declared.import_counts.ImportCount.{ImportCount}
 
@@ -67,6 +67,7 @@ pub others_counted : (b : Book) (edit : Edit) (counts : List ImportCount) →
     ((s label v : Name) (body : List ℕ) (rows : ℕ) → edit ≡ KeepImport s label v body rows → ⊥) → AreCounted b counts → AreCounted (applied b edit) counts
 unfolding applied
 others_counted b (NewVariant v parent depth) counts other counted = still_counted b (applied b (NewVariant v parent depth)) counts refl counted
+others_counted b (NewFlat v from) counts other counted = still_counted b (applied b (NewFlat v from)) counts refl counted
 others_counted b (SetReleased v) counts other counted = still_counted b (applied b (SetReleased v)) counts (changed-imports b v _ (get b.variants v)) counted
 others_counted b (NewSupplier s key) counts other counted = still_counted b (applied b (NewSupplier s key)) counts refl counted
 others_counted b (SetKey s key) counts other counted = still_counted b (applied b (SetKey s key)) counts refl counted

@@ -30,13 +30,11 @@ use Rattle.fr_base.specs.declared.refusal.Refusal.TheVariants.{NoVariant}
 use Rattle.fr_base.proofs.SoundTables.{value_of}
 use Rattle.fr_office.specs.Carried.{Replies}
 use Rattle.fr_office.specs.Compared.{Compares, SeesDifferences, kind_told, rows_among}
-use Rattle.fr_office.specs.Shared.{grants_among}
-use Rattle.fr_office.proofs.AllReplies.{In-filter}
+use Rattle.fr_office.specs.Shown.{seen_names}
+use Rattle.fr_office.proofs.SeenRows.{In-filter, frames-seen, grants-seen}
 use Rattle.fr_office.proofs.FlatRows.{Rise, frame-keys, gap-keys, placement-keys, signal-keys, signals-rise}
-use Rattle.fr_office.proofs.GrantLaws.{grants-all}
 use Rattle.fr_office.proofs.PageRows.{FrameEntry}
-use Rattle.fr_office.proofs.SplitLaws.{flat-flat_map, frames-split}
-use Rattle.fr_office.proofs.SupplierMerges.{frames-told, gaps-told, placements-told, rows_in, seen_names, signals-told}
+use Rattle.fr_office.proofs.SupplierMerges.{frames-told, gaps-told, placements-told, rows_in, signals-told}
 use Rattle.fr_world.specs.Held.{Standing}
 use Rattle.fr_world.specs.KeyedRows.{by_key, frame_entry, gap_entry, grant_entry, placement_entry, same_at, signal_entry}
 use Rattle.fr_world.proofs.AmongLaws.{In}
@@ -44,7 +42,7 @@ use Rattle.fr_world.proofs.MergedRows.{merge-between}
 
 -- ---- the grants of both
 
-grant-keys : (t : Table channel_slots book.Holder) → map grant_entry (grants_of t) ≡ t.rows
+pub grant-keys : (t : Table channel_slots book.Holder) → map grant_entry (grants_of t) ≡ t.rows
 unfolding grants_of
 grant-keys t = again t.rows
   where
@@ -82,32 +80,14 @@ module _ (p : Params) (before new : Table owned Frame) where
 
 -- ---- as the actor sees them
 
-append-five : {X : Type 0} (vs ws xs ys zs : List X) → vs ++ ws ++ xs ++ ys ++ zs ≡ vs ++ (ws ++ xs ++ ys ++ zs)
+pub append-five : {X : Type 0} (vs ws xs ys zs : List X) → vs ++ ws ++ xs ++ ys ++ zs ≡ vs ++ (ws ++ xs ++ ys ++ zs)
 append-five vs ws xs ys zs =
     ap (λ l. l ++ ys ++ zs) (append_assoc vs ws xs)
     ∙ ap (λ l. l ++ zs) (append_assoc vs (ws ++ xs) ys)
     ∙ append_assoc vs (ws ++ xs ++ ys) zs
 
-or_none : (b : Bool) → (b || false) ≡ b
-or_none true = refl
-or_none false = refl
-
-own-among : (s : Name) (grants : Table channel_slots book.Holder) → grants_among (s ∷ []) grants ≡ own_grants s grants
-own-among s grants = ap (λ test. only test grants) (λ i k h. or_none (same_text h.supplier s) i)
-
 module _ (c : Cluster) (b : Book) (v : Name) (x : Variant) (sound : IsSound c b) (there : get b.variants v ≡ Some x) where
-  grants-seen : (actor : Actor) → grants_among (seen_names actor b) x.grants ≡ seen_grants actor x.grants
-  grants-seen Integrator = grants-all c b v x sound there
-  grants-seen (Supplier s) = own-among s x.grants
-
-  rows-seen : (actor : Actor) → flat_map (λ s. (own s x.frames).rows) (seen_names actor b) ≡ (seen_frames actor x.frames).rows
-  rows-seen Integrator = frames-split c b v x sound there x.frames (λ e i. i)
-  rows-seen (Supplier s) = append-nil (own s x.frames).rows
-
-  frames-seen : {X : Type 0} (actor : Actor) (rows : FrameEntry → List X) → flat_map (rows_in rows x) (seen_names actor b) ≡ flat_map rows (seen_frames actor x.frames).rows
-  frames-seen actor rows = flat-flat_map rows (λ s. (own s x.frames).rows) (seen_names actor b) ∙ ap (flat_map rows) (rows-seen actor)
-
-  signals-seen : (actor : Actor) (e : FrameEntry) → In e (seen_frames actor x.frames).rows → Rise e
+  pub signals-seen : (actor : Actor) (e : FrameEntry) → In e (seen_frames actor x.frames).rows → Rise e
   unfolding only
   signals-seen Integrator e i = signals-rise c b v x sound there e i
   signals-seen (Supplier s) e i = signals-rise c b v x sound there e (In-filter (λ (e : FrameEntry). same_text e.0.0 s) (λ _. true) e x.frames.rows i)

@@ -82,7 +82,7 @@ module _ {K J V I W : Type 0} (o : Order K) (p : Order J) (items : V → List I)
 -- ---- records by their keys
 
 module _ {A B C : Type 0} where
-  map-map : (g : B → C) (f : A → B) (xs : List A) → map g (map f xs) ≡ map (λ x. g (f x)) xs
+  pub map-map : (g : B → C) (f : A → B) (xs : List A) → map g (map f xs) ≡ map (λ x. g (f x)) xs
   map-map g f [] = refl
   map-map g f (x ∷ xs) = ap (λ rest. g (f x) ∷ rest) (map-map g f xs)
 

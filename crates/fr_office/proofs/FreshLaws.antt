@@ -27,7 +27,7 @@ use Rattle.fr_world.specs.Edits.{IsOf, Leads, Takes, all_edited, edited, release
 use Rattle.fr_world.specs.Fits.{Fits, FitsVariant}
 use Rattle.fr_world.specs.Pages.{IsKept, PageData, nodes_in, own_rows_of, page_in}
 use Rattle.fr_world.specs.declared.edit.Edit.{Edit}
-use Rattle.fr_world.specs.declared.edit.Edit.TheVariants.{NewVariant, SetReleased, NewSupplier, SetKey, NewNode, Rows, KeepImport}
+use Rattle.fr_world.specs.declared.edit.Edit.TheVariants.{NewVariant, NewFlat, SetReleased, NewSupplier, SetKey, NewNode, Rows, KeepImport}
 use Rattle.fr_world.proofs.AgreeLaws.{edits-agree, others-stay}
 use Rattle.fr_world.proofs.PageLaws.{rows-registers}
 use Rattle.fr_office.specs.KeptPages.{Spares, touches}
@@ -39,6 +39,7 @@ use Rattle.fr_office.proofs.PageBack.{same-page, same-rows}
 pub edited_params : (rows : OwnRows) (edit : Edit) → (edited rows edit).params ≡ rows.params
 unfolding edited
 edited_params rows (NewVariant v parent depth) = refl
+edited_params rows (NewFlat v from) = refl
 edited_params rows (SetReleased v) = refl
 edited_params rows (NewSupplier s key) = refl
 edited_params rows (SetKey s key) = refl
@@ -105,6 +106,7 @@ module _ (c : Cluster) (b : Book) (page : PageData) (fresh : IsFresh c.params b 
   pub untouched-fresh : (edit : Edit) → touches edit page ≡ false → Spares b edit → IsFresh p (applied b edit) page
   unfolding applied nodes_in
   untouched-fresh (NewVariant v parent depth) other spares = still _ (other_variant b v page.variant _ other) refl
+  untouched-fresh (NewFlat v from) other spares = still _ (other_variant b v page.variant _ other) refl
   untouched-fresh (SetReleased v) other spares = other_changed v _ other (get b.variants v)
   untouched-fresh (NewSupplier s key) other spares = still _ refl refl
   untouched-fresh (SetKey s key) other spares = still _ refl refl
@@ -154,6 +156,7 @@ module _ (c : Cluster) (s v : Name) where
   unfolding applied edited own_rows
   one-agrees b x (KeepImport t label w body count) there may = (x, there, refl, refl)
   one-agrees b x (NewVariant w parent depth) there may = absurd may.own
+  one-agrees b x (NewFlat w from) there may = absurd may.own
   one-agrees b x (SetReleased w) there may = edits-agree c b s v x (SetReleased w) there may.own
   one-agrees b x (NewSupplier t key) there may = absurd may.own
   one-agrees b x (SetKey t key) there may = absurd may.own
@@ -208,6 +211,7 @@ change_spares b s v x (Frame f what) fits = tt
 -- an edit that fits leaves other suppliers what they hold
 pub fit_spares : (p : Params) (b : Book) (edit : Edit) → Fits p b edit → Spares b edit
 fit_spares p b (NewVariant v parent depth) fits = tt
+fit_spares p b (NewFlat v from) fits = tt
 fit_spares p b (SetReleased v) fits = tt
 fit_spares p b (NewSupplier s key) fits = tt
 fit_spares p b (SetKey s key) fits = tt
@@ -226,6 +230,7 @@ on_ok (Err e) done holds = cc
 -- an edit that it takes may be made
 may_take : (v : Name) (rows : OwnRows) (edit : Edit) → Takes v rows edit → MayTake v rows edit
 may_take v rows (NewVariant w parent depth) takes = takes
+may_take v rows (NewFlat w from) takes = takes
 may_take v rows (SetReleased w) takes = takes
 may_take v rows (NewSupplier s key) takes = takes
 may_take v rows (SetKey s key) takes = takes

@@ -16,7 +16,7 @@ use Rattle.fr_world.specs.Edits.{IsOf, all_edited, edited, releases}
 use Rattle.fr_world.specs.Fits.{Fits}
 use Rattle.fr_world.specs.Pages.{PageData, own_rows_of}
 use Rattle.fr_world.specs.declared.edit.Edit.{Edit}
-use Rattle.fr_world.specs.declared.edit.Edit.TheVariants.{NewVariant, SetReleased, NewSupplier, SetKey, NewNode, Rows, KeepImport}
+use Rattle.fr_world.specs.declared.edit.Edit.TheVariants.{NewVariant, NewFlat, SetReleased, NewSupplier, SetKey, NewNode, Rows, KeepImport}
 use Rattle.fr_world.specs.Held.{IsFresh}
 use Rattle.fr_office.specs.Decided.{MayTake, TakesAll, TakesEach}
 use Rattle.fr_office.specs.KeptPages.{Amends, AreFollowed, AreFresh, AreOf, FollowsAll, KeptData, kept_where, kept_without, lent_where, none_lent, touches}
@@ -63,6 +63,7 @@ rows-followed edit rows old new is lent others = record {
 -- an edit of the page's rows is one that may change it
 pub own-touched : (page : PageData) (edit : Edit) → IsOf page.supplier page.variant edit → touches edit page ≡ true
 own-touched page (NewVariant v parent depth) own = absurd own
+own-touched page (NewFlat v from) own = absurd own
 own-touched page (SetReleased v) own = ap (same_text page.variant) own ∙ same_text-itself page.variant
 own-touched page (NewSupplier s key) own = absurd own
 own-touched page (SetKey s key) own = absurd own
@@ -85,6 +86,7 @@ named-itself s t same other = true≢false (sym (same_text-itself t) ∙ ap (sam
 untouched-rows : (page : PageData) (edit : Edit) → touches edit page ≡ false → MayTake page.variant (own_rows_of page) edit → edited (own_rows_of page) edit ≡ own_rows_of page
 unfolding edited
 untouched-rows page (NewVariant v parent depth) other takes = refl
+untouched-rows page (NewFlat v from) other takes = refl
 untouched-rows page (SetReleased v) other takes = refl
 untouched-rows page (NewSupplier s key) other takes = refl
 untouched-rows page (SetKey s key) other takes = refl
@@ -96,6 +98,7 @@ untouched-rows page (KeepImport s label v body rows) other takes = refl
 -- and it does not release the variant
 untouched-releases : (page : PageData) (edit : Edit) → touches edit page ≡ false → MayTake page.variant (own_rows_of page) edit → releases edit ≡ false
 untouched-releases page (NewVariant v parent depth) other takes = refl
+untouched-releases page (NewFlat v from) other takes = refl
 untouched-releases page (SetReleased v) other takes = absurd (named-itself v page.variant takes.own other)
 untouched-releases page (NewSupplier s key) other takes = refl
 untouched-releases page (SetKey s key) other takes = refl

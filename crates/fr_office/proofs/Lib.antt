@@ -15,13 +15,13 @@ pub mod WarmLaws
 pub mod ShownLaws
 pub mod PageRows
 pub mod NamedLaws
-pub mod OwnReplies
+pub mod LentPages
 pub mod SplitLaws
 pub mod StepLaws
 pub mod GatherLaws
 pub mod GrantLaws
 pub mod ExportLaws
-pub mod AllReplies
+pub mod ShownReplies
 pub mod RegisterReplies
 pub mod CrashLaws
 pub mod CallLaws
@@ -31,5 +31,7 @@ pub mod ListingLaws
 pub mod FlatRows
 pub mod ApartMerges
 pub mod SupplierMerges
+pub mod SeenRows
 pub mod ComparedLaws
 pub mod DifferenceReplies
+pub mod RowReplies

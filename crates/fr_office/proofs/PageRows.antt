@@ -6,10 +6,9 @@ use Rattle.std.specs.List.Sorted.{IsStrictlySortedBy}
 use Rattle.std.specs.Map.{keys_of}
 use Rattle.fr_base.specs.Book as book
 use Rattle.fr_base.specs.Cells.{cluster_cells}
-use Rattle.fr_base.specs.Keys.{owned, channel_slots}
-use Rattle.fr_base.specs.Queries.{frame_row, frames_of, gap_row, gaps_of, grant_row, grants_of, sendings_of}
+use Rattle.fr_base.specs.Keys.{owned}
+use Rattle.fr_base.specs.Queries.{frame_row, frames_of, gap_row, gaps_of, sendings_of}
 use Rattle.fr_base.specs.Tables.{Table, get}
-use Rattle.fr_base.specs.declared.answer.GrantRow.{GrantRow}
 use Rattle.fr_base.specs.declared.channel.Channel.{Channel}
 use Rattle.fr_base.specs.declared.name.Name.{Name}
 use Rattle.fr_base.specs.declared.params.Params.{Params}
@@ -20,7 +19,7 @@ use Rattle.fr_world.specs.declared.page.ChannelSlot.{ChannelSlot}
 use Rattle.fr_world.specs.declared.page.PageFrame.{PageFrame}
 use Rattle.fr_world.proofs.AmongLaws.{In, In-map}
 use Rattle.fr_world.proofs.ApartLaws.{In-All, In-find}
-use Rattle.fr_world.proofs.KeyLaws.{name_cmp, own_alike, frames_rise, slot_cmp, slots_alike}
+use Rattle.fr_world.proofs.KeyLaws.{name_cmp, own_alike, frames_rise}
 use Rattle.fr_world.proofs.MapLaws.{rows-table_of}
 use Rattle.fr_office.proofs.ShownLaws.{flat-map}
 
@@ -76,15 +75,3 @@ sendings-sent p frames fs e = ap (λ gs. sent_in gs (cluster_cells p)) e
 
 abbrev pub grant_entry : Name → ChannelSlot × Name → (ℕ × Channel) × book.Holder
 grant_entry s e = ((e.0.slot, e.0.channel), holder_of s e.1)
-
--- the rows of these grants
-abbrev pub grants_shown : Name → List (ChannelSlot × Name) → List GrantRow
-grants_shown s es = flat_map (λ e. grant_row (grant_entry s e) ∷ []) es
-
-pub grants-page : (page : PageData) (es : List (ChannelSlot × Name)) → es ≡ page.grants → IsStrictlySortedBy slot_cmp (keys_of es) → grants_shown page.supplier es ≡ grants_of (own_rows_of page).grants
-unfolding grants_of
-grants-page page es e h =
-    sym (flat-map (λ e. grant_row e ∷ []) (grant_entry page.supplier) es)
-    ∙ (flat_map_single grant_row (map (grant_entry page.supplier) es))
-    ∙ ap (map grant_row) (sym (rows-table_of slot_cmp channel_slots (λ k. (k.slot, k.channel)) (holder_of page.supplier) slots_alike es h))
-    ∙ ap (λ gs. grants_of (own_rows_of (record page { grants = gs })).grants) e

@@ -39,7 +39,7 @@ use Rattle.fr_world.specs.Pages.{nodes_in}
 use Rattle.fr_world.proofs.AmongLaws.{In}
 use Rattle.fr_world.proofs.ApartLaws.{In-find}
 use Rattle.fr_office.specs.Carried.{Replies}
-use Rattle.fr_office.specs.Shown.{Sees, cluster_told, node_of, sees, supplier_told}
+use Rattle.fr_office.specs.Shown.{Sees, cluster_told, node_of, sees, seen_names, supplier_told}
 use Rattle.fr_office.proofs.ShownLaws.{flat-map}
 use Rattle.fr_office.proofs.SplitLaws.{among_names, map-flat_map, split, supplier_names}
 
@@ -136,21 +136,18 @@ nodes-split c b sound =
         there : (e : (Name × Name) × ⊤) → get b.nodes e.0 ≡ Some e.1 → IsTrue (is_some (get b.nodes e.0))
         there e is = ap is_some is
 
--- those of one supplier, or of all, are what the actor sees
-pub sees-own : (old new : Standing) (s : Name) (r : Result (List NodeRow) Refusal) → Tells old new r (λ c b rows. rows ≡ flat_map (λ s. nodes_of (own s b.nodes)) (s ∷ []))
-    → Sees (λ c b rows. rows ≡ nodes_of (seen_nodes (Supplier s) b.nodes)) old new r
-sees-own old new s (Ok rows) tells c b stood sound =
-    let told = tells c b stood in
-    (told.0, told.1 ∙ append-nil (nodes_of (own s b.nodes)))
-sees-own old new s (Err e) tells c b stood sound = tells c b stood
+-- those of the suppliers whom the actor sees are what it sees
+nodes-seen : (c : Cluster) (b : Book) → IsSound c b → (actor : Actor) → flat_map (λ s. nodes_of (own s b.nodes)) (seen_names actor b) ≡ nodes_of (seen_nodes actor b.nodes)
+nodes-seen c b sound Integrator = nodes-split c b sound
+nodes-seen c b sound (Supplier s) = append-nil (nodes_of (own s b.nodes))
 
-pub sees-all : (old new : Standing) (suppliers : List Name) (r : Result (List NodeRow) Refusal) → ((c : Cluster) (b : Book) → old c b → suppliers ≡ supplier_names b)
+pub sees-nodes : (old new : Standing) (actor : Actor) (suppliers : List Name) (r : Result (List NodeRow) Refusal) → ((c : Cluster) (b : Book) → old c b → suppliers ≡ seen_names actor b)
     → Tells old new r (λ c b rows. rows ≡ flat_map (λ s. nodes_of (own s b.nodes)) suppliers)
-    → Sees (λ c b rows. rows ≡ nodes_of (seen_nodes Integrator b.nodes)) old new r
-sees-all old new suppliers (Ok rows) known tells c b stood sound =
+    → Sees (λ c b rows. rows ≡ nodes_of (seen_nodes actor b.nodes)) old new r
+sees-nodes old new actor suppliers (Ok rows) known tells c b stood sound =
     let told = tells c b stood in
-    (told.0, told.1 ∙ ap (flat_map (λ s. nodes_of (own s b.nodes))) (known c b stood) ∙ nodes-split c b sound)
-sees-all old new suppliers (Err e) known tells c b stood sound = tells c b stood
+    (told.0, told.1 ∙ ap (flat_map (λ s. nodes_of (own s b.nodes))) (known c b stood) ∙ nodes-seen c b sound actor)
+sees-nodes old new actor suppliers (Err e) known tells c b stood sound = tells c b stood
 
 -- ---- the rows of the answer
 

@@ -11,6 +11,7 @@ use Rattle.fr_base.specs.Sound.{IsSound}
 use Rattle.fr_base.specs.Step.{Outcome, at_line, replace, replaced, replace_rows as book_rows, with_freed}
 use Rattle.fr_base.specs.declared.answer.Answer.{Answer}
 use Rattle.fr_base.specs.declared.answer.Answer.TheVariants.{Replaced, RefusedRow}
+use Rattle.fr_base.specs.declared.import.Header.{Header}
 use Rattle.fr_base.specs.declared.import.RowRead.{RowRead}
 use Rattle.fr_base.specs.declared.limits.TheConstants.{MAX_ROWS, MAX_IMPORT_BYTES}
 use Rattle.fr_base.specs.declared.refusal.Refusal.{Refusal}
@@ -23,7 +24,7 @@ use Rattle.fr_world.specs.Edits.{Leads, releases}
 use Rattle.fr_world.specs.Fits.{AllFit}
 use Rattle.fr_world.specs.Held.{Applies, Standing}
 use Rattle.fr_world.specs.Pages.{PageData, own_rows_of, page_in}
-use Rattle.fr_world.specs.ReplacementDecisions.{free_rows, replace_read, replace_row, replace_rows, replacement_decision}
+use Rattle.fr_world.specs.ReplacementDecisions.{begun, replace_read, replace_row, replace_rows, replacement_decision}
 use Rattle.fr_world.specs.RowDecisions.{DraftData, draft_of}
 use Rattle.fr_world.specs.declared.edit.Edit.{Edit}
 use Rattle.fr_world.proofs.BookFits.{replacement-fits}
@@ -32,7 +33,7 @@ use Rattle.fr_world.proofs.RowsDecide.{rows-checked}
 use Rattle.fr_world.proofs.RowsLead.{leads-last}
 use Rattle.fr_office.specs.Carried.{IsRefused}
 use Rattle.fr_office.specs.Decided.{LeadsTo, Opens, open_page}
-use Rattle.fr_office.specs.Replacements.{GivesReplaced, GivesReplacement, replaced_outcome, replacement_room}
+use Rattle.fr_office.specs.Replacements.{GivesReplaced, GivesReplacement, replaced_outcome, replacement_room, whole_in}
 use Rattle.fr_office.proofs.FreshLaws.{leads-taken}
 use Rattle.fr_office.proofs.RowsLaws.{opened-there, some_has}
 
@@ -52,7 +53,7 @@ module _ (c : Cluster) (b : Book) (r : Replacement) (sound : IsSound c b) (known
 
   -- what comes of it in this variant, by the rows of the register
   abbrev by_book : Variant → Outcome
-  by_book x = replaced b (length reads) (book_rows c.params (with_freed b r.supplier r.variant x reads) r.supplier r.variant reads)
+  by_book x = replaced b (length reads) (book_rows c.params (with_freed b r.supplier r.variant x (whole_in r) reads) r.supplier r.variant reads)
 
   in_open : (x : Variant) (t : Bool) → get b.variants r.variant ≡ Some x → x.released ≡ t →
       ((refuse Released when t) >> ((refuse Limit when nat_lt MAX_IMPORT_BYTES (length r.body)) >> Ok (by_book x)))
@@ -60,7 +61,7 @@ module _ (c : Cluster) (b : Book) (r : Replacement) (sound : IsSound c b) (known
   unfolding ◌>>=◌ ◌>>◌ refuse◌when◌ replacement_room
   in_open x true there released = refl
   in_open x false there unreleased =
-      ap (λ made. (refuse Limit when nat_lt MAX_IMPORT_BYTES (length r.body)) >> Ok (replaced b (length reads) made)) (replacement-decides c b r.supplier r.variant x r.body sound there unreleased known)
+      ap (λ made. (refuse Limit when nat_lt MAX_IMPORT_BYTES (length r.body)) >> Ok (replaced b (length reads) made)) (replacement-decides c b r.supplier r.variant x (whole_in r) r.body sound there unreleased known)
 
   -- a replacement is decided by its page, and then the length of its file
   pub replacement_told : replace c.params b r ≡ (open_page c.params b r.supplier r.variant >>= made_of)
@@ -91,10 +92,10 @@ all_read (read ∷ rest) d last made = elim (replace_read d read) as (λ r. repl
 ] refl made
 
 -- so they are few
-pub few_replaced : (page : PageData) (body : List ℕ) (reads : List RowRead) (edits : List Edit) → reads ≡ rows_of_body page.params body → replacement_decision page reads ≡ Ok edits → length reads ≤ MAX_ROWS
+pub few_replaced : (page : PageData) (whole : Option Header) (body : List ℕ) (reads : List RowRead) (edits : List Edit) → reads ≡ rows_of_body page.params body → replacement_decision page whole reads ≡ Ok edits → length reads ≤ MAX_ROWS
 unfolding replacement_decision ◌>>=◌
-few_replaced page body reads edits is decided =
-    let start : DraftData = free_rows (draft_of page) reads in
+few_replaced page whole body reads edits is decided =
+    let start : DraftData = begun (draft_of page) whole reads in
     let read : AllByRecursion IsRead reads = elim (replace_rows start reads) as (λ r. replace_rows start reads ≡ r → (r >>= λ last. Ok last.edits) ≡ Ok edits → AllByRecursion IsRead reads) [
       | Ok last ↦ λ made h. all_read reads start last made
       | Err e ↦ λ made h. cc
@@ -109,25 +110,25 @@ module _ (r : Replacement) (page : PageData) (reads : List RowRead) (read : read
   read_so c b opened = read ∙ ap (λ (q : PageData). rows_of_body q.params r.body) (sym (opened-there c.params b r.supplier r.variant page opened).2)
 
   -- the first refused row is told
-  pub rows_refused : (old : Standing) (line : ℕ) (refusal : Refusal) → replacement_decision page reads ≡ Err (record { line = line; refusal = refusal }) → GivesReplaced old old (Ok (RefusedRow line refusal)) r page
+  pub rows_refused : (old : Standing) (line : ℕ) (refusal : Refusal) → replacement_decision page (whole_in r) reads ≡ Err (record { line = line; refusal = refusal }) → GivesReplaced old old (Ok (RefusedRow line refusal)) r page
   unfolding replaced ◌>>=◌
   rows_refused old line refusal decided c b stood sound known opened =
-      let said : replacement_decision page (rows_of_body c.params r.body) ≡ Err (record { line = line; refusal = refusal }) = ap (replacement_decision page) (sym (read_so c b opened)) ∙ decided in
+      let said : replacement_decision page (whole_in r) (rows_of_body c.params r.body) ≡ Err (record { line = line; refusal = refusal }) = ap (replacement_decision page (whole_in r)) (sym (read_so c b opened)) ∙ decided in
       (rw said refl, rw said stood)
 
-  module _ (old new : Standing) (edits : List Edit) (decided : replacement_decision page reads ≡ Ok edits) (unreleased : page.released ≡ false) where
+  module _ (old new : Standing) (edits : List Edit) (decided : replacement_decision page (whole_in r) reads ≡ Ok edits) (unreleased : page.released ≡ false) where
     all_fit : (c : Cluster) (b : Book) → IsSound c b → open_page c.params b r.supplier r.variant ≡ Ok page → AllFit c.params b edits
     all_fit c b sound opened =
         let t = opened-there c.params b r.supplier r.variant page opened in
-        replacement-fits c b r.supplier r.variant t.0 (rows_of_body c.params r.body) edits sound t.1 (ap (λ (q : PageData). q.released) t.2 ∙ unreleased) (rows-checked c.params r.body)
-        (ap (λ q. replacement_decision q (rows_of_body c.params r.body)) t.2 ∙ ap (replacement_decision page) (sym (read_so c b opened)) ∙ decided)
+        replacement-fits c b r.supplier r.variant t.0 (whole_in r) (rows_of_body c.params r.body) edits sound t.1 (ap (λ (q : PageData). q.released) t.2 ∙ unreleased) (rows-checked c.params r.body)
+        (ap (λ q. replacement_decision q (whole_in r) (rows_of_body c.params r.body)) t.2 ∙ ap (replacement_decision page (whole_in r)) (sym (read_so c b opened)) ∙ decided)
 
     -- the edits are made
     pub rows_made : (count : ℕ) → count ≡ length reads → (result : Result ⊤ Refusal) → result ≡ Ok tt → Applies old new result edits → GivesReplaced old new (Ok (Replaced count)) r page
     unfolding replaced ◌>>=◌
     rows_made count counted (Err e) made makes c b stood sound known opened = cc
     rows_made count counted (Ok x) made makes c b stood sound known opened =
-        let said : replacement_decision page (rows_of_body c.params r.body) ≡ Ok edits = ap (replacement_decision page) (sym (read_so c b opened)) ∙ decided in
+        let said : replacement_decision page (whole_in r) (rows_of_body c.params r.body) ≡ Ok edits = ap (replacement_decision page (whole_in r)) (sym (read_so c b opened)) ∙ decided in
         let so : count ≡ length (rows_of_body c.params r.body) = counted ∙ ap length (read_so c b opened) in
         let now : new c (all_applied b edits) = makes c b stood (all_fit c b sound opened) in
         rw said (rw (sym so) (refl, now))

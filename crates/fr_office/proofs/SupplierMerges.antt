@@ -22,16 +22,11 @@ use Rattle.fr_base.specs.declared.name.Name.{Name}
 use Rattle.fr_base.specs.declared.params.Params.{Params}
 use Rattle.fr_base.proofs.SoundRows.{same_text-is}
 use Rattle.fr_office.specs.Compared.{kind_told, suppliers_told}
+use Rattle.fr_office.specs.Shown.{seen_names}
 use Rattle.fr_office.proofs.ApartMerges.{merge-suppliers}
 use Rattle.fr_office.proofs.PageRows.{FrameEntry}
 use Rattle.fr_office.proofs.ShownLaws.{flat-map}
-use Rattle.fr_office.proofs.SplitLaws.{supplier_names}
 use Rattle.fr_world.specs.KeyedRows.{by_key, frame_entry, gap_entry, placement_entry, same_at, signal_entry}
-
--- the suppliers whose rows the actor sees
-abbrev pub seen_names : Actor → Book → List Name
-seen_names Integrator b = supplier_names b
-seen_names (Supplier s) b = s ∷ []
 
 -- the rows of the supplier's frames
 abbrev pub rows_in : {X : Type 0} → (FrameEntry → List X) → Variant → Name → List X

@@ -5,7 +5,7 @@ use Rattle.fr_base.specs.Refusing.{◌>>=◌, ◌>>◌, ◌or◌, refuse◌when�
 use Rattle.fr_base.specs.Tables.{get, contains}
 use Rattle.fr_base.specs.Cluster.{Cluster}
 use Rattle.fr_base.specs.Book.{Variant, Book}
-use Rattle.fr_base.specs.ImportRows.{all_rows_of_body, rows_of_body}
+use Rattle.fr_base.specs.ImportRows.{header_of_body, all_rows_of_body, rows_of_body}
 use Rattle.fr_base.specs.Sound.{IsSound}
 use Rattle.fr_base.specs.Step.{Outcome, fates_of, tried, try}
 use Rattle.fr_base.specs.declared.answer.Answer.{Answer}
@@ -37,7 +37,7 @@ module _ (c : Cluster) (b : Book) (t : Trial) (sound : IsSound c b) (known : con
 
   -- what becomes of the rows in this variant, by the rows of the register
   abbrev by_book : Variant → List FateRow
-  by_book x = fates_of c.params t.replaces (tried t.replaces b t.supplier t.variant x (rows_of_body c.params t.body)) t.supplier t.variant (all_rows_of_body c.params t.body)
+  by_book x = fates_of c.params t.manner (tried t.manner b t.supplier t.variant x (header_of_body t.body) (rows_of_body c.params t.body)) t.supplier t.variant (all_rows_of_body c.params t.body)
 
   by_length : (long : Bool) (fates : List FateRow) → ((refuse Limit when long) >> Ok (telling fates)) ≡ (((refuse Limit when long) >> Ok (Report false (Fates fates))) >>= λ answer. Ok (record { book = b; answer = answer }))
   unfolding ◌>>=◌ ◌>>◌ refuse◌when◌
@@ -50,7 +50,7 @@ module _ (c : Cluster) (b : Book) (t : Trial) (sound : IsSound c b) (known : con
   unfolding ◌>>=◌ ◌>>◌ refuse◌when◌ told_on
   in_open x true there released = refl
   in_open x false there unreleased =
-      ap (λ fates. (refuse Limit when nat_lt MAX_IMPORT_BYTES (length t.body)) >> Ok (telling fates)) (trial-decides c b t.supplier t.variant x t.body t.replaces sound there unreleased known)
+      ap (λ fates. (refuse Limit when nat_lt MAX_IMPORT_BYTES (length t.body)) >> Ok (telling fates)) (trial-decides c b t.supplier t.variant x t.body t.manner sound there unreleased known)
       ∙ by_length (nat_lt MAX_IMPORT_BYTES (length t.body)) (fates_on (page_in c.params b t.supplier t.variant x) t)
 
   -- a trial is told by its page

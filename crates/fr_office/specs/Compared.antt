@@ -1,20 +1,25 @@
--- Compared: what was gathered of two variants.
+-- Compared: what was gathered of two variants; and the rows of all kinds of one.
 use Rattle.std.specs.List.{flat_map}
-use Rattle.std.specs.Prelude.{◌≡◌, ◌⊎◌, Bool, true, List, [], ◌∷◌, ◌++◌, None, Some, Result, MatchResult}
+use Rattle.std.specs.Prelude.{◌≡◌, ◌⊎◌, Bool, true, List, [], ◌∷◌, ◌++◌, map, None, Some, Result, MatchResult}
 use Rattle.fr_base.specs.Book.{Book, Frame, Variant, own, own_grants}
 use Rattle.fr_base.specs.Cluster.{Cluster}
-use Rattle.fr_base.specs.Differences.{differences, frame_seen, gap_seen, grants_differ, placed_frames, placement_seen, same_gap, same_signal, signal_seen, starts}
+use Rattle.fr_base.specs.Differences.{differences, frame_seen, gap_seen, grant_seen, grants_differ, placed_frames, placement_seen, same_gap, same_signal, signal_seen, starts}
 use Rattle.fr_base.specs.Exports.{frame_records, placement_records, signal_records}
 use Rattle.fr_base.specs.Keys.{owned}
 use Rattle.fr_base.specs.Merging.{merge}
 use Rattle.fr_base.specs.Names.{same_text}
-use Rattle.fr_base.specs.Queries.{gap_row}
+use Rattle.fr_base.specs.Queries.{gap_row, grants_of}
 use Rattle.fr_base.specs.Sound.{IsSound}
 use Rattle.fr_base.specs.Tables.{Order, Table, get}
 use Rattle.fr_base.specs.declared.actor.Actor.{Actor}
 use Rattle.fr_base.specs.declared.answer.DifferenceRow.{DifferenceRow}
+use Rattle.fr_base.specs.declared.answer.FrameRecord.{FrameRecord}
+use Rattle.fr_base.specs.declared.answer.GapRow.{GapRow}
+use Rattle.fr_base.specs.declared.answer.GrantRow.{GrantRow}
 use Rattle.fr_base.specs.declared.answer.LaneHolder.{LaneHolder}
+use Rattle.fr_base.specs.declared.answer.PlacementRecord.{PlacementRecord}
 use Rattle.fr_base.specs.declared.answer.SeenRow.{SeenRow}
+use Rattle.fr_base.specs.declared.answer.SignalRecord.{SignalRecord}
 use Rattle.fr_base.specs.declared.name.Name.{Name}
 use Rattle.fr_base.specs.declared.params.Params.{Params}
 use Rattle.fr_base.specs.declared.refusal.Refusal.{Refusal}
@@ -23,7 +28,7 @@ use Rattle.fr_office.specs.Shared.{grants_among, with_rows}
 use Rattle.fr_office.specs.declared.queries.compared.ComparedRows.{ComparedRows}
 use Rattle.fr_office.specs.declared.queries.frame_differences.FrameDifferences.{FrameDifferences}
 use Rattle.fr_world.specs.Held.{Standing}
-use Rattle.fr_world.specs.KeyedRows.{by_key, frame_entry, gap_entry, placement_entry, same_at, signal_entry}
+use Rattle.fr_world.specs.KeyedRows.{by_key, frame_entry, gap_entry, grant_entry, placement_entry, same_at, signal_entry}
 use Rattle.fr_world.specs.Loads.{grants_in_lanes}
 use Rattle.fr_world.specs.declared.page.ChannelSlot.{ChannelSlot}
 
@@ -41,7 +46,7 @@ SeesDifferences actor v w old now r = (c : Cluster) (b : Book) → old c b → I
     (λ rows. rows ≡ differences c.params actor before new)
     (λ e. e ≡ Unavailable))
 
--- the rows of frames that a difference compares, of each kind one frame's after another's
+-- the rows of frames, of each kind one frame's after another's
 abbrev pub compared_rows : Params → Table owned Frame → ComparedRows
 compared_rows p frames = record {
   frames = flat_map frame_records frames.rows;
@@ -102,3 +107,48 @@ rows_among p ss before new =
     ++ (suppliers_told p ss before new).placements
     ++ (suppliers_told p ss before new).signals
     ++ (suppliers_told p ss before new).gaps
+
+-- ---- the rows of one variant
+
+-- rows of each kind, and more behind them
+abbrev pub with_more : ComparedRows → ComparedRows → ComparedRows
+with_more rows more = record {
+  frames = rows.frames ++ more.frames;
+  placements = rows.placements ++ more.placements;
+  signals = rows.signals ++ more.signals;
+  gaps = rows.gaps ++ more.gaps;
+}
+
+-- the rows of these suppliers' frames in the variant, of each kind supplier after supplier
+abbrev pub suppliers_rows : Params → List Name → Variant → ComparedRows
+suppliers_rows p ss x = record {
+  frames = flat_map (λ s. (compared_rows p (own s x.frames)).frames) ss;
+  placements = flat_map (λ s. (compared_rows p (own s x.frames)).placements) ss;
+  signals = flat_map (λ s. (compared_rows p (own s x.frames)).signals) ss;
+  gaps = flat_map (λ s. (compared_rows p (own s x.frames)).gaps) ss;
+}
+
+-- a row of each kind as a row of a variant
+abbrev pub grant_told : GrantRow → SeenRow
+grant_told r = grant_seen (grant_entry r)
+
+abbrev pub frame_told : FrameRecord → SeenRow
+frame_told r = frame_seen (frame_entry r)
+
+abbrev pub placement_told : PlacementRecord → SeenRow
+placement_told r = placement_seen (placement_entry r)
+
+abbrev pub signal_told : SignalRecord → SeenRow
+signal_told r = signal_seen (signal_entry r)
+
+abbrev pub gap_told : GapRow → SeenRow
+gap_told r = gap_seen (gap_entry r)
+
+-- the rows of these suppliers in the variant: grants, frames, placements, signals and gaps
+abbrev pub seen_among : Params → List Name → Variant → List SeenRow
+seen_among p ss x =
+    map grant_told (grants_of (grants_among ss x.grants))
+    ++ map frame_told (suppliers_rows p ss x).frames
+    ++ map placement_told (suppliers_rows p ss x).placements
+    ++ map signal_told (suppliers_rows p ss x).signals
+    ++ map gap_told (suppliers_rows p ss x).gaps

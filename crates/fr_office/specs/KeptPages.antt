@@ -20,7 +20,7 @@ use Rattle.fr_office.specs.declared.import_counts.ImportCount.{ImportCount}
 use Rattle.fr_office.specs.declared.page_bytes.TheConstants.{FRAME_BYTES, GRANT_BYTES, MOST_GRANTS, MOST_PLACEMENTS, MOST_SIGNALS, PAGE_BYTES, PLACEMENT_BYTES, SIGNAL_BYTES}
 use Rattle.fr_office.specs.declared.shelf.TheConstants.{MAX_BYTES}
 use Rattle.fr_world.specs.declared.edit.Edit.{Edit}
-use Rattle.fr_world.specs.declared.edit.Edit.TheVariants.{NewVariant, SetReleased, NewSupplier, SetKey, NewNode, Rows, KeepImport}
+use Rattle.fr_world.specs.declared.edit.Edit.TheVariants.{NewVariant, NewFlat, SetReleased, NewSupplier, SetKey, NewNode, Rows, KeepImport}
 
 -- the page that is lent, which was used last; the pages that were used before it; and the pages
 -- that were used before those
@@ -143,6 +143,7 @@ Turns s v old new = TurnsFrom (lent_at s v old.lent) old (kept_without s v old) 
 -- whether the edit may change what the page has
 abbrev pub touches : Edit → PageData → Bool
 touches (NewVariant v parent depth) page = same_text page.variant v
+touches (NewFlat v from) page = same_text page.variant v
 touches (SetReleased v) page = same_text page.variant v
 touches (NewSupplier s key) page = false
 touches (SetKey s key) page = false

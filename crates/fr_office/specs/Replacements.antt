@@ -1,15 +1,16 @@
 -- Replacement: a replacement is carried out as the definition says, and its rows as they are
 -- decided on the supplier's page; or nothing is done. What a crash leaves of it.
-use Rattle.std.specs.Prelude.{◌≡◌, ◌⊎◌, List, ◌∷◌, length, nat_lt, Result, Ok, IfOk, IsTrue, MatchResult, ⊤}
+use Rattle.std.specs.Prelude.{◌≡◌, ◌⊎◌, List, ◌∷◌, length, nat_lt, Option, Result, Ok, IfOk, IsTrue, MatchResult, ⊤}
 use Rattle.fr_base.specs.Book.{Book}
 use Rattle.fr_base.specs.Cluster.{Cluster}
-use Rattle.fr_base.specs.ImportRows.{rows_of_body}
+use Rattle.fr_base.specs.ImportRows.{header_of_body, rows_of_body}
 use Rattle.fr_base.specs.Refusing.{◌>>=◌, refuse◌when◌}
 use Rattle.fr_base.specs.Sound.{IsSound}
-use Rattle.fr_base.specs.Step.{Outcome, replace, replaced}
+use Rattle.fr_base.specs.Step.{Outcome, replace, replaced, whole_of}
 use Rattle.fr_base.specs.Tables.{contains}
 use Rattle.fr_base.specs.declared.answer.Answer.{Answer}
 use Rattle.fr_base.specs.declared.answer.Answer.TheVariants.{Replaced}
+use Rattle.fr_base.specs.declared.import.Header.{Header}
 use Rattle.fr_base.specs.declared.limits.TheConstants.{MAX_IMPORT_BYTES}
 use Rattle.fr_base.specs.declared.params.Params.{Params}
 use Rattle.fr_base.specs.declared.refusal.Refusal.{Refusal}
@@ -27,10 +28,14 @@ use Rattle.fr_office.specs.Decided.{open_page}
 unfoldable pub replacement_room : Replacement → Result ⊤ Refusal
 replacement_room r = refuse Limit when nat_lt MAX_IMPORT_BYTES (length r.body)
 
+-- the kind of rows of which the replacement's file is the whole, if it is one
+abbrev pub whole_in : Replacement → Option Header
+whole_in r = whole_of r.whole (header_of_body r.body)
+
 -- the outcome of the replacement's rows, as they are decided on this page
 abbrev pub replaced_outcome : Params → Book → Replacement → PageData → Outcome
 replaced_outcome p b r page =
-    replaced b (length (rows_of_body p r.body)) (replacement_decision page (rows_of_body p r.body) >>= λ edits. Ok (all_applied b edits))
+    replaced b (length (rows_of_body p r.body)) (replacement_decision page (whole_in r) (rows_of_body p r.body) >>= λ edits. Ok (all_applied b edits))
 
 -- In a sound book the replacement of a supplier that is there was carried out as the definition
 -- says, and the records stand for the book after it; or nothing was done.

@@ -1,12 +1,11 @@
--- Shown: what is read to answer a query, of one supplier's page or of all, and that the report
--- shows what the definition says.
+-- Shown: what is read to answer a query, of the pages of those whose rows the actor sees, and that the
+-- report shows what the definition says.
 use Rattle.std.specs.List.{flat_map}
-use Rattle.std.specs.Prelude.{◌≡◌, ℕ, ◌<◌, ◌⊎◌, Bool, true, List, [], ◌∷◌, ◌++◌, if◌then◌else◌, length, Option, Some, None, Result, Ok, Err, MatchResult, ⊤}
+use Rattle.std.specs.Prelude.{◌≡◌, ℕ, ◌<◌, ◌⊎◌, Bool, true, List, [], ◌∷◌, ◌++◌, if◌then◌else◌, filter, is_some, length, map, Option, Some, None, Result, Ok, Err, MatchResult, ⊤}
 use Rattle.fr_base.specs.Book.{Book, Frame, Variant, own}
 use Rattle.fr_base.specs.Cluster.{Cluster, ClusterFile}
 use Rattle.fr_base.specs.Queries.{figures, named, shown, signal_rows}
 use Rattle.fr_base.specs.Sound.{IsSound}
-use Rattle.fr_base.specs.Step.{own_rows}
 use Rattle.fr_base.specs.Tables.{get}
 use Rattle.fr_base.specs.Names.{same_text}
 use Rattle.fr_base.specs.declared.actor.Actor.{Actor}
@@ -14,6 +13,7 @@ use Rattle.fr_base.specs.declared.actor.Actor.TheVariants.{Integrator, Supplier}
 use Rattle.fr_base.specs.declared.answer.ReportRows.{ReportRows}
 use Rattle.fr_base.specs.declared.answer.ClusterRow.{ClusterRow}
 use Rattle.fr_base.specs.declared.answer.ClusterRow.TheVariants as cluster
+use Rattle.fr_base.specs.declared.answer.LoadRow.{LoadRow}
 use Rattle.fr_base.specs.declared.answer.NodeRow.{NodeRow}
 use Rattle.fr_base.specs.declared.answer.SignalRow.{SignalRow}
 use Rattle.fr_base.specs.declared.config.Supplier.{Supplier as Listed}
@@ -23,7 +23,12 @@ use Rattle.fr_base.specs.declared.refusal.Refusal.{Refusal}
 use Rattle.fr_base.specs.declared.refusal.Refusal.TheVariants.{NoVariant, Unavailable}
 use Rattle.fr_base.specs.declared.report.Report.{Report}
 use Rattle.fr_world.specs.Held.{Standing}
-use Rattle.fr_world.specs.Pages.{PageData, own_rows_of, page_in}
+use Rattle.fr_world.specs.Pages.{PageData, page_in}
+
+-- the suppliers whose rows the actor sees, by name
+abbrev pub seen_names : Actor → Book → List Name
+seen_names Integrator b = map (λ e. e.0) b.suppliers.rows
+seen_names (Supplier s) b = s ∷ []
 
 -- whether the actor is told of a supplier: a supplier is told of itself, the integrator of all
 abbrev pub sees : Actor → Name → Bool
@@ -54,13 +59,6 @@ FindsPage lent s v old new r = (c : Cluster) (b : Book) → old c b → new c b 
     (λ _. (x : Variant) × (get b.variants v ≡ Some x) × (lent ≡ Some (page_in c.params b s v x)))
     (λ e. (e ≡ Unavailable) ⊎ ((e ≡ NoVariant) × (get b.variants v ≡ None)))
 
--- The report shows the page's supplier what it shows it of a variant in which the page has the
--- supplier's rows, released or open as the page says; or the answer is Unavailable.
-abbrev pub ShowsOwn : PageData → Report Name ℕ → Result ReportRows Refusal → Type 0
-ShowsOwn page report r = (b : Book) (x : Variant) → own_rows_of page ≡ own_rows page.params b page.supplier x → page.released ≡ x.released → MatchResult r
-    (λ answer. shown page.params (Supplier page.supplier) x report ≡ Ok answer)
-    (λ e. (e ≡ Unavailable) ⊎ (shown page.params (Supplier page.supplier) x report ≡ Err e))
-
 -- This was gathered of the variant, if it is there; or it is not there, or the answer is
 -- Unavailable. The records stand for the same book as before.
 abbrev pub Gathers : {X : Type 0} → Name → (Params → Variant → X → Type 0) → Standing → Standing → Result X Refusal → Type 0
@@ -68,12 +66,18 @@ Gathers v says old new r = (c : Cluster) (b : Book) → old c b → new c b × M
     (λ found. (x : Variant) → get b.variants v ≡ Some x → says c.params x found)
     (λ e. (e ≡ Unavailable) ⊎ ((e ≡ NoVariant) × (get b.variants v ≡ None)))
 
--- The report shows the integrator what the definition says of the variant, if it is there; or the
--- answer is Unavailable. The records stand for the same book as before.
-abbrev pub ShowsAll : Name → Report Name ℕ → Standing → Standing → Result ReportRows Refusal → Type 0
-ShowsAll v report old new r = (c : Cluster) (b : Book) → old c b → IsSound c b → new c b × ((x : Variant) → get b.variants v ≡ Some x → MatchResult r
-    (λ answer. shown c.params Integrator x report ≡ Ok answer)
-    (λ e. (e ≡ Unavailable) ⊎ (shown c.params Integrator x report ≡ Err e)))
+-- The report shows the actor what the definition says of the variant, if it is there; or the answer
+-- is Unavailable. The records stand for the same book as before.
+abbrev pub Shows : Actor → Name → Report Name ℕ → Standing → Standing → Result ReportRows Refusal → Type 0
+Shows actor v report old new r = (c : Cluster) (b : Book) → old c b → IsSound c b → new c b × ((x : Variant) → get b.variants v ≡ Some x → MatchResult r
+    (λ answer. shown c.params actor x report ≡ Ok answer)
+    (λ e. (e ≡ Unavailable) ⊎ (shown c.params actor x report ≡ Err e)))
+
+-- of the rows of all lanes those that the actor is shown: a supplier those of lanes that are held, the
+-- integrator all
+abbrev pub lanes_told : Actor → List LoadRow → List LoadRow
+lanes_told Integrator lanes = lanes
+lanes_told (Supplier s) lanes = filter (λ lane. is_some lane.holder) lanes
 
 -- the frames of this name of these suppliers in the variant, supplier after supplier
 abbrev pub frames_named : Name → List Name → Variant → List ((Name × Name) × Frame)

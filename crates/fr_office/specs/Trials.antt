@@ -3,7 +3,7 @@
 use Rattle.std.specs.Prelude.{◌≡◌, ◌⊎◌, false, List, length, nat_lt, Result, Ok, Err, IsTrue, MatchResult}
 use Rattle.fr_base.specs.Book.{Book}
 use Rattle.fr_base.specs.Cluster.{Cluster}
-use Rattle.fr_base.specs.ImportRows.{all_rows_of_body}
+use Rattle.fr_base.specs.ImportRows.{header_of_body, all_rows_of_body}
 use Rattle.fr_base.specs.Refusing.{◌>>◌, refuse◌when◌}
 use Rattle.fr_base.specs.Sound.{IsSound}
 use Rattle.fr_base.specs.Step.{try}
@@ -22,7 +22,7 @@ use Rattle.fr_world.specs.Trials.{trial}
 
 -- the fate of each row of the file on this page
 abbrev pub fates_on : PageData → Trial → List FateRow
-fates_on page t = trial t.replaces page (all_rows_of_body page.params t.body)
+fates_on page t = trial t.manner page (header_of_body t.body) (all_rows_of_body page.params t.body)
 
 -- the answer to the trial on this page, where the file is within the limit
 unfoldable pub told_on : PageData → Trial → Result Answer Refusal

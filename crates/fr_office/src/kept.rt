@@ -88,6 +88,7 @@ impl Kept {
     {
         match edit {
             Edit::NewVariant { variant, .. } => self.pages.let_go_of_variant(*variant),
+            Edit::NewFlat { variant, .. } => self.pages.let_go_of_variant(*variant),
             Edit::SetReleased { variant } => self.pages.let_go_of_variant(*variant),
             Edit::NewSupplier { .. } => {}
             Edit::SetKey { .. } => {}

@@ -1,13 +1,12 @@
-//! Answers queries: by what the register holds, by one supplier's page, or by the pages of all.
+//! Answers queries: by what the register holds, or by the pages of those whose rows the actor sees.
 #![tactic(auto, using(fr_world::proofs::ReadLaws::reads_none, fr_world::proofs::ReadLaws::reads_then))]
 
 ghost use Rattle.std.specs.Prelude.{◌≡◌, IfSome, IsSome, IsTrue, Ok, OnOk};
 ghost use Rattle.fr_base.specs.Checks.{divides, has_repetition, is_integrator};
 ghost use Rattle.fr_base.specs.Queries.{found, held, reply};
-ghost use Rattle.fr_base.specs.declared.actor.Actor.TheVariants.{Integrator, Supplier};
 ghost use Rattle.fr_base.specs.declared.query.Query.TheVariants.{Variant as OfVariant};
 ghost use Rattle.fr_office.specs.Carried.{OnlyReads, Replies};
-ghost use Rattle.fr_office.specs.Shown.{FindsPage, ShowsAll, ShowsOwn};
+ghost use Rattle.fr_office.specs.Shown.{FindsPage, Shows};
 
 mod cluster;
 mod compared;
@@ -20,23 +19,26 @@ mod grants;
 mod layout;
 mod load;
 mod nodes;
+mod room;
+mod rows;
 mod schedule;
 mod suppliers;
 
 use crate::lender::Lender;
 use crate::queries::cluster::cluster_rows;
 use crate::queries::differences::differences;
-use crate::queries::exports::{gather_export, page_export};
-use crate::queries::frames::{gather_frames, push_frames};
-use crate::queries::gaps::{gather_gaps, push_gaps};
-use crate::queries::grants::{gather_grants, page_grants};
-use crate::queries::layout::{gather_signals, push_signals};
-use crate::queries::load::gather_load;
+use crate::queries::exports::gather_export;
+use crate::queries::frames::gather_frames;
+use crate::queries::gaps::gather_gaps;
+use crate::queries::grants::gather_grants;
+use crate::queries::layout::gather_signals;
+use crate::queries::load::{gather_load, seen_lanes};
 use crate::queries::nodes::node_rows;
-use crate::queries::schedule::{gather_schedule, page_schedule};
-use crate::queries::suppliers::supplier_names;
+use crate::queries::room::find_room;
+use crate::queries::rows::gather_rows;
+use crate::queries::schedule::gather_schedule;
+use crate::queries::suppliers::seen_suppliers;
 use fr_base::{Actor, Answer, Inventory, Name, Query, Refusal, Report, ReportRows, Rows};
-use fr_world::{Page, page_load, room};
 use std::alloc::Global;
 
 /// The answer to a query with checked values: to a supplier by its own rows, to the integrator by
@@ -123,41 +125,27 @@ fn of_variant<R: Lender>(
         (Replies (λ c b. found c.params b actor.now (OfVariant variant report.now)))
         records.old records.new result }
 {
-    match actor {
-        Actor::Supplier(supplier) => of_supplier(alloc, records, *supplier, variant, report),
-        Actor::Integrator => of_all(alloc, records, variant, report),
-    }
-}
-
-// The rows of the variant's report, as the integrator sees them.
-fn of_all<R: Lender>(
-    alloc: Global,
-    records: &mut R,
-    variant: Name,
-    report: &Report<Name>,
-) -> Result<ReportRows, Refusal>
-    ensures { OnlyReads R.Records
-        (Replies (λ c b. found c.params b Integrator (OfVariant variant report.now)))
-        records.old records.new result }
-{
     if records.has_variant(variant)? {
-        show_all(alloc, records, variant, report)
+        show(alloc, records, actor, variant, report)
     } else {
         Err(Refusal::NoVariant)
     }
 }
 
-// What the report shows the integrator of a variant that is there.
-fn show_all<R: Lender>(
+// What the report shows the actor of a variant that is there, gathered from those whose rows it sees.
+fn show<R: Lender>(
     alloc: Global,
     records: &mut R,
+    actor: &Actor,
     variant: Name,
     report: &Report<Name>,
 ) -> Result<ReportRows, Refusal>
-    ensures { OnlyReads R.Records (ShowsAll variant report.now) records.old records.new result }
+    requires { IsTrue (divides (R.params records.old) report.now) }
+    ensures { OnlyReads R.Records (Shows actor.now variant report.now)
+        records.old records.new result }
 {
     let params = records.config().params();
-    let suppliers = supplier_names(alloc, records.config())?;
+    let suppliers = seen_suppliers(alloc, records, actor)?;
     match report {
         Report::Grants => {
             let rows = gather_grants(alloc, records, &suppliers, variant)?;
@@ -182,31 +170,20 @@ fn show_all<R: Lender>(
             }
         }
         Report::Load => {
-            let rows = gather_load(alloc, records, &params, &suppliers, variant)?;
-            Ok(ReportRows::Load(rows))
+            let lanes = gather_load(alloc, records, &params, &suppliers, variant)?;
+            Ok(ReportRows::Load(seen_lanes(alloc, lanes, actor)?))
         }
-        Report::Room { .. } => Err(Refusal::NotYours),
+        Report::Rows => {
+            let rows = gather_rows(alloc, records, &suppliers, variant)?;
+            Ok(ReportRows::Seen(rows))
+        }
+        Report::Room { frame, repetition } => {
+            find_room(alloc, records, actor, variant, *frame, *repetition)
+        }
         Report::Export { header, part } => {
             gather_export(alloc, records, &suppliers, variant, *header, *part)
         }
     }
-}
-
-// The rows of the variant's report, as the supplier sees them.
-fn of_supplier<R: Lender>(
-    alloc: Global,
-    records: &mut R,
-    supplier: Name,
-    variant: Name,
-    report: &Report<Name>,
-) -> Result<ReportRows, Refusal>
-    requires { IsTrue (divides (R.params records.old) report.now) }
-    ensures { OnlyReads R.Records
-        (Replies (λ c b. found c.params b (Supplier supplier) (OfVariant variant report.now)))
-        records.old records.new result }
-{
-    find_page(alloc, records, supplier, variant)?;
-    show(alloc, records.lent(), report)
 }
 
 /// Lends the supplier's page of the variant. `NoVariant` where the variant is not there.
@@ -225,39 +202,5 @@ pub(crate) fn find_page<R: Lender>(
         Ok(())
     } else {
         Err(Refusal::NoVariant)
-    }
-}
-
-// What the report shows the supplier of this page.
-fn show(alloc: Global, page: &Page, report: &Report<Name>) -> Result<ReportRows, Refusal>
-    requires { IsTrue (divides page.now.params report.now) }
-    ensures { ShowsOwn page.now report.now result }
-{
-    match report {
-        Report::Grants => Ok(ReportRows::Grants(page_grants(alloc, page)?)),
-        Report::Frames => {
-            let mut rows = Rows::new(alloc);
-            push_frames(alloc, page, &mut rows)?;
-            Ok(ReportRows::Frames(rows))
-        }
-        Report::Schedule => Ok(ReportRows::Schedule(page_schedule(alloc, page)?)),
-        Report::Gaps => {
-            let mut rows = Rows::new(alloc);
-            push_gaps(page, &mut rows)?;
-            Ok(ReportRows::Gaps(rows))
-        }
-        Report::Layout { frame } => {
-            let mut rows = Rows::new(alloc);
-            if !push_signals(page, *frame, &mut rows)? {
-                return Err(Refusal::NoFrame);
-            }
-            Ok(ReportRows::Layout(rows))
-        }
-        Report::Load => Ok(ReportRows::Load(page_load(alloc, page)?)),
-        Report::Room { frame, repetition } => {
-            let rows = room(alloc, page, *frame, *repetition)?;
-            Ok(ReportRows::Room(rows))
-        }
-        Report::Export { header, part } => Ok(page_export(alloc, page, *header, *part)?),
     }
 }

@@ -1,14 +1,15 @@
 //! Carries a replacement out.
 #![tactic(auto, using(fr_world::proofs::ReadLaws::reads_none, fr_world::proofs::ReadLaws::reads_then))]
 
-ghost use Rattle.std.specs.Prelude.{◌≡◌, IfSome, IsSome, false};
+ghost use Rattle.std.specs.Prelude.{◌≡◌, IfSome, IsSome, MatchResult, false};
+ghost use Rattle.fr_base.specs.declared.refusal.Refusal.TheVariants.{Unavailable};
 ghost use Rattle.fr_office.specs.Carried.{CarriesEdits};
 ghost use Rattle.fr_office.specs.Decided.{LeadsTo};
-ghost use Rattle.fr_office.specs.Replacements.{CarriesReplaced, CarriesReplacement, replacement_room};
+ghost use Rattle.fr_office.specs.Replacements.{CarriesReplaced, CarriesReplacement, replacement_room, whole_in};
 
 use crate::lender::{Lender, open_page};
-use fr_base::{Answer, MAX_IMPORT_BYTES, Refusal, Replacement};
-use fr_text::read_import;
+use fr_base::{Answer, Header, MAX_IMPORT_BYTES, Refusal, Replacement};
+use fr_text::{read_header, read_import};
 use fr_world::{Draft, Records, RowFault, decide_replacement, rows_are_checked};
 use std::alloc::Global;
 
@@ -51,9 +52,10 @@ fn replace_rows<R: Lender>(
         (CarriesReplaced R.Records replacement.now records.old records.new result) }
 {
     let page = records.lent();
+    let whole = kind_of_whole(alloc, replacement)?;
     let rows = read_import(alloc, &page.params(), replacement.body.as_slice())?;
     rows_are_checked();
-    match decide_replacement(alloc, page.clone()?, rows.as_slice()) {
+    match decide_replacement(alloc, page.clone()?, whole, rows.as_slice()) {
         Ok(draft) => {
             // A file of which no row is refused has at most 512.
             let count = rows.len() as u32;
@@ -62,6 +64,21 @@ fn replace_rows<R: Lender>(
         }
         Err(RowFault::Row { line, refusal }) => Ok(Answer::RefusedRow { line, refusal }),
         Err(RowFault::Unavailable) => Err(Refusal::Unavailable),
+    }
+}
+
+// The kind of rows of which the replacement's file is the whole, if it is one.
+fn kind_of_whole(
+    alloc: Global,
+    replacement: &Replacement<'_>,
+) -> Result<Option<Header>, Refusal>
+    ensures { MatchResult result (λ kind. kind ≡ whole_in replacement.now)
+        (λ e. e ≡ Unavailable) }
+{
+    if replacement.whole {
+        read_header(alloc, replacement.body.as_slice())
+    } else {
+        Ok(None)
     }
 }
 

@@ -8,7 +8,7 @@ ghost use Rattle.fr_office.specs.Trials.{TellsTrial, fates_on, told_on};
 
 use crate::lender::{Lender, open_page};
 use fr_base::{Answer, FateRow, MAX_IMPORT_BYTES, Refusal, ReportRows, Rows, Trial};
-use fr_text::read_rows;
+use fr_text::{read_header, read_rows};
 use fr_world::{Page, all_rows_are_checked, try_rows};
 use std::alloc::Global;
 
@@ -46,7 +46,8 @@ fn fates(alloc: Global, page: &Page, trial: &Trial<'_>) -> Result<Rows<FateRow>,
     ensures { MatchResult result (λ fates. fates ≡ fates_on page.now trial.now)
         (λ e. e ≡ Unavailable) }
 {
+    let header = read_header(alloc, trial.body.as_slice())?;
     let rows = read_rows(alloc, &page.params(), trial.body.as_slice())?;
     all_rows_are_checked();
-    try_rows(alloc, page.clone()?, rows.as_slice(), trial.replaces)
+    try_rows(alloc, page.clone()?, header, rows.as_slice(), trial.manner)
 }

@@ -9,7 +9,7 @@ use Rattle.fr_base.specs.declared.name.Name.{Name}
 use Rattle.fr_world.specs.BookEdits.{applied, all_applied, changed_at}
 use Rattle.fr_world.specs.Fits.{Fits, AllFit}
 use Rattle.fr_world.specs.declared.edit.Edit.{Edit}
-use Rattle.fr_world.specs.declared.edit.Edit.TheVariants.{NewVariant, SetReleased, NewSupplier, SetKey, NewNode, Rows, KeepImport}
+use Rattle.fr_world.specs.declared.edit.Edit.TheVariants.{NewVariant, NewFlat, SetReleased, NewSupplier, SetKey, NewNode, Rows, KeepImport}
 use Rattle.fr_world.proofs.JoiningLaws.{joining-is_listed, key-is_listed}
 use Rattle.fr_store.specs.Joined.{after_edit, after_edits}
 
@@ -20,6 +20,7 @@ changed-file c b v change (Some x) = refl
 follows-one : (c : Cluster) (b : Book) (edit : Edit) → Fits c.params b edit → file_of c (applied b edit) ≡ after_edit (file_of c b) edit
 unfolding applied
 follows-one c b (NewVariant v parent depth) fits = refl
+follows-one c b (NewFlat v from) fits = refl
 follows-one c b (SetReleased v) fits = changed-file c b v _ (get b.variants v)
 follows-one c b (NewSupplier s key) fits = joining-is_listed c b s key fits
 follows-one c b (SetKey s key) fits = key-is_listed c b s key fits
@@ -34,6 +35,7 @@ follows c b (edit ∷ edits) fit = follows c (applied b edit) edits fit.1 ∙ ap
 -- the parameters and the integrator's key stay
 cluster_after-one : (f : ClusterFile) (edit : Edit) → (after_edit f edit).cluster ≡ f.cluster
 cluster_after-one f (NewVariant v parent depth) = refl
+cluster_after-one f (NewFlat v from) = refl
 cluster_after-one f (SetReleased v) = refl
 cluster_after-one f (NewSupplier s key) = refl
 cluster_after-one f (SetKey s key) = refl

@@ -41,6 +41,10 @@ pub mod EditLemmas
 pub mod OwningLemmas
 pub mod ClimbLemmas
 pub mod OwnCopies
+pub mod ShownLemmas
+pub mod ShownSteps
+pub mod FlatLemmas
+pub mod FlatSteps
 pub mod EditSteps
 pub mod SparingLemmas
 pub mod CommitLemmas

@@ -24,6 +24,7 @@ use Rattle.fr_tables.specs.Tables.{Tables}
 use Rattle.fr_tables.specs.Changes.{Changes, Copies, tables_of}
 use Rattle.fr_tables.specs.Statements.{with_variant, with_grants, grant_for, grants_for, is_dropped}
 use Rattle.fr_store.specs.StandsFor.{StandsFor, HoldsRows, Stored, Entry, HasItsParent, IsAsStored, IsFine, own_or, of_parent, seen, is_hidden, of_frames, variant_row, grant_rows, frame_row, placement_rows, signal_rows}
+use Rattle.fr_store.specs.Flat.{MayOpen, filled, flat}
 use Rattle.fr_store.specs.Reading.{Stands}
 use Rattle.fr_store.proofs.CopiedLemmas.{grants_copied}
 use Rattle.fr_store.proofs.EntryLemmas.{none_there, added_row, added_rows}
@@ -206,3 +207,25 @@ module _ (v p : Name) (depth : ℕ) where
     for = subst (λ t. StandsFor t c (applied b (NewVariant v (Some p) depth))) (sym (copies.added.now ∙ ap (with_grants copies.copies) h.now))
         (record { heads = stands.for.heads; rows = opened_from (tables_of old) c.params.cycles b stands.for.rows none from copies.copies (subst (λ t. IsPermutation (grants_for p v t) copies.copies) h.now copies.same) });
   }
+
+-- ---- opened flat, with copies of the other's grants
+
+module _ (v p : Name) where
+  turned_flat : (x : Variant) → map (grant_for v) (grant_rows (p, x)) ≡ grant_rows (v, flat x empty)
+  turned_flat x = map-map (grant_for v) _ x.grants.rows
+
+  no_frames_yet : (x : Variant) (count : ℕ) (k : Name × Name) (f : Frame) → get (flat x empty).frames k ≡ Some f → IsFine count f
+  no_frames_yet x count k f at = let no : None ≡ Some f = sym (get-empty owned k) ∙ at in absurd cc
+
+  pub begun_flat : (old mid state : State) → Changes (with_variant (opened_row v 1)) old mid → Copies (grants_for p v) with_grants mid state
+      → (c : Cluster) (b : Book) (x : Variant) → MayOpen b v p x → Stands old c b → Stands state c (filled b v x empty)
+  begun_flat old mid state h copies c b x may stands =
+      let gs = copies.copies in
+      let same : IsPermutation (grants_for p v (tables_of old)) gs = subst (λ t. IsPermutation (grants_for p v t) gs) h.now copies.same in
+      let rows : HoldsRows (with_grants gs (with_variant (opened_row v 1) (tables_of old))) c.params.cycles (filled b v x empty) =
+      new_stands (tables_of old) c.params.cycles b stands.for.rows v (flat x empty) false may.new tt (λ k. get-empty owned k) (no_frames_yet x c.params.cycles) gs
+      (subst (λ rs. IsPermutation rs gs) (turned_flat x) (grants_copied (tables_of old) c.params.cycles b stands.for.rows p v x may.there gs same)) in
+      record {
+        has = copies.added.has;
+        for = subst (λ t. StandsFor t c (filled b v x empty)) (sym (copies.added.now ∙ ap (with_grants gs) h.now)) (record { heads = stands.for.heads; rows = rows });
+      }

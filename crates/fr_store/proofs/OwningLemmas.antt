@@ -169,7 +169,7 @@ module _ (v s f : Name) (t : Tables) where
 
     -- ---- which frame it shows then
 
-    own_shown : (g : Frame) → own ≡ Some g → get x.frames (s, f) ≡ Some g
+    pub own_shown : (g : Frame) → own ≡ Some g → get x.frames (s, f) ≡ Some g
     unfolding seen
     own_shown g is = (stands.each v x there).frames (s, f) ∙ ap (λ o. own_or o (is_hidden t.dropped v (stands.stored v) (s, f)) (of_parent b.variants x.parent (s, f))) is
 

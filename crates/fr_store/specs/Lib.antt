@@ -9,6 +9,7 @@ pub mod Crashes
 pub mod Creating
 pub mod StandsFor
 pub mod Owning
+pub mod Flat
 pub mod Applying
 pub mod Sparing
 pub mod Reading

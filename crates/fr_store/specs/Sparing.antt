@@ -7,16 +7,17 @@ use Rattle.fr_base.specs.declared.request.Change.TheVariants.{Frame}
 use Rattle.fr_tables.specs.Changes.{tables_of}
 use Rattle.fr_tables.specs.Tables.{Tables, HasTables}
 use Rattle.fr_world.specs.declared.edit.Edit.{Edit}
-use Rattle.fr_world.specs.declared.edit.Edit.TheVariants.{Rows}
+use Rattle.fr_world.specs.declared.edit.Edit.TheVariants.{NewFlat, Rows}
 
 -- whether the change is that of a frame
 abbrev pub is_of_frame : Change → Bool
 is_of_frame (Frame frame change) = true
 is_of_frame _ = false
 
--- whether the edit changes a frame
+-- whether the edit changes a frame, or adds copies of frames
 abbrev pub changes_frame : Edit → Bool
 changes_frame (Rows rows) = is_of_frame rows.change
+changes_frame (NewFlat v from) = true
 changes_frame _ = false
 
 -- none of the edits changes a frame

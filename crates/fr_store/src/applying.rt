@@ -3,10 +3,12 @@
 ghost use Rattle.fr_store.specs.Applying.{IsDone};
 
 pub mod edits;
+pub mod flat;
 pub mod frames;
 pub mod joining;
 pub mod origin;
 pub mod owning;
+pub mod shown;
 
 use crate::fault::StoreFault;
 use sqlite::Error;

@@ -13,8 +13,9 @@ use sqlite::{Alter, Connection, FileStore};
 use std::alloc::Global;
 use std::test::Fail;
 
-/// After the first five requests: an import of a signal, a release, a variant opened from it, and its frame dropped there.
-const MORE: [Line; 4] = [
+/// After the first five requests: an import of a signal, a release, a variant opened from it, its frame dropped there, and
+/// a variant opened flat.
+const MORE: [Line; 5] = [
     (
         "supplier01",
         r#"{"do":"import","variant":"v1","label":"a","body":"\ufeffframe,signal,start,length,order\r\n\"f1\",\"x\",0,8,little\r\n"}"#,
@@ -29,6 +30,11 @@ const MORE: [Line; 4] = [
     (
         "supplier01",
         r#"{"do":"drop_frame","variant":"v2","frame":"f1"}"#,
+        DONE,
+    ),
+    (
+        "integrator1",
+        r#"{"do":"open_variant","variant":"w","from":"v1","flat":true}"#,
         DONE,
     ),
 ];

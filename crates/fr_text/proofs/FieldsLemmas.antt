@@ -54,7 +54,7 @@ unfolding is_among
 among_others is name front others tested fails = rw (sym (swapped name front) ∙ sym tested ∙ fails) refl
 
 -- a field's name is looked up among those of the code's fields
-pub is_named : (fields : List Field) (name : List ℕ) → list_any (λ field. bytes_eq field.name.now name) fields ≡ is_among (map (λ field. field.0) (map field_in fields)) name
+pub is_named : (fields : List Field) (name : List ℕ) → list_any (λ field. bytes_eq field.name.now name) fields ≡ is_among (map (λ field. field.name) (map field_in fields)) name
 unfolding is_among
 is_named [] name = refl
 is_named (field ∷ others) name = ap (λ b. bytes_eq field.name.now name || b) (is_named others name)

@@ -1,12 +1,14 @@
 -- What is written for a request is read back.
-use Rattle.std.proofs.Common.{◌≡◌, ◌^◌, Bool, true, false, ◌&&◌, Some, None, refl, IsTrue}
+use Rattle.std.proofs.Common.{◌≡◌, ◌^◌, Bool, true, false, ◌&&◌, Some, refl, IsTrue}
 use Rattle.std.specs.Prelude.{nat_lt}
 use Rattle.std.specs.List.{list_all}
+use Rattle.fr_base.specs.declared.beginning.Beginning.TheVariants.{Empty, From, Flat}
 use Rattle.fr_base.specs.declared.request.Request.{Request}
 use Rattle.fr_base.specs.declared.request.Request.TheVariants.{OpenVariant, Release, AddSupplier, SetKey, AddNode, Grant, Revoke, AddFrame, DropFrame, Place, Unplace, AddSignal, DropSignal, Import, Try, Replace, Query}
+use Rattle.fr_base.specs.declared.request.Manner.TheVariants as manner
 use Rattle.fr_base.specs.declared.query.Inventory.TheVariants.{Cluster, Variants, Nodes}
 use Rattle.fr_base.specs.declared.query.Query.TheVariants.{Register as OfRegister, Variant as OfVariant, Difference as OfTwo}
-use Rattle.fr_base.specs.declared.report.Report.TheVariants.{Grants, Frames, Schedule, Gaps, Layout, Load, Room, Export}
+use Rattle.fr_base.specs.declared.report.Report.TheVariants.{Grants, Frames, Schedule, Gaps, Layout, Load, Rows, Room, Export}
 use Rattle.fr_base.specs.declared.import.Header.TheVariants as header
 use Rattle.fr_base.specs.Forms.{form_of, forms}
 use Rattle.fr_text.specs.Fields.{value_of, word_of, text, text_or_null, flag, number, as_whole, has_just, only, is_among}
@@ -21,8 +23,9 @@ both false y h = cc
 -- the fields of a request are read as it
 pub fields_read : (r : Request) → IsTrue (list_all (λ n. nat_lt n (2 ^ 32)) (numbers_of r)) → request_in (fields_of r) ≡ Some r
 unfolding request_in form_of forms integrators of_frames of_files queries fields_of word_of text text_or_null flag number as_whole has_just only is_among
-fields_read (OpenVariant v None) fit = refl
-fields_read (OpenVariant v (Some parent)) fit = refl
+fields_read (OpenVariant v Empty) fit = refl
+fields_read (OpenVariant v (From parent)) fit = refl
+fields_read (OpenVariant v (Flat from)) fit = refl
 fields_read (Release v) fit = refl
 fields_read (AddSupplier s key) fit = refl
 fields_read (SetKey s key) fit = refl
@@ -44,8 +47,11 @@ fields_read (AddSignal v f x start length order) fit =
     rw (first.0, (both (nat_lt length (2 ^ 32)) _ first.1).0) refl
 fields_read (DropSignal v f x) fit = refl
 fields_read (Import v label body) fit = refl
-fields_read (Replace v body) fit = refl
-fields_read (Try v replaces body) fit = refl
+fields_read (Replace v true body) fit = refl
+fields_read (Replace v false body) fit = refl
+fields_read (Try v manner.Import body) fit = refl
+fields_read (Try v (manner.Replace true) body) fit = refl
+fields_read (Try v (manner.Replace false) body) fit = refl
 fields_read (Query (OfRegister Cluster)) fit = refl
 fields_read (Query (OfRegister Variants)) fit = refl
 fields_read (Query (OfRegister Nodes)) fit = refl
@@ -55,6 +61,7 @@ fields_read (Query (OfVariant v Schedule)) fit = refl
 fields_read (Query (OfVariant v Gaps)) fit = refl
 fields_read (Query (OfVariant v (Layout f))) fit = refl
 fields_read (Query (OfVariant v Load)) fit = refl
+fields_read (Query (OfVariant v Rows)) fit = refl
 fields_read (Query (OfVariant v (Room f r))) fit = rw (both (nat_lt r (2 ^ 32)) _ fit).0 refl
 fields_read (Query (OfVariant v (Export header.Frames k))) fit = rw (both (nat_lt k (2 ^ 32)) _ fit).0 refl
 fields_read (Query (OfVariant v (Export header.Placements k))) fit = rw (both (nat_lt k (2 ^ 32)) _ fit).0 refl

@@ -56,7 +56,7 @@ ExportIsWithinBytes = (c : Cluster) (b : Book) (s v : Name) (header : Header) (p
 abbrev pub SentBackChangesNothing : Type 0
 SentBackChangesNothing = (c : Cluster) (b : Book) (s v : Name) (x : Variant) (header : Header) (part : ℕ) (rows : ReportRows) →
     IsSound c b → IsTrue (knows b (Supplier s)) → get b.variants v ≡ Some x → IsFalse x.released → IsExport c b s v header part rows
-    → step c b (Supplier s) (Replace v (sent rows)) ≡ record { book = b; answer = Replaced (length (exported_rows rows)) }
+    → step c b (Supplier s) (Replace v false (sent rows)) ≡ record { book = b; answer = Replaced (length (exported_rows rows)) }
 
 -- ---- elsewhere
 

@@ -1,6 +1,6 @@
 -- Fields: whether the fields of a JSON object are just those of a form, each of its kind; and the
 -- value of each.
-use Rattle.std.specs.Prelude.{ℕ, ◌^◌, Bool, true, false, List, [], ◌∷◌, ◌&&◌, ◌||◌, codes, map, nat_lt, if◌then◌else◌, Option, Some, None, is_some, option_and_then, unwrap_or, ⊤, String}
+use Rattle.std.specs.Prelude.{ℕ, ◌^◌, Bool, true, false, not, List, [], ◌∷◌, ◌&&◌, ◌||◌, codes, map, nat_lt, if◌then◌else◌, Option, Some, None, is_some, option_and_then, unwrap_or, ⊤, String}
 use Rattle.std.specs.BTreeMap.{BTreeMap}
 use Rattle.std.specs.Global.{Global}
 use Rattle.std.specs.List.{list_all, list_any}
@@ -77,15 +77,26 @@ has_kind kind.Flag None = true
 has_kind kind.Number None = false
 has_kind k (Some value) = is_of_kind k value
 
--- whether the field is there as its kind has it
+-- whether a field of this value is given: it is there, and neither null nor false
+abbrev pub is_given : Option Data → Bool
+is_given None = false
+is_given (Some value) = not (is_some (as_null value)) && unwrap_or (as_bool value) true
+
+-- whether the field that another one needs is given, if that needs one
+abbrev pub has_needed : Members → Option (List ℕ) → Bool
+has_needed fields None = true
+has_needed fields (Some other) = is_given (get_member other fields)
+
+-- whether the field is there as its kind has it; and where it is given, so is the one that it needs
 abbrev pub has_field : Members → FieldData → Bool
-has_field fields field = has_kind field.1 (get_member field.0 fields)
+has_field fields field =
+    let value = get_member field.name fields in has_kind field.kind value && (has_needed fields field.needs || not (is_given value))
 
 -- the names of a form's fields, and `do`
 abbrev pub names_in : List FieldData → List (List ℕ)
-names_in form = codes "do" ∷ map (λ field. field.0) form
+names_in form = codes "do" ∷ map (λ field. field.name) form
 
--- whether the fields are just those of the form and `do`, each of its kind
+-- whether the fields are just those of the form and `do`, each of its kind, and none is given without the one that it needs
 unfoldable pub has_just : List FieldData → Members → Bool
 has_just form fields = only (names_in form) fields && list_all (has_field fields) form
 

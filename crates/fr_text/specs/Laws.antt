@@ -1,12 +1,16 @@
 -- Law: what is written for a request is read back as that request.
-use Rattle.std.specs.Prelude.{◌≡◌, ℕ, ◌^◌, List, [], ◌∷◌, codes, nat_lt, Option, Some, None, IsTrue}
+use Rattle.std.specs.Prelude.{◌≡◌, ℕ, ◌^◌, Bool, true, false, List, [], ◌∷◌, codes, nat_lt, Option, Some, None, IsTrue}
 use Rattle.std.specs.List.{list_all}
 use Rattle.std.specs.Str.{is_utf8}
 use Rattle.serde_json.specs.Data.{Data, Members, no_members, boolean, string, number, unsigned, null, object, put}
 use Rattle.serde_json.specs.Read.{read}
 use Rattle.fr_base.specs.Queries.{word_of_query}
+use Rattle.fr_base.specs.declared.beginning.Beginning.{Beginning}
+use Rattle.fr_base.specs.declared.beginning.Beginning.TheVariants.{Empty, From, Flat}
 use Rattle.fr_base.specs.declared.request.Request.{Request}
 use Rattle.fr_base.specs.declared.request.Request.TheVariants.{OpenVariant, Release, AddSupplier, SetKey, AddNode, Grant, Revoke, AddFrame, DropFrame, Place, Unplace, AddSignal, DropSignal, Import, Try, Replace, Query}
+use Rattle.fr_base.specs.declared.request.Manner.{Manner}
+use Rattle.fr_base.specs.declared.request.Manner.TheVariants as manner
 use Rattle.fr_base.specs.declared.query.Query as asked
 use Rattle.fr_base.specs.declared.query.Query.TheVariants.{Register as OfRegister, Variant as OfVariant, Difference as OfTwo}
 use Rattle.fr_base.specs.declared.report.Report.{Report}
@@ -27,6 +31,27 @@ abbrev pub text_or_null : Option (List ℕ) → Data
 text_or_null None = null
 text_or_null (Some text) = string text
 
+-- the name of the variant whose rows a new one begins with, if there is one
+abbrev pub origin_of : Beginning (List ℕ) → Option (List ℕ)
+origin_of Empty = None
+origin_of (From parent) = Some parent
+origin_of (Flat from) = Some from
+
+-- whether a new variant is opened flat
+abbrev pub is_flat : Beginning (List ℕ) → Bool
+is_flat (Flat from) = true
+is_flat _ = false
+
+-- whether a file that is tried is tried as a replacement
+abbrev pub is_replacement : Manner → Bool
+is_replacement manner.Import = false
+is_replacement (manner.Replace whole) = true
+
+-- and as a whole one
+abbrev pub is_whole : Manner → Bool
+is_whole manner.Import = false
+is_whole (manner.Replace whole) = whole
+
 -- the fields that a report has of its own: the name of a frame, and a number
 abbrev pub report_fields : Report (List ℕ) ℕ → List (List ℕ × Data)
 report_fields (Layout f) = (codes "frame", string f) ∷ []
@@ -42,7 +67,7 @@ query_fields (OfTwo v from) = (codes "variant", string v) ∷ (codes "from", str
 
 -- the fields that a request is written with
 unfoldable pub fields_of : Request → Members
-fields_of (OpenVariant v parent) = fields ((codes "do", string (codes "open_variant")) ∷ (codes "variant", string v) ∷ (codes "from", text_or_null parent) ∷ [])
+fields_of (OpenVariant v begins) = fields ((codes "do", string (codes "open_variant")) ∷ (codes "variant", string v) ∷ (codes "from", text_or_null (origin_of begins)) ∷ (codes "flat", boolean (is_flat begins)) ∷ [])
 fields_of (Release v) = fields ((codes "do", string (codes "release")) ∷ (codes "variant", string v) ∷ [])
 fields_of (AddSupplier s key) = fields ((codes "do", string (codes "add_supplier")) ∷ (codes "supplier", string s) ∷ (codes "key", string key) ∷ [])
 fields_of (SetKey s key) = fields ((codes "do", string (codes "set_key")) ∷ (codes "supplier", string s) ∷ (codes "key", string key) ∷ [])
@@ -56,8 +81,8 @@ fields_of (Unplace v f k c b r) = fields ((codes "do", string (codes "unplace"))
 fields_of (AddSignal v f x start length order) = fields ((codes "do", string (codes "add_signal")) ∷ (codes "variant", string v) ∷ (codes "frame", string f) ∷ (codes "signal", string x) ∷ (codes "start", count start) ∷ (codes "length", count length) ∷ (codes "order", string order) ∷ [])
 fields_of (DropSignal v f x) = fields ((codes "do", string (codes "drop_signal")) ∷ (codes "variant", string v) ∷ (codes "frame", string f) ∷ (codes "signal", string x) ∷ [])
 fields_of (Import v label body) = fields ((codes "do", string (codes "import")) ∷ (codes "variant", string v) ∷ (codes "label", string label) ∷ (codes "body", string body) ∷ [])
-fields_of (Replace v body) = fields ((codes "do", string (codes "replace")) ∷ (codes "variant", string v) ∷ (codes "body", string body) ∷ [])
-fields_of (Try v replaces body) = fields ((codes "do", string (codes "try")) ∷ (codes "variant", string v) ∷ (codes "body", string body) ∷ (codes "replace", boolean replaces) ∷ [])
+fields_of (Replace v whole body) = fields ((codes "do", string (codes "replace")) ∷ (codes "variant", string v) ∷ (codes "body", string body) ∷ (codes "whole", boolean whole) ∷ [])
+fields_of (Try v how body) = fields ((codes "do", string (codes "try")) ∷ (codes "variant", string v) ∷ (codes "body", string body) ∷ (codes "replace", boolean (is_replacement how)) ∷ (codes "whole", boolean (is_whole how)) ∷ [])
 fields_of (Query query) = fields ((codes "do", string (word_of_query query)) ∷ query_fields query)
 
 -- a query's numbers

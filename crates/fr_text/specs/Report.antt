@@ -118,8 +118,8 @@ placement_record all r = comma_line (r.frame ∷ r.node ∷ placement_fields r.p
 unfoldable pub signal_record : Bool → SignalRecord → List ℕ
 signal_record all r = comma_line (r.frame ∷ signal_fields r.signal ++ shown_to all r.supplier)
 
--- a row of a variant as a difference has it, whose line can be read alone: a grant, a frame and its node, a placement of a frame, a
--- signal of a frame, a frame's greatest gap
+-- a row of a variant, whose line can be read alone: a grant, a frame and its node, a placement of a frame, a signal of a frame, a
+-- frame's greatest gap
 unfoldable pub seen_line : Bool → SeenRow → List ℕ
 seen_line all (seen.Grant g) = line (codes "GRANT" ∷ four_digits g.slot ∷ text_of_channel g.channel ∷ g.node ∷ shown_to all g.supplier)
 seen_line all (seen.Frame f) = line (codes "FRAME" ∷ f.frame ∷ f.node ∷ shown_to all f.supplier)
@@ -144,6 +144,7 @@ lines_of_rows all (rows.Schedule sendings) = map (schedule_line all) sendings
 lines_of_rows all (rows.Gaps gaps) = map (gap_line all) gaps
 lines_of_rows all (rows.Layout signals) = map (signal_line all) signals
 lines_of_rows all (rows.Load lanes) = map (load_line all) lanes
+lines_of_rows all (rows.Seen seen) = map (seen_line all) seen
 lines_of_rows all (rows.Room places) = room_lines places
 lines_of_rows all (rows.FrameRecords records) = header_line all header.Frames ∷ map (frame_record all) records
 lines_of_rows all (rows.PlacementRecords records) = header_line all header.Placements ∷ map (placement_record all) records

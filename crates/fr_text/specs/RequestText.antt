@@ -1,16 +1,20 @@
 -- Request's text: the request that the bytes of a line are, an import too. They are one JSON
 -- object, whose field `do` has the word of a form. Its fields are just those of the form.
-use Rattle.std.specs.Prelude.{ℕ, List, [], ◌∷◌, ◌++◌, codes, Option, Some}
+use Rattle.std.specs.Prelude.{ℕ, Bool, true, false, List, [], ◌∷◌, ◌++◌, codes, Option, Some, None, if◌then◌else◌}
 use Rattle.std.specs.Map.{lookup}
 use Rattle.std.specs.Str.{bytes_eq}
 use Rattle.serde_json.specs.Data.{Data, Members}
 use Rattle.serde_json.specs.Find.{as_object}
 use Rattle.fr_base.specs.Forms.{form_of}
+use Rattle.fr_base.specs.declared.beginning.Beginning.{Beginning}
+use Rattle.fr_base.specs.declared.beginning.Beginning.TheVariants.{Empty, From, Flat}
 use Rattle.fr_base.specs.declared.request.Request.{Request}
 use Rattle.fr_base.specs.declared.request.Request.TheVariants.{OpenVariant, Release, AddSupplier, SetKey, AddNode, Grant, Revoke, AddFrame, DropFrame, Place, Unplace, AddSignal, DropSignal, Import, Replace, Try, Query}
+use Rattle.fr_base.specs.declared.request.Manner.{Manner}
+use Rattle.fr_base.specs.declared.request.Manner.TheVariants as manner
 use Rattle.fr_base.specs.declared.query.Inventory.TheVariants.{Cluster, Variants, Nodes}
 use Rattle.fr_base.specs.declared.query.Query.TheVariants.{Register as OfRegister, Variant as OfVariant, Difference as OfTwo}
-use Rattle.fr_base.specs.declared.report.Report.TheVariants.{Grants, Frames, Schedule, Gaps, Layout, Load, Room, Export}
+use Rattle.fr_base.specs.declared.report.Report.TheVariants.{Grants, Frames, Schedule, Gaps, Layout, Load, Rows, Room, Export}
 use Rattle.fr_base.specs.declared.import.Header.TheVariants as header
 use Rattle.fr_text.specs.Fields.{◌>>=◌, ◌>>◌, provided, value_of, has_just, word_of, text, text_or_null, flag, number}
 
@@ -18,10 +22,15 @@ use Rattle.fr_text.specs.Fields.{◌>>=◌, ◌>>◌, provided, value_of, has_ju
 abbrev pub Arms : Type 0
 Arms = List (List ℕ × (Members → Request))
 
+-- what a new variant begins with: the rows of another, flat or not, or none
+abbrev pub beginning : Option (List ℕ) → Bool → Beginning (List ℕ)
+beginning None flat = Empty
+beginning (Some from) flat = if flat then Flat from else From from
+
 -- the integrator's
 unfoldable pub integrators : Arms
 integrators =
-    (codes "open_variant", λ o. OpenVariant (text o (codes "variant")) (text_or_null o (codes "from")))
+    (codes "open_variant", λ o. OpenVariant (text o (codes "variant")) (beginning (text_or_null o (codes "from")) (flag o (codes "flat"))))
     ∷ (codes "release", λ o. Release (text o (codes "variant")))
     ∷ (codes "add_supplier", λ o. AddSupplier (text o (codes "supplier")) (text o (codes "key")))
     ∷ (codes "set_key", λ o. SetKey (text o (codes "supplier")) (text o (codes "key")))
@@ -41,12 +50,17 @@ of_frames =
     ∷ (codes "drop_signal", λ o. DropSignal (text o (codes "variant")) (text o (codes "frame")) (text o (codes "signal")))
     ∷ []
 
+-- how the rows of a file that is tried act: as a replacement, which may be whole, or else as an import
+abbrev pub manner_of : Bool → Bool → Manner
+manner_of true whole = manner.Replace whole
+manner_of false whole = manner.Import
+
 -- a supplier's, by a file
 unfoldable pub of_files : Arms
 of_files =
     (codes "import", λ o. Import (text o (codes "variant")) (text o (codes "label")) (text o (codes "body")))
-    ∷ (codes "replace", λ o. Replace (text o (codes "variant")) (text o (codes "body")))
-    ∷ (codes "try", λ o. Try (text o (codes "variant")) (flag o (codes "replace")) (text o (codes "body")))
+    ∷ (codes "replace", λ o. Replace (text o (codes "variant")) (flag o (codes "whole")) (text o (codes "body")))
+    ∷ (codes "try", λ o. Try (text o (codes "variant")) (manner_of (flag o (codes "replace")) (flag o (codes "whole"))) (text o (codes "body")))
     ∷ []
 
 -- queries
@@ -61,6 +75,7 @@ queries =
     ∷ (codes "schedule", λ o. Query (OfVariant (text o (codes "variant")) Schedule))
     ∷ (codes "gaps", λ o. Query (OfVariant (text o (codes "variant")) Gaps))
     ∷ (codes "load", λ o. Query (OfVariant (text o (codes "variant")) Load))
+    ∷ (codes "rows", λ o. Query (OfVariant (text o (codes "variant")) Rows))
     ∷ (codes "layout", λ o. Query (OfVariant (text o (codes "variant")) (Layout (text o (codes "frame")))))
     ∷ (codes "room", λ o. Query (OfVariant (text o (codes "variant")) (Room (text o (codes "frame")) (number o (codes "repetition")))))
     ∷ (codes "export_frames", λ o. Query (OfVariant (text o (codes "variant")) (Export header.Frames (number o (codes "part")))))

@@ -1,10 +1,11 @@
-//! Which fields of a request are unknown, missing, or of another kind than its form has.
-ghost use Rattle.std.specs.Prelude.{◌≡◌, ◌∷◌, ◌&&◌, IfOk, OnOk, codes, map, option_map};
+//! Which fields of a request are unknown, missing, of another kind than its form has, or given
+//! without the field that they need.
+ghost use Rattle.std.specs.Prelude.{◌≡◌, ◌∷◌, ◌&&◌, not, IfOk, OnOk, codes, is_some, map, option_map};
 ghost use Rattle.std.specs.List.{list_all, list_any};
 ghost use Rattle.std.specs.Str.{bytes_eq};
 ghost use Rattle.serde_json.specs.View.{view};
 ghost use Rattle.fr_base.specs.Forms.{field_in, fields_of};
-ghost use Rattle.fr_text.specs.Fields.{fields_in, has_field, has_just, has_kind, is_among, is_of_kind, names_in, only};
+ghost use Rattle.fr_text.specs.Fields.{fields_in, has_field, has_just, has_kind, is_among, is_given, is_of_kind, names_in, only};
 ghost use Rattle.fr_text.specs.Faults.{are_none};
 
 use crate::fields::{Fields, field, whole};
@@ -21,6 +22,9 @@ pub enum FieldFault<'v> {
     Missing(Field),
     /// The field has a value of another kind.
     OtherKind(Field, &'v Value),
+    /// The field is given, and the one of this name is not, which it needs: that is missing, or it
+    /// is this value, which is null or `false`.
+    Alone(Field, &'static str, Option<&'v Value>),
 }
 
 /// The faults of the fields: of those that the form does not have first, then of those that it has,
@@ -71,7 +75,7 @@ fn is_named(fields: &[Field], name: &str) -> bool
     fields.iter().any(|field| field.name == name)
 }
 
-// Adds a fault for each field of the form that is missing or of another kind.
+// Adds a fault for each field of the form that is missing, of another kind, or given alone.
 fn add_bad<'v>(
     faults: &mut Vec<FieldFault<'v>>,
     form: &Form,
@@ -81,15 +85,40 @@ fn add_bad<'v>(
         && list_all (has_field (fields_in fields.now)) (fields_of form.now)) }
 {
     for asked in form.fields {
-        let value = field(fields, asked.name);
-        if !is_there(asked.kind, value) {
-            faults.push(match value {
-                Some(value) => FieldFault::OtherKind(*asked, value),
-                None => FieldFault::Missing(*asked),
-            })?;
+        if let Some(fault) = fault_of(asked, fields) {
+            faults.push(fault)?;
         }
     }
     Ok(())
+}
+
+// What is wrong with this field of the form.
+fn fault_of<'v>(asked: &Field, fields: &'v Fields) -> Option<FieldFault<'v>>
+    ensures { is_some result ≡ not (has_field (fields_in fields.now) (field_in asked.now)) }
+{
+    let value = field(fields, asked.name);
+    if !is_there(asked.kind, value) {
+        return Some(match value {
+            Some(value) => FieldFault::OtherKind(*asked, value),
+            None => FieldFault::Missing(*asked),
+        });
+    }
+    let other = asked.needs?;
+    let needed = field(fields, other);
+    if is_given(value) && !is_given(needed) {
+        return Some(FieldFault::Alone(*asked, other, needed));
+    }
+    None
+}
+
+// Whether a field of this value is given.
+fn is_given(value: Option<&Value>) -> bool
+    ensures { result ≡ is_given (option_map (λ value. view value.now) value.entry) }
+{
+    match value {
+        Some(value) => !value.is_null() && value.as_bool().unwrap_or(true),
+        None => false,
+    }
 }
 
 // Whether the value, or its absence, is allowed for a field of this kind.

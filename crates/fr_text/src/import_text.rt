@@ -7,7 +7,7 @@ ghost use Rattle.std.specs.Cmp.Lexicographic.{pointwise};
 ghost use Rattle.csv.specs.Records.{field_at, fields_of};
 ghost use Rattle.fr_base.specs.Names.{same_text};
 ghost use Rattle.fr_base.specs.declared.params.Params.{Params};
-ghost use Rattle.fr_base.specs.ImportRows.{records_of, spelled, header_of, text_at, number, number_at, frame_in, placement_in, signal_in, row_of, rows_from, rows_below, rows_of_records, rows_of_body, all_rows_of_body, up_to_refused};
+ghost use Rattle.fr_base.specs.ImportRows.{records_of, spelled, header_of, header_in, header_of_body, text_at, number, number_at, frame_in, placement_in, signal_in, row_of, rows_from, rows_below, rows_of_records, rows_of_body, all_rows_of_body, up_to_refused};
 ghost use Rattle.fr_base.specs.declared.limits.TheConstants.{MAX_ROWS};
 
 use csv::{ByteRecord, Reader, ReaderBuilder};
@@ -24,7 +24,7 @@ pub fn read_import(alloc: Global, params: &Params, body: &[u8]) -> Result<Rows<R
     let mut records = Records::new(alloc, body);
     let mut fields = ByteRecord::new(alloc);
     let mut rows = Rows::new(alloc);
-    match read_header(&mut records, &mut fields)? {
+    match first_header(&mut records, &mut fields)? {
         Some(header) => push_rows(&mut rows, params, header, &mut records, &mut fields)?,
         None => rows.push(RowRead {
             line: 1,
@@ -43,7 +43,7 @@ pub fn read_rows(alloc: Global, params: &Params, body: &[u8]) -> Result<Rows<Row
     let mut records = Records::new(alloc, body);
     let mut fields = ByteRecord::new(alloc);
     let mut rows = Rows::new(alloc);
-    match read_header(&mut records, &mut fields)? {
+    match first_header(&mut records, &mut fields)? {
         Some(header) => push_all(&mut rows, params, header, &mut records, &mut fields)?,
         None => rows.push(RowRead {
             line: 1,
@@ -53,15 +53,27 @@ pub fn read_rows(alloc: Global, params: &Params, body: &[u8]) -> Result<Rows<Row
     Ok(rows)
 }
 
+/// Reads the header that a file begins with, if it begins with one. Want of memory is `Unavailable`.
+#[tactic(auto, unfolding(fr_base::specs::ImportRows::header_of_body))]
+pub fn read_header(alloc: Global, body: &[u8]) -> Result<Option<Header>, Refusal>
+    ensures { MatchResult result (λ header. header ≡ header_of_body body.now)
+        (λ refusal. refusal ≡ Refusal.Unavailable) }
+{
+    let mut records = Records::new(alloc, body);
+    let mut fields = ByteRecord::new(alloc);
+    first_header(&mut records, &mut fields)
+}
+
 // Reads the first record, and gives the header that it is, if it is one.
 #[tactic(auto, unfolding(fr_base::specs::ImportRows::rows_of_records, fr_base::specs::ImportRows::rows_below))]
-fn read_header(
+fn first_header(
     records: &mut Records<'_>,
     fields: &mut ByteRecord,
 ) -> Result<Option<Header>, Refusal>
-    ensures { MatchResult result
+    ensures rows { MatchResult result
         (λ header. (p : Params) → rows_of_records p records.old ≡ rows_below p header records.new)
         (λ refusal. refusal ≡ Refusal.Unavailable) }
+    ensures header { IfOk result (λ header. header ≡ header_in records.old) }
 {
     if records.read(fields)? {
         Ok(header_of(fields))

@@ -22,7 +22,7 @@ pub use cluster_file::{ConfigFault, file_keys, is_file_key, read_config};
 pub use field_faults::FieldFault;
 pub use fields::{JsonFault, read_json};
 pub use import_text::{
-    Records, header_of, names, number_at, read_import, read_number, read_rows, text_at,
+    Records, header_of, names, number_at, read_header, read_import, read_number, read_rows, text_at,
 };
 pub use laws::{
     export_is_read_back, export_is_within_bytes, sent_back_changes_nothing, sent_is_imported,

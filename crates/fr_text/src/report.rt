@@ -98,6 +98,7 @@ pub(crate) fn push_lines(
         ReportRows::Gaps(rows) => push_rows(rows.as_slice(), all, style, out),
         ReportRows::Layout(rows) => push_rows(rows.as_slice(), all, style, out),
         ReportRows::Load(rows) => push_rows(rows.as_slice(), all, style, out),
+        ReportRows::Seen(rows) => push_rows(rows.as_slice(), all, style, out),
         ReportRows::Room(places) => push_room(places.as_slice(), style, out),
         ReportRows::FrameRecords(records) => {
             push_records(Header::Frames, records.as_slice(), all, style, out)

@@ -24,7 +24,7 @@ use Rattle.fr_base.proofs.AloneChanges.{grants_after-own, frames_after-own, fram
 use Rattle.fr_world.specs.BookEdits.{SparesOthers, applied, changed_at}
 use Rattle.fr_world.specs.Edits.{IsOf, edited, releases}
 use Rattle.fr_world.specs.declared.edit.Edit.{Edit}
-use Rattle.fr_world.specs.declared.edit.Edit.TheVariants.{NewVariant, SetReleased, NewSupplier, SetKey, NewNode, Rows, KeepImport}
+use Rattle.fr_world.specs.declared.edit.Edit.TheVariants.{NewVariant, NewFlat, SetReleased, NewSupplier, SetKey, NewNode, Rows, KeepImport}
 
 module _ (b : Book) (v : Name) (x : Variant) (there : get b.variants v ≡ Some x) where
   -- an edit of the variant, which is there
@@ -68,6 +68,7 @@ module _ (c : Cluster) (b : Book) (s v : Name) (x : Variant) (there : get b.vari
       (λ i. record page { grants = grants_after-own s what x.grants i; frames = frames_after-own s what x.frames i }) refl
 
   edit-agrees : (edit : Edit) → IsOf s v edit → Agrees c b s v x edit
+  edit-agrees (NewFlat w from) is = absurd is
   edit-agrees (SetReleased w) is = subst (λ u. Agrees c b s v x (SetReleased u)) (sym is) release-agrees
   edit-agrees (NewNode t n) is = subst (λ u. Agrees c b s v x (NewNode u n)) (sym is) (node-agrees n)
   edit-agrees (Rows rows) is = subst (λ (u : Name × Name). Agrees c b s v x (Rows (in_rows u.0 u.1 rows.change))) (λ i. (sym is.0 i, sym is.1 i)) (rows-agree rows.change)
@@ -140,6 +141,7 @@ module _ (c : Cluster) (b : Book) (s v : Name) (x : Variant) (there : get b.vari
       (λ i. record (own_rows c.params b t x) { grants = grants-stay what spares i; frames = frames_after-other t s other what x.frames i })
 
   edit-stays : (edit : Edit) → IsOf s v edit → SparesOthers s x edit → Stays c b t w y edit
+  edit-stays (NewFlat u from) is spares = absurd is
   edit-stays (SetReleased u) is spares = subst (λ u. Stays c b t w y (SetReleased u)) (sym is) release-stays
   edit-stays (NewNode r n) is spares = subst (λ u. Stays c b t w y (NewNode u n)) (sym is) (node-stays n)
   edit-stays (Rows rows) is spares =

@@ -12,34 +12,37 @@ use Rattle.fr_base.specs.Sound.{IsOpenedFrom, IsSound}
 use Rattle.fr_base.specs.Step.{OwnRows, own_rows, changed}
 use Rattle.fr_base.specs.Changes.{in_rows}
 use Rattle.fr_base.specs.declared.limits.TheConstants.{MAX_DEPTH}
+use Rattle.fr_base.specs.declared.import.Header.{Header}
 use Rattle.fr_base.specs.declared.import.RowRead.{RowRead}
 use Rattle.fr_base.specs.declared.name.Name.{Name}
 use Rattle.fr_base.specs.declared.params.Params.{Params}
 use Rattle.fr_base.specs.declared.refusal.Refusal.TheVariants.{NoVariant, Released, NotReleased, TooDeep}
 use Rattle.fr_base.specs.declared.request.Change.{Change}
 use Rattle.fr_base.specs.declared.request.Change.TheVariants.{Grant, Revoke, Frame as OfFrame}
+use Rattle.fr_base.specs.declared.beginning.Beginning.{Beginning}
+use Rattle.fr_base.specs.declared.beginning.Beginning.TheVariants.{Empty, From, Flat}
 use Rattle.fr_base.specs.declared.request.CommonCommand.{CommonCommand}
 use Rattle.fr_base.specs.declared.request.CommonCommand.TheVariants.{OpenVariant, Release}
 use Rattle.fr_base.specs.declared.request.FrameChange.{FrameChange}
 use Rattle.fr_base.specs.declared.request.FrameChange.TheVariants.{Add, Drop, Place, Unplace, AddSignal, DropSignal}
 use Rattle.fr_base.proofs.ParametersLaws.{few_words}
-use Rattle.fr_base.proofs.SoundRefusing.{gives_bind, gives_next, gives_unless, gives_when}
+use Rattle.fr_base.proofs.SoundRefusing.{gives_bind, gives_next, gives_unless, gives_unless_last, gives_when}
 use Rattle.fr_base.proofs.SoundRows.{own-held}
 use Rattle.fr_base.proofs.SoundImports.{Keeps, keeps_all, keeps_on}
-use Rattle.fr_base.proofs.SoundTables.{some_there, contains-more}
+use Rattle.fr_base.proofs.SoundTables.{some_there, value_of, contains-more}
 use Rattle.fr_base.proofs.AloneCells.{same_text-itself}
 use Rattle.fr_base.proofs.AloneTables.{get-own}
 use Rattle.fr_world.specs.BookEdits.{applied, changed_at, variants_in}
-use Rattle.fr_world.specs.Common.{common_edit, depth_after}
+use Rattle.fr_world.specs.Common.{allows_flat, common_edit, depth_after, opening}
 use Rattle.fr_world.specs.Decisions.{IsChecked, admits_alone, decision}
 use Rattle.fr_world.specs.Edits.{FitsFrame, FitsPage, FitsRows, IsOf, Leads, edited, releases}
-use Rattle.fr_world.specs.Fits.{AllFit, Fits, FitsVariant, IsUnheld}
+use Rattle.fr_world.specs.Fits.{AllFit, Fits, FitsVariant, HasKnownSuppliers, IsCopiable, IsUnheld, KnowsSuppliers}
 use Rattle.fr_world.specs.Nodes.{new_node}
 use Rattle.fr_world.specs.Pages.{own_rows_of, nodes_in, page_in}
 use Rattle.fr_world.specs.ReplacementDecisions.{replacement_decision}
 use Rattle.fr_world.specs.RowDecisions.{AreChecked, rows_decision}
 use Rattle.fr_world.specs.declared.edit.Edit.{Edit}
-use Rattle.fr_world.specs.declared.edit.Edit.TheVariants.{NewVariant, SetReleased, NewSupplier, SetKey, NewNode, Rows, KeepImport}
+use Rattle.fr_world.specs.declared.edit.Edit.TheVariants.{NewVariant, NewFlat, SetReleased, NewSupplier, SetKey, NewNode, Rows, KeepImport}
 use Rattle.fr_world.proofs.AgreeLaws.{edits-agree}
 use Rattle.fr_world.proofs.FitsLaws.{none_there}
 use Rattle.fr_world.proofs.IntegratorLaws.{node-listed, row, row-of, row-there}
@@ -113,6 +116,7 @@ module _ (c : Cluster) (s v : Name) where
   one-fits : (b : Book) (x : Variant) → get b.variants v ≡ Some x → IsFalse x.released → (edit : Edit) → IsOfFrame c.params edit → IsOf s v edit → FitsPage (own_rows c.params b s x) edit → Fits c.params b edit
   one-fits b x there unreleased (Rows rows) of own fits = frame_change-fits b x there unreleased rows.supplier rows.variant rows.change of own fits
   one-fits b x there unreleased (NewVariant w parent depth) of own fits = absurd of
+  one-fits b x there unreleased (NewFlat w from) of own fits = absurd of
   one-fits b x there unreleased (SetReleased w) of own fits = absurd of
   one-fits b x there unreleased (NewNode t n) of own fits = absurd of
   one-fits b x there unreleased (NewSupplier t key) of own fits = absurd of
@@ -123,6 +127,7 @@ module _ (c : Cluster) (s v : Name) where
   still_open : (edit : Edit) → IsOfFrame c.params edit → releases edit ≡ false
   still_open (Rows rows) of = refl
   still_open (NewVariant w parent depth) of = absurd of
+  still_open (NewFlat w from) of = absurd of
   still_open (SetReleased w) of = absurd of
   still_open (NewNode t n) of = absurd of
   still_open (NewSupplier t key) of = absurd of
@@ -138,6 +143,7 @@ module _ (c : Cluster) (s v : Name) where
   unfolding applied
   one-keeps b (Rows rows) of = changed-keeps b rows.variant (changed rows.supplier rows.change) (get b.variants rows.variant)
   one-keeps b (NewVariant w parent depth) of = absurd of
+  one-keeps b (NewFlat w from) of = absurd of
   one-keeps b (SetReleased w) of = absurd of
   one-keeps b (NewNode t n) of = absurd of
   one-keeps b (NewSupplier t key) of = absurd of
@@ -180,10 +186,10 @@ import-fits c b s v label x body reads edits count sound there unreleased known 
 
 -- ---- what a replacement is decided to
 
-pub replacement-fits : (c : Cluster) (b : Book) (s v : Name) (x : Variant) (reads : List RowRead) (edits : List Edit) → IsSound c b → get b.variants v ≡ Some x → IsFalse x.released → AreChecked c.params reads →
-    replacement_decision (page_in c.params b s v x) reads ≡ Ok edits → AllFit c.params b edits
-replacement-fits c b s v x reads edits sound there unreleased checked decided =
-    let led = replacement-leads (page_in c.params b s v x) sound.cluster.params (rows-kept c b s v x sound there) reads checked edits decided in
+pub replacement-fits : (c : Cluster) (b : Book) (s v : Name) (x : Variant) (whole : Option Header) (reads : List RowRead) (edits : List Edit) → IsSound c b → get b.variants v ≡ Some x → IsFalse x.released → AreChecked c.params reads →
+    replacement_decision (page_in c.params b s v x) whole reads ≡ Ok edits → AllFit c.params b edits
+replacement-fits c b s v x whole reads edits sound there unreleased checked decided =
+    let led = replacement-leads (page_in c.params b s v x) sound.cluster.params (rows-kept c b s v x sound there) whole reads checked edits decided in
     subst (AllFit c.params b) (append-nil edits) (all-fit c s v edits [] b x _ _ there unreleased (rows-registers c b s v x) led.1 led.0 (λ d keeps. tt))
 
 -- ---- what is decided of a node, and of all variants
@@ -198,6 +204,15 @@ module _ (p : Params) (b : Book) (s n : Name) (known : IsTrue (contains b.suppli
 
 pub node-fits : (p : Params) (b : Book) (s n : Name) (edit : Edit) → IsTrue (contains b.suppliers s) → new_node s (nodes_in b s) n ≡ Ok edit → Fits p b edit
 node-fits p b s n edit known e = subst (λ r. IfOk r (Fits p b)) e (node-made p b s n known)
+
+-- in a sound book the suppliers of a variant's frames are there
+pub sound-knows : (c : Cluster) (b : Book) → IsSound c b → (command : CommonCommand) → KnowsSuppliers b command
+sound-knows c b sound (OpenVariant v Empty) = tt
+sound-knows c b sound (OpenVariant v (From parent)) = tt
+sound-knows c b sound (OpenVariant v (Flat from)) = λ x there k has.
+    let f = value_of (get x.frames k) has in
+    (sound.nodes k.0 f.0.node ((sound.variants from x there).1.frames k f.0 f.1).node).1
+sound-knows c b sound (Release v) = tt
 
 module _ (params : Params) (b : Book) where
   abbrev Begins : Option Name → ℕ → Type 0
@@ -222,16 +237,41 @@ module _ (params : Params) (b : Book) where
   release-found v None e = tt
   release-found v (Some y) e = gives_when _ _ _ _ (λ unreleased. (y, record { there = e; unreleased = unreleased }))
 
-  common-made : (command : CommonCommand) → IfOk (common_edit (variants_in b) command) (Fits params b)
+  abbrev Knows : Name → Type 0
+  Knows from = (x : Variant) → get b.variants from ≡ Some x → HasKnownSuppliers b x
+
+  flat-found : (from : Name) → Knows from → (o : Option Variant) → get b.variants from ≡ o →
+      IfOk ((option_map (row from) o or NoVariant) >>= λ r. refuse NotReleased when not r.released) (λ _. IsCopiable b from)
+  unfolding ◌or◌ ◌>>=◌
+  flat-found from known None e = tt
+  flat-found from known (Some y) e = gives_unless_last _ _ _ (λ released. (y, e, released, known y e))
+
+  flat-allowed : (from : Name) → Knows from → IfOk (allows_flat (variants_in b) from) (λ _. IsCopiable b from)
+  unfolding allows_flat
+  flat-allowed from known =
+      subst (λ o. IfOk ((o or NoVariant) >>= λ r. refuse NotReleased when not r.released) (λ _. IsCopiable b from))
+      (sym (row-of b from)) (flat-found from known (get b.variants from) refl)
+
+  -- what opens a variant fits where the variant is not there yet
+  abbrev FitsNew : Name → Edit → Type 0
+  FitsNew v edit = get b.variants v ≡ None → Fits params b edit
+
+  opening-made : (v : Name) (beginning : Beginning Name) → KnowsSuppliers b (OpenVariant v beginning) → IfOk (opening (variants_in b) v beginning) (FitsNew v)
+  unfolding opening
+  opening-made v Empty known = λ none. (none, refl, omega arith)
+  opening-made v (From parent) known = gives_bind _ (Begins (Some parent)) (depth_after (variants_in b) (Some parent)) _ (depth-begins (Some parent)) (λ depth begins none. (none, begins.0, begins.1))
+  opening-made v (Flat from) known = gives_next _ (λ _. IsCopiable b from) (allows_flat (variants_in b) from) _ (flat-allowed from known) (λ _ copiable none. (none, copiable))
+
+  common-made : (command : CommonCommand) → KnowsSuppliers b command → IfOk (common_edit (variants_in b) command) (Fits params b)
   unfolding common_edit
-  common-made (OpenVariant v parent) =
-      gives_bind _ (Begins parent) (depth_after (variants_in b) parent) _ (depth-begins parent) (λ depth begins.
+  common-made (OpenVariant v beginning) known =
+      gives_bind _ (FitsNew v) (opening (variants_in b) v beginning) _ (opening-made v beginning known) (λ edit fits.
       gives_when _ _ _ _ (λ new.
       gives_when _ _ _ _ (λ _.
-      (none_there (get b.variants v) (row-there b v ∙ new), begins.0, begins.1))))
-  common-made (Release v) =
+      fits (none_there (get b.variants v) (row-there b v ∙ new)))))
+  common-made (Release v) known =
       subst (λ o. IfOk ((o or NoVariant) >>= λ r. (refuse Released when r.released) >> Ok (SetReleased v)) (Fits params b))
       (sym (row-of b v)) (release-found v (get b.variants v) refl)
 
-pub common-fits : (p : Params) (b : Book) (command : CommonCommand) (edit : Edit) → common_edit (variants_in b) command ≡ Ok edit → Fits p b edit
-common-fits p b command edit e = subst (λ r. IfOk r (Fits p b)) e (common-made p b command)
+pub common-fits : (p : Params) (b : Book) (command : CommonCommand) (edit : Edit) → KnowsSuppliers b command → common_edit (variants_in b) command ≡ Ok edit → Fits p b edit
+common-fits p b command edit known e = subst (λ r. IfOk r (Fits p b)) e (common-made p b command known)

@@ -1,27 +1,30 @@
--- Changes that free a row's frame: the page admits them, one after the other, and then the frame has no placements, or no
+-- Changes that free or clear a frame: the page admits them, one after the other, and then the frame has no placements, or no
 -- signals.
-use Rattle.std.proofs.Common.{◌≡◌, ◌≢◌, ℕ, IsTrue, ◌||◌, Bool, true, false, not, cond, All, AllPairs, List, [], ◌∷◌, map, filter, Option, Some, None, Ok, refl, sym, ap, subst, ◌∙◌, is_some, Ordering, Less, Equal, Greater}
+use Rattle.std.proofs.Common.{◌≡◌, ◌≢◌, ℕ, IsTrue, ◌||◌, Bool, true, false, not, cond, All, AllPairs, List, [], ◌∷◌, map, filter, Option, Some, None, Ok, refl, sym, ap, subst, ◌∙◌, is_some, inl, inr, Ordering, Less, Equal, Greater}
 use Rattle.std.specs.Prelude.{T, ⊤}
 use Rattle.std.specs.Ordering.{is_eq, is_lt, eq_by_cmp}
+use Rattle.std.specs.List.{list_any}
+use Rattle.std.proofs.lemmas.Bool.{cases_Bool}
 use Rattle.std.specs.FinMap.Entries.{find, is_sorted, below_all}
 use Rattle.std.proofs.lemmas.List.Elements.{All-head, All-tail}
 use Rattle.fr_base.specs.TableRows.{first, second}
 use Rattle.fr_base.specs.Refusing.{◌>>=◌, ◌or◌, refuse◌when◌}
-use Rattle.fr_base.specs.Tables.{Order, Table, empty, get, contains, insert, only, remove, settle}
+use Rattle.fr_base.specs.Tables.{Order, Table, Becomes, Gone, empty, get, contains, insert, only, remove, settle}
 use Rattle.fr_base.specs.Keys.{owned}
 use Rattle.fr_base.specs.Names.{same_text}
 use Rattle.fr_base.specs.Layouts.{has_signal, without_signal}
 use Rattle.fr_base.specs.Signals.{SignalData}
 use Rattle.fr_base.specs.Book.{Frame}
 use Rattle.fr_base.specs.Queries.{placements_in}
-use Rattle.fr_base.specs.Step.{OwnRows, admits, admits_frame, frame_after, frames_after, freed, frame_of_row}
-use Rattle.fr_base.specs.declared.import.Row.{Row}
-use Rattle.fr_base.specs.declared.import.Row.TheVariants as row
+use Rattle.fr_base.specs.Step.{OwnRows, admits, admits_frame, frame_after, frames_after, freed, names_with, cleared}
+use Rattle.fr_base.specs.declared.import.Header.{Header}
+use Rattle.fr_base.specs.declared.import.Header.TheVariants.{Frames, Placements, Signals}
+use Rattle.fr_base.specs.declared.import.RowRead.{RowRead}
 use Rattle.fr_base.specs.declared.name.Name.{Name}
 use Rattle.fr_base.specs.declared.placement.Placement.{Placement}
 use Rattle.fr_base.specs.declared.request.Change.TheVariants as change
 use Rattle.fr_base.specs.declared.request.FrameChange.{FrameChange}
-use Rattle.fr_base.specs.declared.request.FrameChange.TheVariants.{Unplace, DropSignal}
+use Rattle.fr_base.specs.declared.request.FrameChange.TheVariants.{Drop, Unplace, DropSignal}
 use Rattle.fr_base.proofs.TableLaws.{insert-same, same_rows}
 use Rattle.fr_base.proofs.SoundTables.{get-put, insert-again, same_key}
 use Rattle.fr_base.proofs.SoundRows.{same_text-is}
@@ -30,7 +33,7 @@ use Rattle.fr_base.proofs.LayoutLaws.{AllPairs-head, AllPairs-tail}
 use Rattle.fr_world.specs.Decisions.{admits_alone}
 use Rattle.fr_world.specs.Edits.{rows_after}
 use Rattle.fr_world.specs.Pages.{IsPage}
-use Rattle.fr_world.specs.ReplacementDecisions.{AreAdmitted, freeing}
+use Rattle.fr_world.specs.ReplacementDecisions.{AreAdmitted, clearing, freeing}
 use Rattle.fr_world.proofs.RemoveLaws.{remove-none}
 
 -- ---- tables
@@ -169,32 +172,72 @@ signals-admitted f (x ∷ xs) page frame found is differ =
           (left_signals frame x xs is differ) (AllPairs-tail Differ x xs differ),
     )
 
--- ---- a row's frame
+-- ---- a frame that is freed
 
 -- no two of a frame's signals have one name
 abbrev pub IsNamed : Option Frame → Type 0
 IsNamed None = ⊤
 IsNamed (Some frame) = AllPairs Differ frame.signals
 
--- the changes leave the frame as the row's frame is freed
-pub freeing-ends : (s : Name) (r : Row) (frames : Table owned Frame) (there : Option Frame) → get frames (s, frame_of_row r) ≡ there → IsNamed there →
-    ended s (frame_of_row r) frames (freeing r there) ≡ settle frames (s, frame_of_row r) (freed r there)
+-- the changes leave the frame as it is freed
+pub freeing-ends : (s f : Name) (kind : Header) (frames : Table owned Frame) (there : Option Frame) → get frames (s, f) ≡ there → IsNamed there →
+    ended s f frames (freeing kind there) ≡ settle frames (s, f) (freed kind there)
 unfolding settle freed
-freeing-ends s (row.AddFrame f n) frames (Some frame) found named = sym (insert-same frames (s, f) frame found)
-freeing-ends s (row.Place f n q) frames (Some frame) found named = placements-ended s f (placements_in frame) frames frame found (sym (list-rows frame.placements.rows))
-freeing-ends s (row.AddSignal f signal) frames (Some frame) found named = signals-ended s f frame.signals frames frame found refl named
-freeing-ends s (row.AddFrame f n) frames None found named = sym (remove-none owned frames (s, f) found)
-freeing-ends s (row.Place f n q) frames None found named = sym (remove-none owned frames (s, f) found)
-freeing-ends s (row.AddSignal f signal) frames None found named = sym (remove-none owned frames (s, f) found)
+freeing-ends s f Frames frames (Some frame) found named = sym (insert-same frames (s, f) frame found)
+freeing-ends s f Placements frames (Some frame) found named = placements-ended s f (placements_in frame) frames frame found (sym (list-rows frame.placements.rows))
+freeing-ends s f Signals frames (Some frame) found named = signals-ended s f frame.signals frames frame found refl named
+freeing-ends s f Frames frames None found named = sym (remove-none owned frames (s, f) found)
+freeing-ends s f Placements frames None found named = sym (remove-none owned frames (s, f) found)
+freeing-ends s f Signals frames None found named = sym (remove-none owned frames (s, f) found)
 
 -- and the page admits them
-pub freeing-admitted : (page : OwnRows) (r : Row) (there : Option Frame) → get page.frames (page.supplier, frame_of_row r) ≡ there → IsNamed there → AreAdmitted page (frame_of_row r) (freeing r there)
-freeing-admitted page (row.AddFrame f n) (Some frame) found named = tt
-freeing-admitted page (row.Place f n q) (Some frame) found named = placements-admitted f (placements_in frame) page frame found (sym (list-rows frame.placements.rows))
-freeing-admitted page (row.AddSignal f signal) (Some frame) found named = signals-admitted f frame.signals page frame found refl named
-freeing-admitted page (row.AddFrame f n) None found named = tt
-freeing-admitted page (row.Place f n q) None found named = tt
-freeing-admitted page (row.AddSignal f signal) None found named = tt
+pub freeing-admitted : (page : OwnRows) (f : Name) (kind : Header) (there : Option Frame) → get page.frames (page.supplier, f) ≡ there → IsNamed there → AreAdmitted page f (freeing kind there)
+freeing-admitted page f Frames (Some frame) found named = tt
+freeing-admitted page f Placements (Some frame) found named = placements-admitted f (placements_in frame) page frame found (sym (list-rows frame.placements.rows))
+freeing-admitted page f Signals (Some frame) found named = signals-admitted f frame.signals page frame found refl named
+freeing-admitted page f Frames None found named = tt
+freeing-admitted page f Placements None found named = tt
+freeing-admitted page f Signals None found named = tt
+
+-- ---- a frame that is cleared
+
+stays-so : (frame : Frame) → freed Frames (Some frame) ≡ Becomes frame
+unfolding freed
+stays-so frame = refl
+
+none-so : freed Frames None ≡ Gone
+unfolding freed
+none-so = refl
+
+gone-so : (frame : Frame) → frame_after Drop (Some frame) ≡ Gone
+unfolding frame_after
+gone-so frame = refl
+
+-- the changes leave the frame as it is cleared
+pub clearing-ends : (s f : Name) (kind : Header) (reads : List RowRead) (frames : Table owned Frame) (there : Option Frame) → get frames (s, f) ≡ there → IsNamed there →
+    ended s f frames (clearing kind reads f there) ≡ settle frames (s, f) (cleared kind reads f there)
+unfolding cleared
+clearing-ends s f Frames reads frames (Some frame) found named = elim (cases_Bool (list_any (λ read. names_with f frame.node read.row) reads)) [
+  | inl stays ↦ rw stays (freeing-ends s f Frames frames (Some frame) found named ∙ ap (settle frames (s, f)) (stays-so frame))
+  | inr goes ↦ rw goes (one-ended s f frames frame found Drop ∙ ap (settle frames (s, f)) (gone-so frame))
+]
+clearing-ends s f Frames reads frames None found named = freeing-ends s f Frames frames None found named ∙ ap (settle frames (s, f)) none-so
+clearing-ends s f Placements reads frames there found named = freeing-ends s f Placements frames there found named
+clearing-ends s f Signals reads frames there found named = freeing-ends s f Signals frames there found named
+
+drop_frame-admitted : (f : Name) (page : OwnRows) (frame : Frame) → get page.frames (page.supplier, f) ≡ Some frame → admits_alone page (change.Frame f Drop) ≡ Ok tt
+unfolding admits admits_frame ◌or◌ ◌>>=◌ refuse◌when◌
+drop_frame-admitted f page frame found = rw found refl
+
+-- and the page admits them
+pub clearing-admitted : (page : OwnRows) (f : Name) (kind : Header) (reads : List RowRead) (there : Option Frame) → get page.frames (page.supplier, f) ≡ there → IsNamed there → AreAdmitted page f (clearing kind reads f there)
+clearing-admitted page f Frames reads (Some frame) found named = elim (cases_Bool (list_any (λ read. names_with f frame.node read.row) reads)) [
+  | inl stays ↦ rw stays tt
+  | inr goes ↦ rw goes (drop_frame-admitted f page frame found, tt, tt)
+]
+clearing-admitted page f Frames reads None found named = tt
+clearing-admitted page f Placements reads there found named = freeing-admitted page f Placements there found named
+clearing-admitted page f Signals reads there found named = freeing-admitted page f Signals there found named
 
 -- a page's frames are so
 pub page-named : (page : OwnRows) → IsPage page → (k : Name × Name) (there : Option Frame) → get page.frames k ≡ there → IsNamed there

@@ -1,6 +1,6 @@
 -- What the integrator's commands make of a book: nodes, by the supplier's nodes; and what is common, by the list of variants.
-use Rattle.std.proofs.Common.{◌≡◌, ℕ, suc, Bool, true, false, not, cond, List, [], ◌∷◌, map, length, find, Option, Some, None, is_some, Result, Ok, Err, IsTrue, refl, sym, ap, ◌∙◌, Ordering, Less, Equal, Greater}
-use Rattle.std.specs.Prelude.{nat_le}
+use Rattle.std.proofs.Common.{◌≡◌, ℕ, suc, Bool, true, false, not, cond, List, [], ◌∷◌, map, length, find, Option, Some, None, is_some, Result, Ok, Err, IsTrue, refl, sym, ap, ◌∙◌, Ordering, Less, Equal, Greater, subst}
+use Rattle.std.specs.Prelude.{nat_le, ⊤}
 use Rattle.std.specs.List.{list_any}
 use Rattle.std.specs.Option.{option_map}
 use Rattle.std.specs.Ordering.{nat_cmp, is_eq, ordering_reverse}
@@ -18,16 +18,19 @@ use Rattle.fr_base.specs.Step.{with_variant, begun, common, add_node}
 use Rattle.fr_base.specs.declared.name.Name.{Name}
 use Rattle.fr_base.specs.declared.refusal.Refusal.{Refusal}
 use Rattle.fr_base.specs.declared.refusal.Refusal.TheVariants.{NoVariant, Released, NotReleased, TooDeep, NoSupplier, Exists, Limit}
+use Rattle.fr_base.specs.declared.beginning.Beginning.{Beginning}
+use Rattle.fr_base.specs.declared.beginning.Beginning.TheVariants.{Empty, From, Flat}
 use Rattle.fr_base.specs.declared.request.CommonCommand.{CommonCommand}
 use Rattle.fr_base.specs.declared.request.CommonCommand.TheVariants.{OpenVariant, Release}
 use Rattle.fr_base.proofs.SoundRows.{same_text-is}
 use Rattle.fr_base.proofs.AloneCells.{same_text-itself}
 use Rattle.fr_base.proofs.AloneTables.{get-own}
 use Rattle.fr_world.specs.BookEdits.{applied, changed_at, or_empty, copied, variants_in}
-use Rattle.fr_world.specs.Common.{row_of, depth_after, common_edit}
+use Rattle.fr_world.specs.Common.{row_of, allows_flat, depth_after, opening, common_edit}
 use Rattle.fr_world.specs.Nodes.{new_node}
 use Rattle.fr_world.specs.Pages.{nodes_in}
-use Rattle.fr_world.specs.declared.edit.Edit.TheVariants.{NewVariant, SetReleased, NewNode}
+use Rattle.fr_world.specs.declared.edit.Edit.{Edit}
+use Rattle.fr_world.specs.declared.edit.Edit.TheVariants.{NewVariant, NewFlat, SetReleased, NewNode}
 use Rattle.fr_base.specs.declared.answer.VariantRow.{VariantRow}
 use Rattle.fr_world.proofs.KeyLaws.{name_cmp, own_alike}
 use Rattle.fr_world.proofs.MapLaws.{contains-set_of}
@@ -122,27 +125,65 @@ module _ (b : Book) where
   parent-alike p None = refl
   parent-alike p (Some x) = from-alike p x x (not x.released) (nat_le MAX_DEPTH x.depth)
 
-  begun-made : (parent : Option Name) → begun b parent ≡ (depth_after (variants_in b) parent >>= λ d. Ok (made parent (copied b parent) d))
-  unfolding begun depth_after ◌>>=◌ empty_variant
-  begun-made None = refl
-  begun-made (Some p) =
+  from-made : (p : Name) → begun b (From p) ≡ (depth_after (variants_in b) (Some p) >>= λ d. Ok (made (Some p) (copied b (Some p)) d))
+  unfolding begun depth_after ◌>>=◌
+  from-made p =
       parent-alike p (get b.variants p)
       ∙ ap (λ o. ((o or NoVariant) >>= λ r. (refuse NotReleased when not r.released) >> ((refuse TooDeep when nat_le MAX_DEPTH r.depth) >> Ok (suc r.depth))) >>= λ d. Ok (made (Some p) (or_empty (get b.variants p)) d)) (sym (row-of p))
 
-  open-alike : (v : Name) (parent : Option Name) (depth : Result ℕ Refusal) (there full : Bool) →
-      ((depth >>= λ d. Ok (made parent (copied b parent) d)) >>= λ x. (refuse Exists when there) >> ((refuse Limit when full) >> Ok (with_variant b v x)))
-      ≡ ((depth >>= λ d. (refuse Exists when there) >> ((refuse Limit when full) >> Ok (NewVariant v parent d))) >>= λ edit. Ok (applied b edit))
-  unfolding ◌>>◌ ◌>>=◌ refuse◌when◌ applied
-  open-alike v parent (Err e) there full = refl
-  open-alike v parent (Ok d) true full = refl
-  open-alike v parent (Ok d) false true = refl
-  open-alike v parent (Ok d) false false = refl
+  flat-alike : (o : Option Variant) (p : Name) →
+      ((o or NoVariant) >>= λ x. (refuse NotReleased when not x.released) >> Ok (made None x 1))
+      ≡ (((option_map (row p) o or NoVariant) >>= λ r. refuse NotReleased when not r.released) >> Ok (made None (or_empty o) 1))
+  unfolding ◌or◌ ◌>>=◌ ◌>>◌
+  flat-alike None p = refl
+  flat-alike (Some x) p = refl
 
-  open-decides : (v : Name) (parent : Option Name) → common b (OpenVariant v parent) ≡ (common_edit (variants_in b) (OpenVariant v parent) >>= λ edit. Ok (applied b edit))
+  flat-made : (p : Name) → begun b (Flat p) ≡ (allows_flat (variants_in b) p >> Ok (made None (copied b (Some p)) 1))
+  unfolding begun allows_flat
+  flat-made p =
+      flat-alike (get b.variants p) p
+      ∙ ap (λ o. ((o or NoVariant) >>= λ r. refuse NotReleased when not r.released) >> Ok (made None (or_empty (get b.variants p)) 1)) (sym (row-of p))
+
+  -- what is begun is what the edit makes
+  unfoldable Alike : Name → Result Variant Refusal → Result Edit Refusal → Type 0
+  Alike v begun edit = (begun >>= λ x. Ok (with_variant b v x)) ≡ (edit >>= λ e. Ok (applied b e))
+
+  from-edit : (v p : Name) (depth : Result ℕ Refusal) → Alike v (depth >>= λ d. Ok (made (Some p) (copied b (Some p)) d)) (depth >>= λ d. Ok (NewVariant v (Some p) d))
+  unfolding ◌>>=◌ applied Alike
+  from-edit v p (Err e) = refl
+  from-edit v p (Ok d) = refl
+
+  flat-edit : (v p : Name) (allowed : Result ⊤ Refusal) → Alike v (allowed >> Ok (made None (copied b (Some p)) 1)) (allowed >> Ok (NewFlat v p))
+  unfolding ◌>>=◌ ◌>>◌ applied Alike
+  flat-edit v p (Err e) = refl
+  flat-edit v p (Ok d) = refl
+
+  empty-made : (v : Name) → Alike v (begun b Empty) (Ok (NewVariant v None 1))
+  unfolding begun ◌>>=◌ applied empty_variant Alike
+  empty-made v = refl
+
+  begun-made : (v : Name) (beginning : Beginning Name) → Alike v (begun b beginning) (opening (variants_in b) v beginning)
+  unfolding opening
+  begun-made v Empty = empty-made v
+  begun-made v (From p) = subst (λ r. Alike v r (opening (variants_in b) v (From p))) (sym (from-made p)) (from-edit v p (depth_after (variants_in b) (Some p)))
+  begun-made v (Flat p) = subst (λ r. Alike v r (opening (variants_in b) v (Flat p))) (sym (flat-made p)) (flat-edit v p (allows_flat (variants_in b) p))
+
+  open-alike : (v : Name) (begun : Result Variant Refusal) (edit : Result Edit Refusal) (there full : Bool) → Alike v begun edit →
+      (begun >>= λ x. (refuse Exists when there) >> ((refuse Limit when full) >> Ok (with_variant b v x)))
+      ≡ ((edit >>= λ e. (refuse Exists when there) >> ((refuse Limit when full) >> Ok e)) >>= λ edit. Ok (applied b edit))
+  unfolding ◌>>◌ ◌>>=◌ refuse◌when◌ Alike
+  open-alike v (Err e) (Err f) there full is = is
+  open-alike v (Err e) (Ok f) there full is = cc
+  open-alike v (Ok x) (Err f) there full is = cc
+  open-alike v (Ok x) (Ok e) true full is = refl
+  open-alike v (Ok x) (Ok e) false true is = refl
+  open-alike v (Ok x) (Ok e) false false is = is
+
+  open-decides : (v : Name) (beginning : Beginning Name) → common b (OpenVariant v beginning) ≡ (common_edit (variants_in b) (OpenVariant v beginning) >>= λ edit. Ok (applied b edit))
   unfolding common common_edit
-  open-decides v parent =
-      (λ i. begun-made parent i >>= λ x. (refuse Exists when row-there v i) >> ((refuse Limit when nat_le MAX_VARIANTS (rows-counted i)) >> Ok (with_variant b v x)))
-      ∙ open-alike v parent (depth_after (variants_in b) parent) _ _
+  open-decides v beginning =
+      (λ i. begun b beginning >>= λ x. (refuse Exists when row-there v i) >> ((refuse Limit when nat_le MAX_VARIANTS (rows-counted i)) >> Ok (with_variant b v x)))
+      ∙ open-alike v (begun b beginning) (opening (variants_in b) v beginning) _ _ (begun-made v beginning)
 
   freed-alike : (v : Name) (released : Bool) (last : Book) → last ≡ applied b (SetReleased v) → ((refuse Released when released) >> Ok last) ≡ (((refuse Released when released) >> Ok (SetReleased v)) >>= λ edit. Ok (applied b edit))
   unfolding ◌>>◌ ◌>>=◌ refuse◌when◌
@@ -163,5 +204,5 @@ module _ (b : Book) where
       ∙ ap (λ o. ((o or NoVariant) >>= λ r. (refuse Released when r.released) >> Ok (SetReleased v)) >>= λ edit. Ok (applied b edit)) (sym (row-of v))
 
 pub common-decides : (b : Book) (command : CommonCommand) → common b command ≡ (common_edit (variants_in b) command >>= λ edit. Ok (applied b edit))
-common-decides b (OpenVariant v parent) = open-decides b v parent
+common-decides b (OpenVariant v beginning) = open-decides b v beginning
 common-decides b (Release v) = release-decides b v

@@ -45,6 +45,7 @@ pub mod ClaimLaws
 pub mod PlaceLaws
 pub mod ReadLaws
 pub mod FreeingLaws
+pub mod ClearingLaws
 pub mod ReplacementRows
 pub mod TrialRows
 pub mod ReplacementsLead

@@ -9,7 +9,6 @@ use Rattle.std.proofs.Math.Nat.{pow-suc}
 use Rattle.std.proofs.Math.Pow.{ones_lt}
 use Rattle.std.proofs.lemmas.Grind.{flat_map-append}
 use Rattle.std.proofs.lemmas.List.{map-append, take_more}
-use Rattle.std.proofs.lemmas.List.Folds.{flat_map-map}
 use Rattle.std.proofs.lemmas.List.Sums.{sum_by-cons}
 use Rattle.std.proofs.lemmas.Nat.{and_le_r}
 use Rattle.std.proofs.lemmas.Simd.{map-map}
@@ -21,9 +20,10 @@ use Rattle.fr_base.specs.Cycles.{all_cycles, is_bit_set}
 use Rattle.fr_base.specs.Keys.{owned, channel_slots}
 use Rattle.fr_base.specs.Load.{lane_cell, lane_holder, lanes_of, load_of, load_row, seen_lanes, used_cycles}
 use Rattle.fr_base.specs.Schedule.{fill}
-use Rattle.fr_base.specs.Tables.{Table, get}
+use Rattle.fr_base.specs.Tables.{Table, contains, get}
 use Rattle.fr_base.specs.declared.answer.LaneHolder.{LaneHolder}
-use Rattle.fr_base.specs.declared.actor.Actor.TheVariants.{Integrator}
+use Rattle.fr_base.specs.declared.answer.LoadRow.{LoadRow}
+use Rattle.fr_base.specs.declared.actor.Actor.TheVariants.{Integrator, Supplier}
 use Rattle.fr_base.specs.declared.channel.Channel.{Channel}
 use Rattle.fr_base.specs.declared.name.Name.{Name}
 use Rattle.fr_base.specs.declared.params.Params.{Params}
@@ -31,7 +31,6 @@ use Rattle.fr_base.specs.declared.placement.Placement.{Placement}
 use Rattle.fr_base.proofs.MaskLemmas.{ones_are}
 use Rattle.fr_world.specs.Loads.{filled_load, grants_in_lanes, holder_in, lane_of}
 use Rattle.fr_world.specs.Masks.{ShowFilled, word_on, words_at}
-use Rattle.fr_world.specs.Occupancies.{ShowCells}
 use Rattle.fr_world.specs.declared.filled_cycles.FilledCycles.{FilledCycles}
 use Rattle.fr_world.specs.declared.page.ChannelSlot.{ChannelSlot}
 use Rattle.fr_world.proofs.DecideFilling.{fill-named, named}
@@ -109,11 +108,7 @@ same-row : {O Q : Type 0} (p : Params) (grants : Table channel_slots book.Holder
 unfolding load_row
 same-row p grants f g same lane = λ i. record (load_row p grants f lane) { used = same-used p f g lane same i }
 
--- a page's cells show what its frames fill
-pub shown-row : (p : Params) (grants : Table channel_slots book.Holder) (pairs : List (Name × Placement)) (frames : Table owned book.Frame) → ShowCells pairs frames → (lane : ℕ × Channel) → load_row p grants (fill pairs) lane ≡ load_row p grants (schedule_of frames) lane
-shown-row p grants pairs frames shows = same-row p grants (fill pairs) (schedule_of frames) (λ c. ap is_some (shows c) ∙ is_some-map (λ o. o.frame) (schedule_of frames c))
-
--- so do placements, with their frames' names alone
+-- placements fill alike with their frames' names alone
 pub named-load : (p : Params) (grants : Table channel_slots book.Holder) (cells : List (Name × Placement)) (placed : List (Sender × Placement)) → cells ≡ map named placed → filled_load p grants cells ≡ filled_load p grants placed
 unfolding filled_load
 named-load p grants cells placed e =
@@ -124,15 +119,6 @@ named-load p grants cells placed e =
 
 module _ {X R : Type 0} where
   -- one of a list more
-  pub flat-next : (g : X → List R) (xs : List X) (i : ℕ) (x y : X) (old mid new : List R) → i < length xs → x ≡ get_or xs i y → mid ≡ old ++ flat_map g (take i xs) → new ≡ mid ++ g x → new ≡ old ++ flat_map g (take (i + 1) xs)
-  flat-next g xs i x y old mid new l is h e =
-      e ∙ ap (λ front. front ++ g x) h
-      ∙ append_assoc old (flat_map g (take i xs)) (g x)
-      ∙ ap (λ rest. old ++ rest) (
-      ap (λ rest. flat_map g (take i xs) ++ rest) (sym (append-nil (g x)))
-      ∙ sym (flat_map-append g (take i xs) (x ∷ []))
-      ∙ ap (flat_map g) (ap (λ z. take i xs ++ z ∷ []) is ∙ sym (take_more xs i y l)))
-
   pub map-next : (f : X → R) (xs : List X) (i : ℕ) (x y : X) (old mid new : List R) → i < length xs → x ≡ get_or xs i y → mid ≡ old ++ map f (take i xs) → new ≡ mid ++ f x ∷ [] → new ≡ old ++ map f (take (i + 1) xs)
   map-next f xs i x y old mid new l is h e =
       e ∙ ap (λ front. front ++ f x ∷ []) h
@@ -140,21 +126,6 @@ module _ {X R : Type 0} where
       ∙ ap (λ rest. old ++ rest) (
       sym (map-append f (take i xs) (x ∷ []))
       ∙ ap (map f) (ap (λ z. take i xs ++ z ∷ []) is ∙ sym (take_more xs i y l)))
-
-  -- those that are kept, one by one
-  pub kept-each : (keep : X → Bool) (f : X → R) (xs : List X) → flat_map (λ x. map f (filter keep (x ∷ []))) xs ≡ map f (filter keep xs)
-  kept-each keep f [] = refl
-  kept-each keep f (x ∷ xs) = ap (λ rest. map f (filter keep (x ∷ [])) ++ rest) (kept-each keep f xs) ∙ by_test (keep x)
-    where
-      by_test : (b : Bool) → map f (cond b (x ∷ []) []) ++ map f (filter keep xs) ≡ map f (cond b (x ∷ filter keep xs) (filter keep xs))
-      by_test true = refl
-      by_test false = refl
-
-  pub kept-one : (keep : X → Bool) (f : X → R) (x : X) (row : R) (old new : List R) → keep x ≡ true → row ≡ f x → new ≡ old ++ row ∷ [] → new ≡ old ++ map f (filter keep (x ∷ []))
-  kept-one keep f x row old new h is e = e ∙ ap (λ r. old ++ r ∷ []) is ∙ ap (λ b. old ++ map f (cond b (x ∷ []) [])) (sym h)
-
-  pub kept-none : (keep : X → Bool) (f : X → R) (x : X) (old : List R) → keep x ≡ false → old ≡ old ++ map f (filter keep (x ∷ []))
-  kept-none keep f x old h = sym (append-nil old) ∙ ap (λ b. old ++ map f (cond b (x ∷ []) [])) (sym h)
 
 -- one number more
 pub flat-number : {R : Type 0} (g : ℕ → List R) (mid new : List R) (number m n : ℕ) → number ≡ 1 + m → n ≡ suc m → mid ≡ flat_map g (range_with_len 1 m) → new ≡ mid ++ g number → new ≡ flat_map g (range_with_len 1 n)
@@ -166,14 +137,7 @@ flat-number g mid new number m n e f h k =
 
 -- ---- lanes as the code keeps them
 
--- the rows of those that are kept
-pub kept-lanes : {R : Type 0} (keep : ℕ × Channel → Bool) (f : ℕ × Channel → R) (lanes : List ChannelSlot) (ls : List (ℕ × Channel)) → map lane_of lanes ≡ ls → flat_map (λ k. map f (filter keep (lane_of k ∷ []))) lanes ≡ map f (filter keep ls)
-kept-lanes keep f lanes ls e =
-    sym (flat_map-map (λ l. map f (filter keep (l ∷ []))) lane_of lanes)
-    ∙ ap (flat_map (λ l. map f (filter keep (l ∷ [])))) e
-    ∙ kept-each keep f ls
-
--- and of all of them
+-- the rows of all of them
 pub listed-lanes : {R : Type 0} (f : ℕ × Channel → R) (lanes : List ChannelSlot) (ls : List (ℕ × Channel)) → map lane_of lanes ≡ ls → map (λ k. f (lane_of k)) lanes ≡ map f ls
 listed-lanes f lanes ls e = sym (map-map f lane_of lanes) ∙ ap (map f) e
 
@@ -185,9 +149,26 @@ lane-held es k = back (lookup (is_at (slot_cmp k)) es) ∙ ap (option_map lane_h
     back None = refl
     back (Some h) = refl
 
--- ---- the integrator's
+-- ---- as an actor sees it
 
 -- by all placements of a variant it is the load that the integrator is shown
 pub load-all : (p : Params) (grants : Table channel_slots book.Holder) (frames : Table owned book.Frame) → filled_load p grants (placements_of frames) ≡ load_of p Integrator grants frames
 unfolding filled_load load_of seen_lanes schedule_of
 load-all p grants frames = refl
+
+module _ (p : Params) (grants : Table channel_slots book.Holder) (f : ℕ × Channel → LoadRow) (holds : (l : ℕ × Channel) → is_some (f l).holder ≡ is_some (get grants l)) where
+  held-lanes : (ls : List (ℕ × Channel)) → filter (λ (r : LoadRow). is_some r.holder) (map f ls) ≡ map f (filter (contains grants) ls)
+  held-lanes [] = refl
+  held-lanes (l ∷ ls) =
+      (λ i. cond (holds l i) (f l ∷ filter (λ (r : LoadRow). is_some r.holder) (map f ls)) (filter (λ (r : LoadRow). is_some r.holder) (map f ls)))
+      ∙ by_test (filter (λ (r : LoadRow). is_some r.holder) (map f ls)) (filter (contains grants) ls) (is_some (get grants l)) (held-lanes ls)
+    where
+      by_test : (rows : List LoadRow) (kept : List (ℕ × Channel)) (b : Bool) → rows ≡ map f kept → cond b (f l ∷ rows) rows ≡ map f (cond b (l ∷ kept) kept)
+      by_test rows kept true e = ap (λ rs. f l ∷ rs) e
+      by_test rows kept false e = e
+
+-- by a supplier's placements, those of its lanes that are held are the load that it is shown
+pub load-own : (p : Params) (s : Name) (grants : Table channel_slots book.Holder) (frames : Table owned book.Frame) →
+    filter (λ (r : LoadRow). is_some r.holder) (filled_load p grants (placements_of frames)) ≡ load_of p (Supplier s) grants frames
+unfolding filled_load load_of seen_lanes schedule_of load_row
+load-own p s grants frames = held-lanes p grants (load_row p grants (fill (placements_of frames))) (λ l. is_some-map lane_holder (get grants l)) (lanes_of p)

@@ -1,8 +1,9 @@
 -- A draft after rows of a replacement: what frees their frames, and then the rows.
-use Rattle.std.proofs.Common.{◌≡◌, List, [], ◌∷◌, Result, Ok, Err, IfOk, refl, subst, ◌∙◌}
+use Rattle.std.proofs.Common.{◌≡◌, List, [], ◌∷◌, map, Option, Some, None, Result, Ok, Err, IfOk, refl, subst, ◌∙◌}
 use Rattle.fr_base.specs.Refusing.{◌>>=◌}
 use Rattle.fr_base.specs.Tables.{get}
-use Rattle.fr_base.specs.Step.{at_line, frame_of_row}
+use Rattle.fr_base.specs.Step.{at_line, frame_of_row, kind_of_row}
+use Rattle.fr_base.specs.declared.import.Header.{Header}
 use Rattle.fr_base.specs.declared.import.Row.{Row}
 use Rattle.fr_base.specs.declared.import.Row.TheVariants as row
 use Rattle.fr_base.specs.declared.import.RowRead.{RowRead}
@@ -11,7 +12,7 @@ use Rattle.fr_base.specs.declared.refusal.Refusal.{Refusal}
 use Rattle.fr_base.specs.declared.request.FrameChange.{FrameChange}
 use Rattle.fr_base.proofs.SoundRefusing.{gives_each}
 use Rattle.fr_base.proofs.SoundImports.{at_line-gives}
-use Rattle.fr_world.specs.ReplacementDecisions.{free_row, free_rows, freeing, replace_read, replace_row, replace_rows, with_changes}
+use Rattle.fr_world.specs.ReplacementDecisions.{begun, clear_all, clear_frame, clear_frames, clearing, free_row, free_rows, freeing, replace_read, replace_row, replace_rows, with_changes}
 use Rattle.fr_world.specs.RowDecisions.{DraftData}
 use Rattle.fr_world.specs.RowFaults.{IsFault}
 use Rattle.fr_world.specs.declared.decision.import_rows.RowFault.{RowFault}
@@ -24,12 +25,23 @@ changes-keep f [] d = refl
 changes-keep f (what ∷ rest) d = changes-keep f rest _
 
 pub freed-params : (d : DraftData) (r : Result Row Refusal) → Keeps d (free_row d r)
-freed-params d (Ok r) = changes-keep (frame_of_row r) (freeing r (get d.page.frames (d.page.supplier, frame_of_row r))) d
+freed-params d (Ok r) = changes-keep (frame_of_row r) (freeing (kind_of_row r) (get d.page.frames (d.page.supplier, frame_of_row r))) d
 freed-params d (Err e) = refl
 
 pub all_freed-params : (reads : List RowRead) (d : DraftData) → Keeps d (free_rows d reads)
 all_freed-params [] d = refl
 all_freed-params (read ∷ rest) d = all_freed-params rest (free_row d read.row) ∙ freed-params d read.row
+
+clear_frames-params : (kind : Header) (reads : List RowRead) (names : List Name) (d : DraftData) → Keeps d (clear_frames d kind reads names)
+clear_frames-params kind reads [] d = refl
+clear_frames-params kind reads (f ∷ rest) d = clear_frames-params kind reads rest (clear_frame d kind reads f) ∙ changes-keep f (clearing kind reads f (get d.page.frames (d.page.supplier, f))) d
+
+cleared-params : (whole : Option Header) (reads : List RowRead) (d : DraftData) → Keeps d (clear_all d whole reads)
+cleared-params None reads d = refl
+cleared-params (Some kind) reads d = clear_frames-params kind reads (map (λ row. row.0.1) d.page.frames.rows) d
+
+pub begun-params : (whole : Option Header) (reads : List RowRead) (d : DraftData) → Keeps d (begun d whole reads)
+begun-params whole reads d = all_freed-params reads (clear_all d whole reads) ∙ cleared-params whole reads d
 
 pub replace_row-keeps : (d : DraftData) (r : Row) → IfOk (replace_row d r) (Keeps d)
 unfolding replace_row

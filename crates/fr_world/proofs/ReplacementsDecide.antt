@@ -1,16 +1,19 @@
 -- What a supplier's replacement is decided to on the supplier's page is what it makes of the register.
-use Rattle.std.proofs.Common.{◌≡◌, ℕ, false, not, List, [], ◌∷◌, map, Option, Some, None, Result, Ok, Err, IfOk, IsTrue, refl, sym, ap, subst, ◌∙◌}
-use Rattle.std.specs.List.{AllByRecursion}
+use Rattle.std.proofs.Common.{◌≡◌, ℕ, false, not, List, [], ◌∷◌, map, Option, Some, None, Result, Ok, Err, IfOk, IsTrue, refl, sym, ap, subst, ◌∙◌, inl, inr}
+use Rattle.std.specs.List.{AllByRecursion, list_any}
+use Rattle.std.proofs.lemmas.Bool.{cases_Bool}
 use Rattle.fr_base.specs.Refusing.{◌>>=◌}
-use Rattle.fr_base.specs.Tables.{get, contains, settle}
+use Rattle.fr_base.specs.Tables.{Fate, get, contains, settle}
 use Rattle.fr_base.specs.Keys.{owned}
 use Rattle.fr_base.specs.Cluster.{Cluster}
 use Rattle.fr_base.specs.Book.{Frame, Variant, Book, is_of}
 use Rattle.fr_base.specs.ImportRows.{rows_of_body}
 use Rattle.fr_base.specs.Sound.{IsSound}
 use Rattle.fr_base.specs.Step as step
-use Rattle.fr_base.specs.Step.{OwnRows, own_rows, with_variant, changed, grants_after, frames_after, frame_at, with_frame as book_frame, frame_of_row, freed, with_freed}
+use Rattle.fr_base.specs.Step.{OwnRows, own_rows, with_variant, changed, grants_after, frames_after, frame_at, with_frame as book_frame, frame_of_row, kind_of_row, freed, names_with, cleared, with_freed}
 use Rattle.fr_base.specs.Changes.{in_rows}
+use Rattle.fr_base.specs.declared.import.Header.{Header}
+use Rattle.fr_base.specs.declared.import.Header.TheVariants.{Frames, Placements, Signals}
 use Rattle.fr_base.specs.declared.import.Row.{Row}
 use Rattle.fr_base.specs.declared.import.Row.TheVariants as row
 use Rattle.fr_base.specs.declared.import.RowRead.{RowRead}
@@ -32,11 +35,11 @@ use Rattle.fr_base.proofs.SoundTables.{get-passing, get-put, insert-again, same_
 use Rattle.fr_world.specs.BookEdits.{applied, all_applied, changed_at}
 use Rattle.fr_world.specs.Decisions.{admits_alone}
 use Rattle.fr_world.specs.Pages.{page_in}
-use Rattle.fr_world.specs.ReplacementDecisions.{AreAdmitted, free_row, free_rows, freeing, replace_read, replace_row, replace_rows, replacement_decision, with_changes}
+use Rattle.fr_world.specs.ReplacementDecisions.{AreAdmitted, begun, clear_all, clear_frame, clear_frames, clearing, free_row, free_rows, freeing, replace_read, replace_row, replace_rows, replacement_decision, with_changes}
 use Rattle.fr_world.specs.RowDecisions.{DraftData, draft_of, make_frame, with_change, with_frame}
 use Rattle.fr_world.specs.declared.edit.Edit.{Edit}
 use Rattle.fr_world.specs.declared.edit.Edit.TheVariants.{Rows}
-use Rattle.fr_world.proofs.FreeingLaws.{IsNamed, ended, freeing-admitted, freeing-ends}
+use Rattle.fr_world.proofs.FreeingLaws.{IsNamed, clearing-admitted, clearing-ends, ended, freeing-admitted, freeing-ends}
 use Rattle.fr_world.proofs.PageLaws.{rows-registers}
 use Rattle.fr_world.proofs.RowsDecide.{Draws, Like, drawn, frame-like, frame-shown, like-is, like_bind, like_when, line-like, node-shown, row-like}
 
@@ -74,12 +77,21 @@ module _ (p : Params) (f : Name) where
   drops-formed [] = tt
   drops-formed (x ∷ xs) = (tt, drops-formed xs)
 
-  freeing-formed : (r : Row) (there : Option Frame) → AreFormed (freeing r there)
-  freeing-formed (row.AddFrame g n) there = tt
-  freeing-formed (row.Place g n q) (Some frame) = unplaces-formed (placements_in frame)
-  freeing-formed (row.Place g n q) None = tt
-  freeing-formed (row.AddSignal g signal) (Some frame) = drops-formed frame.signals
-  freeing-formed (row.AddSignal g signal) None = tt
+  freeing-formed : (kind : Header) (there : Option Frame) → AreFormed (freeing kind there)
+  freeing-formed Frames there = tt
+  freeing-formed Placements (Some frame) = unplaces-formed (placements_in frame)
+  freeing-formed Placements None = tt
+  freeing-formed Signals (Some frame) = drops-formed frame.signals
+  freeing-formed Signals None = tt
+
+  clearing-formed : (kind : Header) (reads : List RowRead) (there : Option Frame) → AreFormed (clearing kind reads f there)
+  clearing-formed Frames reads (Some frame) = elim (cases_Bool (list_any (λ read. names_with f frame.node read.row) reads)) [
+    | inl stays ↦ rw stays tt
+    | inr goes ↦ rw goes (tt, tt)
+  ]
+  clearing-formed Frames reads None = tt
+  clearing-formed Placements reads there = freeing-formed Placements there
+  clearing-formed Signals reads there = freeing-formed Signals there
 
 module _ (c : Cluster) (start : Book) (s v : Name) where
   abbrev Drawn : Book → DraftData → Type 0
@@ -114,6 +126,14 @@ module _ (c : Cluster) (start : Book) (s v : Name) where
   same-book : (b : Book) (d : DraftData) → (draws : Drawn b d) → with_variant b v draws.x ≡ b
   same-book b d draws = ap (λ t. record b { variants = t }) (insert-same b.variants v draws.x draws.there)
 
+  -- what a frame's changes make of the variant
+  frame-drawn : (b : Book) (d : DraftData) → (draws : Drawn b d) → (f : Name) (whats : List FrameChange) (fate : Fate Frame) → AreFormed c.params f whats → AreAdmitted d.page f whats →
+      ended s f draws.x.frames whats ≡ settle draws.x.frames (s, f) fate → Drawn (with_variant b v (record draws.x { frames = settle draws.x.frames (s, f) fate })) (with_changes d f whats)
+  frame-drawn b d draws f whats fate formed admitted ends =
+      subst (λ e. Drawn e (with_changes d f whats))
+      (changes-applied s v f whats b draws.x draws.there ∙ ap (λ frames. with_variant b v (record draws.x { frames = frames })) ends)
+      (changes-drawn f whats b d draws formed admitted)
+
   freed-drawn : (b : Book) (d : DraftData) → (draws : Drawn b d) → (r : Result Row Refusal) → Drawn (with_variant b v (record draws.x { frames = step.free_row s r draws.x.frames })) (free_row d r)
   unfolding step.free_row
   freed-drawn b d draws (Ok r) =
@@ -121,14 +141,16 @@ module _ (c : Cluster) (start : Book) (s v : Name) where
       let there : Option Frame = get d.page.frames (d.page.supplier, f) in
       let found = shown b d draws f in
       let apart = named b draws.sound draws.x draws.there (s, f) there found in
-      let ends : ended s f draws.x.frames (freeing r there) ≡ settle draws.x.frames (s, f) (freed r (get draws.x.frames (s, f))) =
-      freeing-ends s r draws.x.frames there found apart ∙ ap (λ o. settle draws.x.frames (s, f) (freed r o)) (sym found) in
-      subst (λ e. Drawn e (free_row d (Ok r)))
-      (changes-applied s v f (freeing r there) b draws.x draws.there ∙ ap (λ frames. with_variant b v (record draws.x { frames = frames })) ends)
-      (changes-drawn f (freeing r there) b d draws (freeing-formed c.params f r there) (freeing-admitted d.page r there refl apart))
+      let kind : Header = kind_of_row r in
+      frame-drawn b d draws f (freeing kind there) (freed kind (get draws.x.frames (s, f))) (freeing-formed c.params f kind there) (freeing-admitted d.page f kind there refl apart)
+      (freeing-ends s f kind draws.x.frames there found apart ∙ ap (λ o. settle draws.x.frames (s, f) (freed kind o)) (sym found))
   freed-drawn b d draws (Err e) = subst (λ e. Drawn e d) (sym (same-book b d draws)) draws
 
-  pub all_freed-drawn : (reads : List RowRead) (b : Book) (d : DraftData) → (draws : Drawn b d) → Drawn (with_freed b s v draws.x reads) (free_rows d reads)
+  -- the book where the frames that the rows name were freed
+  abbrev freed_book : Book → Variant → List RowRead → Book
+  freed_book b x reads = with_variant b v (record x { frames = step.free_rows s reads x.frames })
+
+  all_freed-drawn : (reads : List RowRead) (b : Book) (d : DraftData) → (draws : Drawn b d) → Drawn (freed_book b draws.x reads) (free_rows d reads)
   unfolding step.free_rows
   all_freed-drawn [] b d draws = subst (λ e. Drawn e d) (sym (same-book b d draws)) draws
   all_freed-drawn (read ∷ rest) b d draws =
@@ -136,9 +158,63 @@ module _ (c : Cluster) (start : Book) (s v : Name) where
       let mid = freed-drawn b d draws read.row in
       let is : mid.x ≡ next = same_some _ _ (sym mid.there ∙ get-put b.variants v next) in
       subst (λ e. Drawn e (free_rows d (read ∷ rest)))
-      (ap (λ y. with_freed (with_variant b v next) s v y rest) is
+      (ap (λ y. freed_book (with_variant b v next) y rest) is
       ∙ ap (λ t. record b { variants = t }) (insert-again b.variants v next (record next { frames = step.free_rows s rest next.frames })))
       (all_freed-drawn rest (with_variant b v next) (free_row d read.row) mid)
+
+  -- ---- frames that are cleared
+
+  cleared-drawn : (b : Book) (d : DraftData) → (draws : Drawn b d) → (kind : Header) (reads : List RowRead) (f : Name) →
+      Drawn (with_variant b v (record draws.x { frames = settle draws.x.frames (s, f) (cleared kind reads f (get draws.x.frames (s, f))) })) (clear_frame d kind reads f)
+  cleared-drawn b d draws kind reads f =
+      let there : Option Frame = get d.page.frames (d.page.supplier, f) in
+      let found = shown b d draws f in
+      let apart = named b draws.sound draws.x draws.there (s, f) there found in
+      frame-drawn b d draws f (clearing kind reads f there) (cleared kind reads f (get draws.x.frames (s, f))) (clearing-formed c.params f kind reads there) (clearing-admitted d.page f kind reads there refl apart)
+      (clearing-ends s f kind reads draws.x.frames there found apart ∙ ap (λ o. settle draws.x.frames (s, f) (cleared kind reads f o)) (sym found))
+
+  -- the book where the frames of the names were cleared
+  abbrev cleared_book : Book → Variant → Header → List RowRead → List Name → Book
+  cleared_book b x kind reads names = with_variant b v (record x { frames = step.clear_frames s kind reads names x.frames })
+
+  clear_frames-drawn : (kind : Header) (reads : List RowRead) (names : List Name) (b : Book) (d : DraftData) → (draws : Drawn b d) → Drawn (cleared_book b draws.x kind reads names) (clear_frames d kind reads names)
+  unfolding step.clear_frames
+  clear_frames-drawn kind reads [] b d draws = subst (λ e. Drawn e d) (sym (same-book b d draws)) draws
+  clear_frames-drawn kind reads (f ∷ rest) b d draws =
+      let next : Variant = record draws.x { frames = settle draws.x.frames (s, f) (cleared kind reads f (get draws.x.frames (s, f))) } in
+      let mid = cleared-drawn b d draws kind reads f in
+      let is : mid.x ≡ next = same_some _ _ (sym mid.there ∙ get-put b.variants v next) in
+      subst (λ e. Drawn e (clear_frames d kind reads (f ∷ rest)))
+      (ap (λ y. cleared_book (with_variant b v next) y kind reads rest) is
+      ∙ ap (λ t. record b { variants = t }) (insert-again b.variants v next (record next { frames = step.clear_frames s kind reads rest next.frames })))
+      (clear_frames-drawn kind reads rest (with_variant b v next) (clear_frame d kind reads f) mid)
+
+  -- the page's frames are the supplier's of the variant
+  names-shown : (b : Book) (d : DraftData) → (draws : Drawn b d) → map (λ row. row.0.1) d.page.frames.rows ≡ step.frame_names s draws.x.frames
+  unfolding own_rows
+  names-shown b d draws = ap (λ (p : OwnRows). map (λ row. row.0.1) p.frames.rows) draws.page
+
+  -- the book where all were cleared, if the file is the whole of a kind
+  abbrev all_cleared : Book → Variant → Option Header → List RowRead → Book
+  all_cleared b x whole reads = with_variant b v (record x { frames = step.clear_all s whole reads x.frames })
+
+  all_cleared-drawn : (whole : Option Header) (reads : List RowRead) (b : Book) (d : DraftData) → (draws : Drawn b d) → Drawn (all_cleared b draws.x whole reads) (clear_all d whole reads)
+  unfolding step.clear_all
+  all_cleared-drawn None reads b d draws = subst (λ e. Drawn e d) (sym (same-book b d draws)) draws
+  all_cleared-drawn (Some kind) reads b d draws =
+      subst (λ names. Drawn (cleared_book b draws.x kind reads names) (clear_all d (Some kind) reads)) (names-shown b d draws)
+      (clear_frames-drawn kind reads (map (λ row. row.0.1) d.page.frames.rows) b d draws)
+
+  -- the book on which the rows act
+  pub begun-drawn : (whole : Option Header) (reads : List RowRead) (b : Book) (d : DraftData) → (draws : Drawn b d) → Drawn (with_freed b s v draws.x whole reads) (begun d whole reads)
+  begun-drawn whole reads b d draws =
+      let next : Variant = record draws.x { frames = step.clear_all s whole reads draws.x.frames } in
+      let mid = all_cleared-drawn whole reads b d draws in
+      let is : mid.x ≡ next = same_some _ _ (sym mid.there ∙ get-put b.variants v next) in
+      subst (λ e. Drawn e (begun d whole reads))
+      (ap (λ y. freed_book (with_variant b v next) y reads) is
+      ∙ ap (λ t. record b { variants = t }) (insert-again b.variants v next (record next { frames = step.free_rows s reads next.frames })))
+      (all_freed-drawn reads (with_variant b v next) (clear_all d whole reads) mid)
 
   -- ---- rows
 
@@ -164,13 +240,13 @@ module _ (c : Cluster) (start : Book) (s v : Name) where
   replace_rows-like (read ∷ rest) b d draws forms =
       like_bind c start s v _ _ _ _ (line-like c start s v read.line _ _ (replace_read-like b d draws read.row forms.0)) (λ e g next. replace_rows-like rest e g next forms.1)
 
-pub replacement-decides : (c : Cluster) (b : Book) (s v : Name) (x : Variant) (body : List ℕ) → IsSound c b → get b.variants v ≡ Some x → x.released ≡ false → IsTrue (contains b.suppliers s) →
-    step.replace_rows c.params (with_freed b s v x (rows_of_body c.params body)) s v (rows_of_body c.params body)
-    ≡ (replacement_decision (page_in c.params b s v x) (rows_of_body c.params body) >>= λ edits. Ok (all_applied b edits))
+pub replacement-decides : (c : Cluster) (b : Book) (s v : Name) (x : Variant) (whole : Option Header) (body : List ℕ) → IsSound c b → get b.variants v ≡ Some x → x.released ≡ false → IsTrue (contains b.suppliers s) →
+    step.replace_rows c.params (with_freed b s v x whole (rows_of_body c.params body)) s v (rows_of_body c.params body)
+    ≡ (replacement_decision (page_in c.params b s v x) whole (rows_of_body c.params body) >>= λ edits. Ok (all_applied b edits))
 unfolding replacement_decision
-replacement-decides c b s v x body sound there unreleased known =
+replacement-decides c b s v x whole body sound there unreleased known =
     let reads : List RowRead = rows_of_body c.params body in
     let draws : Draws c b s v b (draft_of (page_in c.params b s v x)) =
     record { x = x; there = there; unreleased = unreleased; known = known; sound = sound; variant = refl; page = rows-registers c b s v x; edits = refl } in
-    like-is c b s v _ _ (replace_rows-like c b s v reads (with_freed b s v x reads) (free_rows (draft_of (page_in c.params b s v x)) reads)
-    (all_freed-drawn c b s v reads b (draft_of (page_in c.params b s v x)) draws) (body-form c.params body))
+    like-is c b s v _ _ (replace_rows-like c b s v reads (with_freed b s v x whole reads) (begun (draft_of (page_in c.params b s v x)) whole reads)
+    (begun-drawn c b s v whole reads b (draft_of (page_in c.params b s v x)) draws) (body-form c.params body))

@@ -26,7 +26,7 @@ use Rattle.fr_world.specs.Fits.{IsCounted}
 use Rattle.fr_world.specs.Pages.{IsKept, IsPage, PageData, own_rows_of}
 use Rattle.fr_world.specs.RowDecisions.{AreChecked, DraftData, IsCheckedRow, draft_of, make, make_frame, make_read, make_row, make_rows, rows_decision, with_frame}
 use Rattle.fr_world.specs.declared.edit.Edit.{Edit}
-use Rattle.fr_world.specs.declared.edit.Edit.TheVariants.{NewVariant, SetReleased, NewSupplier, SetKey, NewNode, Rows, KeepImport}
+use Rattle.fr_world.specs.declared.edit.Edit.TheVariants.{NewVariant, NewFlat, SetReleased, NewSupplier, SetKey, NewNode, Rows, KeepImport}
 use Rattle.fr_world.proofs.LeadsLaws.{rows-leave}
 
 module _ (v : Name) where
@@ -67,6 +67,7 @@ pub none-releases : (p : Params) (edits : List Edit) → AllByRecursion (IsOfFra
 none-releases p [] all = refl
 none-releases p (Rows rows ∷ edits) all = none-releases p edits all.1
 none-releases p (NewVariant v parent depth ∷ edits) all = absurd all.0
+none-releases p (NewFlat v from ∷ edits) all = absurd all.0
 none-releases p (SetReleased v ∷ edits) all = absurd all.0
 none-releases p (NewSupplier s key ∷ edits) all = absurd all.0
 none-releases p (SetKey s key ∷ edits) all = absurd all.0

@@ -1,8 +1,9 @@
 -- A draft after a row that was tried: what it made of it, or the same, with a frame taken back that was added for the row.
-use Rattle.std.proofs.Common.{◌≡◌, ◌++◌, Bool, true, false, not, cond, List, [], ◌∷◌, take, length, Option, Some, None, is_some, Result, Ok, Err, IfOk, ℕ, refl, sym, ap, ◌∙◌, inl, inr, append_assoc, append-nil}
+use Rattle.std.proofs.Common.{◌≡◌, ◌++◌, Bool, true, false, not, cond, List, [], ◌∷◌, take, drop, length, get_or, ◌+◌, ◌<◌, ◌≤◌, Option, Some, None, is_some, Result, Ok, Err, is_err, IfOk, ℕ, refl, sym, ap, ◌∙◌, inl, inr, append_assoc, append-nil}
 use Rattle.std.specs.Prelude.{⊤}
 use Rattle.std.specs.Ordering.{eq_by_cmp}
 use Rattle.std.proofs.lemmas.Bool.{cases_Bool}
+use Rattle.std.proofs.lemmas.List.{drop_all, drop_more, take_all, take_more}
 use Rattle.std.proofs.Math.Seq.{take-append_seam}
 use Rattle.fr_base.specs.Refusing.{◌>>=◌, ◌>>◌, refuse◌when◌}
 use Rattle.fr_base.specs.Tables.{Order, Table, empty, get, contains, insert, remove, settle}
@@ -10,9 +11,10 @@ use Rattle.fr_base.specs.Keys.{owned}
 use Rattle.fr_base.specs.Names.{same_text}
 use Rattle.fr_base.specs.Book.{Frame}
 use Rattle.fr_base.specs.ImportRows.{up_to_refused}
-use Rattle.fr_base.specs.Step.{admits, admits_frame, grants_after, frame_after, frames_after, fate_of}
+use Rattle.fr_base.specs.Step.{admits, admits_frame, grants_after, frame_after, frames_after, fate_of, whole_of}
 use Rattle.fr_base.specs.Changes.{in_rows}
 use Rattle.fr_base.specs.declared.answer.FateRow.{FateRow}
+use Rattle.fr_base.specs.declared.import.Header.{Header}
 use Rattle.fr_base.specs.declared.import.Row.{Row}
 use Rattle.fr_base.specs.declared.import.Row.TheVariants as row
 use Rattle.fr_base.specs.declared.import.RowRead.{RowRead}
@@ -23,6 +25,8 @@ use Rattle.fr_base.specs.declared.refusal.Refusal.TheVariants.{NoNode, NodeDiffe
 use Rattle.fr_base.specs.declared.request.Change.TheVariants as change
 use Rattle.fr_base.specs.declared.request.FrameChange.TheVariants.{Add, Drop, AddSignal}
 use Rattle.fr_base.specs.declared.signal.Signal.{Signal}
+use Rattle.fr_base.specs.declared.request.Manner.{Manner}
+use Rattle.fr_base.specs.declared.request.Manner.TheVariants as manner
 use Rattle.fr_base.proofs.TableLaws.{equal, get-insert, kept, same_table}
 use Rattle.fr_base.proofs.SoundTables.{get-put, same_key}
 use Rattle.fr_base.proofs.AloneTables.{get-remove}
@@ -30,13 +34,13 @@ use Rattle.fr_base.proofs.SoundRefusing.{gives_each}
 use Rattle.fr_world.specs.Decisions.{admits_alone}
 use Rattle.fr_world.specs.Edits.{rows_after}
 use Rattle.fr_world.specs.Pages.{PageData}
-use Rattle.fr_world.specs.ReplacementDecisions.{free_row, free_rows, replace_row}
+use Rattle.fr_world.specs.ReplacementDecisions.{replace_row}
 use Rattle.fr_world.specs.RowDecisions.{DraftData, draft_of, make, make_frame, make_row, with_change, with_frame}
 use Rattle.fr_world.specs.Trials.{IsMade, fates_of, read_fate, trial, tried, try_row}
 use Rattle.fr_world.specs.declared.edit.Edit.{Edit}
 use Rattle.fr_world.specs.declared.edit.Edit.TheVariants.{Rows}
 use Rattle.fr_world.proofs.DraftRows.{Keeps, row-keeps}
-use Rattle.fr_world.proofs.ReplacementRows.{all_freed-params, replace_row-keeps}
+use Rattle.fr_world.proofs.ReplacementRows.{begun-params, replace_row-keeps}
 
 -- ---- a row that is put in and taken out
 
@@ -119,85 +123,117 @@ module _ (d : DraftData) (f n : Name) where
 -- ---- a row, of an import or of a replacement
 
 module _ (d : DraftData) where
-  pub try-place : (replaces : Bool) (f n : Name) (q : Placement) → try_row replaces d (row.Place f n q) ≡ make_row d (row.Place f n q)
+  pub try-place : (how : Manner) (f n : Name) (q : Placement) → try_row how d (row.Place f n q) ≡ make_row d (row.Place f n q)
   unfolding replace_row
-  try-place true f n q = refl
-  try-place false f n q = refl
+  try-place (manner.Replace whole) f n q = refl
+  try-place manner.Import f n q = refl
 
-  pub try-signal : (replaces : Bool) (f : Name) (signal : Signal) → try_row replaces d (row.AddSignal f signal) ≡ make d (change.Frame f (AddSignal signal))
+  pub try-signal : (how : Manner) (f : Name) (signal : Signal) → try_row how d (row.AddSignal f signal) ≡ make d (change.Frame f (AddSignal signal))
   unfolding replace_row make_row
-  try-signal true f signal = refl
-  try-signal false f signal = refl
+  try-signal (manner.Replace whole) f signal = refl
+  try-signal manner.Import f signal = refl
 
-  pub try-add : (f n : Name) → try_row false d (row.AddFrame f n) ≡ make d (change.Frame f (Add n))
+  pub try-add : (f n : Name) → try_row manner.Import d (row.AddFrame f n) ≡ make d (change.Frame f (Add n))
   unfolding make_row
   try-add f n = refl
 
-  pub try-frame : (f n : Name) → try_row true d (row.AddFrame f n) ≡ make_frame d f n
+  pub try-frame : (whole : Bool) (f n : Name) → try_row (manner.Replace whole) d (row.AddFrame f n) ≡ make_frame d f n
   unfolding replace_row
-  try-frame f n = refl
+  try-frame whole f n = refl
 
   -- ---- what becomes of a row
 
-  pub refused-fate : (replaces : Bool) (read : RowRead) (e : Refusal) → read.row ≡ Err e → read_fate replaces d read ≡ (d, record { line = read.line; refusal = Some e })
+  pub refused-fate : (how : Manner) (read : RowRead) (e : Refusal) → read.row ≡ Err e → read_fate how d read ≡ (d, record { line = read.line; refusal = Some e })
   unfolding read_fate fate_of ◌>>=◌
-  refused-fate replaces read e is = rw is refl
+  refused-fate how read e is = rw is refl
 
-  pub made-fate : (replaces : Bool) (read : RowRead) (r : Row) (new : DraftData) (refusal : Option Refusal) → read.row ≡ Ok r → IsMade d new (try_row replaces d r) refusal →
-      read_fate replaces d read ≡ (new, record { line = read.line; refusal = refusal })
+  pub made-fate : (how : Manner) (read : RowRead) (r : Row) (new : DraftData) (refusal : Option Refusal) → read.row ≡ Ok r → IsMade d new (try_row how d r) refusal →
+      read_fate how d read ≡ (new, record { line = read.line; refusal = refusal })
   unfolding read_fate fate_of ◌>>=◌
-  made-fate replaces read r new None is made = rw (is, made) refl
-  made-fate replaces read r new (Some e) is made = rw (is, made.0) (λ i. (sym made.1 i, record { line = read.line; refusal = Some e }))
+  made-fate how read r new None is made = rw (is, made) refl
+  made-fate how read r new (Some e) is made = rw (is, made.0) (λ i. (sym made.1 i, record { line = read.line; refusal = Some e }))
 
--- ---- frames that are freed, up to the first row that its own text refuses
+-- ---- the rows up to the first that its own text refuses
 
-pub freed-next : (d : DraftData) (read : RowRead) (rest : List RowRead) (r : Row) → read.row ≡ Ok r → free_rows d (up_to_refused (read ∷ rest)) ≡ free_rows (free_row d (Ok r)) (up_to_refused rest)
+read-on : (read : RowRead) (rest : List RowRead) → is_err read.row ≡ false → up_to_refused (read ∷ rest) ≡ read ∷ up_to_refused rest
 unfolding up_to_refused
-freed-next d read rest r is = rw is refl
+read-on read rest is = rw is refl
 
-pub freed-last : (d : DraftData) (read : RowRead) (rest : List RowRead) (e : Refusal) → read.row ≡ Err e → free_rows d (up_to_refused (read ∷ rest)) ≡ d
+read-last : (read : RowRead) (rest : List RowRead) → is_err read.row ≡ true → up_to_refused (read ∷ rest) ≡ read ∷ []
 unfolding up_to_refused
-freed-last d read rest e is = rw is refl
+read-last read rest is = rw is refl
 
-pub freed-none : (d : DraftData) → free_rows d (up_to_refused []) ≡ d
+read-none : up_to_refused [] ≡ []
 unfolding up_to_refused
-freed-none d = refl
+read-none = refl
+
+-- rows of which the first ones are read, and the row behind them
+module _ (rows all : List RowRead) (i : ℕ) (so_far : all ≡ take i rows ++ up_to_refused (drop i rows)) where
+  module _ (r : RowRead) (within : i < length rows) (is : r ≡ get_or rows i r) where
+    left : drop i rows ≡ r ∷ drop (i + 1) rows
+    left = drop_more rows i r within ∙ ap (λ q. q ∷ drop (i + 1) rows) (sym is)
+
+    taken : take (i + 1) rows ≡ take i rows ++ r ∷ []
+    taken = take_more rows i r within ∙ ap (λ q. take i rows ++ q ∷ []) (sym is)
+
+    pub readable-next : is_err r.row ≡ false → all ≡ take (i + 1) rows ++ up_to_refused (drop (i + 1) rows)
+    readable-next fine =
+        so_far
+        ∙ ap (λ l. take i rows ++ up_to_refused l) left
+        ∙ ap (λ l. take i rows ++ l) (read-on r (drop (i + 1) rows) fine)
+        ∙ sym (append_assoc (take i rows) (r ∷ []) (up_to_refused (drop (i + 1) rows)))
+        ∙ ap (λ l. l ++ up_to_refused (drop (i + 1) rows)) (sym taken)
+
+    pub readable-last : is_err r.row ≡ true → take (i + 1) rows ≡ all
+    readable-last refused =
+        taken
+        ∙ ap (λ l. take i rows ++ l) (sym (read-last r (drop (i + 1) rows) refused))
+        ∙ ap (λ l. take i rows ++ up_to_refused l) (sym left)
+        ∙ sym so_far
+
+  pub readable-end : length rows ≤ i → rows ≡ all
+  readable-end over =
+      sym (append-nil rows)
+      ∙ ap (λ l. l ++ []) (sym (take_all i rows over))
+      ∙ ap (λ l. take i rows ++ l) (sym read-none)
+      ∙ ap (λ l. take i rows ++ up_to_refused l) (sym (drop_all i rows over))
+      ∙ sym so_far
 
 -- ---- the parameters stay
 
-pub tried-params : (replaces : Bool) (d : DraftData) (reads : List RowRead) → (tried replaces d reads).page.params ≡ d.page.params
-tried-params true d reads = all_freed-params (up_to_refused reads) d
-tried-params false d reads = refl
+pub tried-params : (how : Manner) (d : DraftData) (header : Option Header) (reads : List RowRead) → (tried how d header reads).page.params ≡ d.page.params
+tried-params (manner.Replace whole) d header reads = begun-params (whole_of whole header) (up_to_refused reads) d
+tried-params manner.Import d header reads = refl
 
-try_row-keeps : (replaces : Bool) (d : DraftData) (r : Row) → IfOk (try_row replaces d r) (Keeps d)
-try_row-keeps true d r = replace_row-keeps d r
-try_row-keeps false d r = row-keeps d r
+try_row-keeps : (how : Manner) (d : DraftData) (r : Row) → IfOk (try_row how d r) (Keeps d)
+try_row-keeps (manner.Replace whole) d r = replace_row-keeps d r
+try_row-keeps manner.Import d r = row-keeps d r
 
 fate-keeps : (d : DraftData) (line : ℕ) (r : Result DraftData Refusal) → IfOk r (Keeps d) → Keeps d (fate_of d line r).0
 unfolding fate_of
 fate-keeps d line (Ok m) h = h
 fate-keeps d line (Err e) h = refl
 
-module _ (replaces : Bool) (d : DraftData) (read : RowRead) (m : DraftData) (fate : FateRow) (is : read_fate replaces d read ≡ (m, fate)) where
+module _ (how : Manner) (d : DraftData) (read : RowRead) (m : DraftData) (fate : FateRow) (is : read_fate how d read ≡ (m, fate)) where
   pub fate-params : m.page.params ≡ d.page.params
   unfolding read_fate
-  fate-params = sym (ap (λ z. z.0.page.params) is) ∙ fate-keeps d read.line _ (gives_each _ read.row _ (λ r _. try_row-keeps replaces d r))
+  fate-params = sym (ap (λ z. z.0.page.params) is) ∙ fate-keeps d read.line _ (gives_each _ read.row _ (λ r _. try_row-keeps how d r))
 
   -- ---- rows
 
-  pub fates-next : (rest : List RowRead) → fates_of replaces d (read ∷ rest) ≡ fate ∷ fates_of replaces m rest
+  pub fates-next : (rest : List RowRead) → fates_of how d (read ∷ rest) ≡ fate ∷ fates_of how m rest
   unfolding fates_of
-  fates-next rest = ap (λ z. z.1 ∷ fates_of replaces z.0 rest) is
+  fates-next rest = ap (λ z. z.1 ∷ fates_of how z.0 rest) is
 
   -- told behind those before it
-  pub fates-more : (fates new goal : List FateRow) (rest : List RowRead) → fates ++ fates_of replaces d (read ∷ rest) ≡ goal → new ≡ fates ++ fate ∷ [] → new ++ fates_of replaces m rest ≡ goal
+  pub fates-more : (fates new goal : List FateRow) (rest : List RowRead) → fates ++ fates_of how d (read ∷ rest) ≡ goal → new ≡ fates ++ fate ∷ [] → new ++ fates_of how m rest ≡ goal
   fates-more fates new goal rest so_far pushed =
-      ap (λ l. l ++ fates_of replaces m rest) pushed ∙ append_assoc fates _ _ ∙ ap (λ l. fates ++ l) (sym (fates-next rest)) ∙ so_far
+      ap (λ l. l ++ fates_of how m rest) pushed ∙ append_assoc fates _ _ ∙ ap (λ l. fates ++ l) (sym (fates-next rest)) ∙ so_far
 
-pub fates-end : (replaces : Bool) (d : DraftData) (fates goal : List FateRow) → fates ++ fates_of replaces d [] ≡ goal → fates ≡ goal
+pub fates-end : (how : Manner) (d : DraftData) (fates goal : List FateRow) → fates ++ fates_of how d [] ≡ goal → fates ≡ goal
 unfolding fates_of
-fates-end replaces d fates goal e = sym (append-nil fates) ∙ e
+fates-end how d fates goal e = sym (append-nil fates) ∙ e
 
-pub trial-begins : (replaces : Bool) (page : PageData) (reads : List RowRead) (d : DraftData) → d ≡ tried replaces (draft_of page) reads → fates_of replaces d reads ≡ trial replaces page reads
+pub trial-begins : (how : Manner) (page : PageData) (header : Option Header) (reads : List RowRead) (d : DraftData) → d ≡ tried how (draft_of page) header reads → fates_of how d reads ≡ trial how page header reads
 unfolding trial
-trial-begins replaces page reads d is = ap (λ e. fates_of replaces e reads) is
+trial-begins how page header reads d is = ap (λ e. fates_of how e reads) is

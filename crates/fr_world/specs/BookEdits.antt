@@ -10,7 +10,7 @@ use Rattle.fr_base.specs.declared.name.Name.{Name}
 use Rattle.fr_base.specs.declared.request.Change.{Change}
 use Rattle.fr_base.specs.declared.request.Change.TheVariants.{Grant, Revoke}
 use Rattle.fr_world.specs.declared.edit.Edit.{Edit}
-use Rattle.fr_world.specs.declared.edit.Edit.TheVariants.{NewVariant, SetReleased, NewSupplier, SetKey, NewNode, Rows, KeepImport}
+use Rattle.fr_world.specs.declared.edit.Edit.TheVariants.{NewVariant, NewFlat, SetReleased, NewSupplier, SetKey, NewNode, Rows, KeepImport}
 use Rattle.fr_base.specs.declared.answer.VariantRow.{VariantRow}
 
 -- the variant, if it is there; else one that was opened empty
@@ -34,6 +34,7 @@ change_variant b v change = changed_at b v change (get b.variants v)
 -- the book after an edit
 unfoldable pub applied : Book → Edit → Book
 applied b (NewVariant v parent depth) = with_variant b v (record (copied b parent) { parent = parent; depth = depth; released = false })
+applied b (NewFlat v from) = with_variant b v (record (copied b (Some from)) { parent = None; depth = 1; released = false })
 applied b (SetReleased v) = change_variant b v (λ x. record x { released = true })
 applied b (NewSupplier s key) = record b { suppliers = insert b.suppliers s key }
 applied b (SetKey s key) = record b { suppliers = insert b.suppliers s key }

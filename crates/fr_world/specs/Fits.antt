@@ -9,13 +9,16 @@ use Rattle.fr_base.specs.Sound.{IsOpenedFrom}
 use Rattle.fr_base.specs.declared.limits.TheConstants.{MAX_DEPTH}
 use Rattle.fr_base.specs.declared.name.Name.{Name}
 use Rattle.fr_base.specs.declared.params.Params.{Params}
+use Rattle.fr_base.specs.declared.beginning.Beginning.TheVariants.{Flat}
 use Rattle.fr_base.specs.declared.request.Change.{Change}
 use Rattle.fr_base.specs.declared.request.Change.TheVariants as change
+use Rattle.fr_base.specs.declared.request.CommonCommand.{CommonCommand}
+use Rattle.fr_base.specs.declared.request.CommonCommand.TheVariants.{OpenVariant}
 use Rattle.fr_base.specs.declared.request.FrameChange.TheVariants.{Place}
 use Rattle.fr_world.specs.BookEdits.{applied}
 use Rattle.fr_world.specs.Edits.{FitsFrame}
 use Rattle.fr_world.specs.declared.edit.Edit.{Edit}
-use Rattle.fr_world.specs.declared.edit.Edit.TheVariants.{NewVariant, SetReleased, NewSupplier, SetKey, NewNode, Rows, KeepImport}
+use Rattle.fr_world.specs.declared.edit.Edit.TheVariants.{NewVariant, NewFlat, SetReleased, NewSupplier, SetKey, NewNode, Rows, KeepImport}
 
 -- The variant is there, and open.
 pub record IsOpen (b : Book) (v : Name) (x : Variant) : Type 0 where
@@ -40,11 +43,26 @@ FitsVariant nodes s x (change.Grant slot channel node) = IsTrue (contains nodes 
 FitsVariant nodes s x (change.Revoke slot channel) = IsTrue (held_by s (get x.grants (slot, channel)))
 FitsVariant nodes s x (change.Frame f what) = FitsFrame nodes s (get x.frames (s, f)) what
 
+-- Each supplier that has a frame in the variant is there.
+abbrev pub HasKnownSuppliers : Book → Variant → Type 0
+HasKnownSuppliers b x = (k : Name × Name) → IsTrue (contains x.frames k) → IsTrue (contains b.suppliers k.0)
+
+-- What fits of a command by the list of variants alone fits the book: but where a variant is opened
+-- flat, the suppliers that have frames in the other one have to be there, as in a sound book.
+abbrev pub KnowsSuppliers : Book → CommonCommand → Type 0
+KnowsSuppliers b (OpenVariant v (Flat from)) = (x : Variant) → get b.variants from ≡ Some x → HasKnownSuppliers b x
+KnowsSuppliers b _ = ⊤
+
+-- A released variant is there, and the suppliers that have frames in it are.
+abbrev pub IsCopiable : Book → Name → Type 0
+IsCopiable b from = (x : Variant) × (get b.variants from ≡ Some x) × IsTrue x.released × HasKnownSuppliers b x
+
 -- The edit fits the book of a cluster. A variant that changes is open. A new one is opened empty,
--- or from a released one that is one less deep. A placement that is added has the cluster's count
--- of cycles.
+-- or from a released one that is one less deep; or it is a flat one of a released one, whose frames'
+-- suppliers are there. A placement that is added has the cluster's count of cycles.
 abbrev pub Fits : Params → Book → Edit → Type 0
 Fits p b (NewVariant v parent depth) = (get b.variants v ≡ None) × IsOpenedFrom b.variants parent depth × (depth ≤ MAX_DEPTH)
+Fits p b (NewFlat v from) = (get b.variants v ≡ None) × IsCopiable b from
 Fits p b (SetReleased v) = (x : Variant) × IsOpen b v x
 Fits p b (NewSupplier s key) = get b.suppliers s ≡ None
 Fits p b (SetKey s key) = IsTrue (contains b.suppliers s)

@@ -1,7 +1,7 @@
 -- Laws: in a sound book what is decided on a supplier's page is the register's step, of a change and of an import's
 -- rows, and the edits that a page decides lead it to what the change or the rows make of it. They fit the register's
 -- rows. An edit does the same to the book and to the page, and leaves others' pages.
-use Rattle.std.specs.Prelude.{◌≡◌, ◌||◌, ◌++◌, ℕ, Bool, List, [], ◌∷◌, false, Option, Some, None, Ok, IsTrue, IsFalse}
+use Rattle.std.specs.Prelude.{◌≡◌, ◌||◌, ◌++◌, ℕ, List, [], ◌∷◌, false, Option, Some, None, Ok, IsTrue, IsFalse}
 use Rattle.fr_base.specs.Refusing.{◌>>=◌, ◌>>◌, refuse◌when◌}
 use Rattle.fr_base.specs.Tables.{get, contains}
 use Rattle.fr_base.specs.Cluster.{Cluster}
@@ -11,10 +11,11 @@ use Rattle.fr_base.specs.Names.{same_text}
 use Rattle.fr_base.specs.Parameters.{check_params}
 use Rattle.fr_base.specs.Book.{Variant, Kept, Book, file_of}
 use Rattle.fr_base.specs.Sound.{IsSound}
-use Rattle.fr_base.specs.ImportRows.{rows_of_body, all_rows_of_body}
+use Rattle.fr_base.specs.ImportRows.{header_of_body, rows_of_body, all_rows_of_body}
 use Rattle.fr_base.specs.Step.{add_supplier, set_key, add_node, common, change_rows, own_rows, act_rows, import, with_freed, replace_rows, fates_of, tried}
 use Rattle.fr_base.specs.Room.{room_in}
 use Rattle.fr_base.specs.declared.channel.Channel.{Channel}
+use Rattle.fr_base.specs.declared.import.Header.{Header}
 use Rattle.fr_base.specs.declared.import.RowRead.{RowRead}
 use Rattle.fr_base.specs.declared.key.Key.{Key}
 use Rattle.fr_base.specs.declared.name.Name.{Name}
@@ -25,11 +26,12 @@ use Rattle.fr_base.specs.declared.request.Change.TheVariants.{Grant, Revoke, Fra
 use Rattle.fr_base.specs.declared.request.CommonCommand.{CommonCommand}
 use Rattle.fr_base.specs.declared.request.FrameChange.{FrameChange}
 use Rattle.fr_base.specs.declared.request.Import.{Import}
+use Rattle.fr_base.specs.declared.request.Manner.{Manner}
 use Rattle.fr_world.specs.BookEdits.{SparesOthers, applied, all_applied, variants_in}
 use Rattle.fr_world.specs.Common.{common_edit}
 use Rattle.fr_world.specs.Decisions.{IsChecked, decision}
 use Rattle.fr_world.specs.Edits.{IsOf, Leads, all_edited, edited, releases, rows_after}
-use Rattle.fr_world.specs.Fits.{AllFit, Fits, IsUnheld}
+use Rattle.fr_world.specs.Fits.{AllFit, Fits, IsUnheld, KnowsSuppliers}
 use Rattle.fr_world.specs.ImportLabels.{after_label, label_decision}
 use Rattle.fr_world.specs.ImportLimits.{new_import}
 use Rattle.fr_world.specs.ReplacementDecisions.{replacement_decision}
@@ -75,20 +77,20 @@ RowsDecide = (c : Cluster) (b : Book) (s v : Name) (x : Variant) (body : List �
 
 -- In a sound book the rows of a replacement are refused as on the supplier's page, the same row for
 -- the same reason, or make of the book what the page's edits make of it. They act where the frames
--- that they name were freed.
+-- that they name were freed, or all where the file is the whole of a kind.
 abbrev pub ReplacementDecides : Type 0
-ReplacementDecides = (c : Cluster) (b : Book) (s v : Name) (x : Variant) (body : List ℕ) →
+ReplacementDecides = (c : Cluster) (b : Book) (s v : Name) (x : Variant) (whole : Option Header) (body : List ℕ) →
     IsSound c b → get b.variants v ≡ Some x → IsFalse x.released → IsTrue (contains b.suppliers s) →
-    replace_rows c.params (with_freed b s v x (rows_of_body c.params body)) s v (rows_of_body c.params body)
-    ≡ (replacement_decision (page_in c.params b s v x) (rows_of_body c.params body) >>= λ edits. Ok (all_applied b edits))
+    replace_rows c.params (with_freed b s v x whole (rows_of_body c.params body)) s v (rows_of_body c.params body)
+    ≡ (replacement_decision (page_in c.params b s v x) whole (rows_of_body c.params body) >>= λ edits. Ok (all_applied b edits))
 
 -- In a sound book the fate of each row of a supplier's file, in a variant that is there and open,
 -- is the same as on the supplier's page.
 abbrev pub TrialDecides : Type 0
-TrialDecides = (c : Cluster) (b : Book) (s v : Name) (x : Variant) (body : List ℕ) (replaces : Bool) →
+TrialDecides = (c : Cluster) (b : Book) (s v : Name) (x : Variant) (body : List ℕ) (how : Manner) →
     IsSound c b → get b.variants v ≡ Some x → IsFalse x.released → IsTrue (contains b.suppliers s) →
-    fates_of c.params replaces (tried replaces b s v x (rows_of_body c.params body)) s v (all_rows_of_body c.params body)
-    ≡ trial replaces (page_in c.params b s v x) (all_rows_of_body c.params body)
+    fates_of c.params how (tried how b s v x (header_of_body body) (rows_of_body c.params body)) s v (all_rows_of_body c.params body)
+    ≡ trial how (page_in c.params b s v x) (header_of_body body) (all_rows_of_body c.params body)
 
 -- The rows of a file are checked under the parameters that they are read by.
 abbrev pub RowsAreChecked : Type 0
@@ -207,14 +209,15 @@ ImportFits = (c : Cluster) (b : Book) (s v label : Name) (x : Variant) (body : L
 
 -- In a sound book the edits of a replacement's rows in an open variant fit the book.
 abbrev pub ReplacementFits : Type 0
-ReplacementFits = (c : Cluster) (b : Book) (s v : Name) (x : Variant) (reads : List RowRead) (edits : List Edit) →
+ReplacementFits = (c : Cluster) (b : Book) (s v : Name) (x : Variant) (whole : Option Header) (reads : List RowRead) (edits : List Edit) →
     IsSound c b → get b.variants v ≡ Some x → IsFalse x.released → AreChecked c.params reads →
-    replacement_decision (page_in c.params b s v x) reads ≡ Ok edits → AllFit c.params b edits
+    replacement_decision (page_in c.params b s v x) whole reads ≡ Ok edits → AllFit c.params b edits
 
 -- In any book the edit that is decided by the nodes of a supplier that is there fits the book.
 abbrev pub NodeFits : Type 0
 NodeFits = (p : Params) (b : Book) (s n : Name) (edit : Edit) → IsTrue (contains b.suppliers s) → new_node s (nodes_in b s) n ≡ Ok edit → Fits p b edit
 
--- In any book the edit that is decided by the list of variants fits the book.
+-- In any book the edit that is decided by the list of variants fits the book; that of a variant which is opened flat where the suppliers of
+-- the other one's frames are there.
 abbrev pub CommonFits : Type 0
-CommonFits = (p : Params) (b : Book) (command : CommonCommand) (edit : Edit) → common_edit (variants_in b) command ≡ Ok edit → Fits p b edit
+CommonFits = (p : Params) (b : Book) (command : CommonCommand) (edit : Edit) → KnowsSuppliers b command → common_edit (variants_in b) command ≡ Ok edit → Fits p b edit

@@ -1,11 +1,15 @@
 -- Decision on a replacement: the edits that its rows are decided to on a page, or the first refused
--- row. First each frame that a row names is freed, and then the rows act in turn.
-use Rattle.std.specs.Prelude.{◌≡◌, List, [], ◌∷◌, map, Option, Some, Result, Ok, Err, ⊤}
+-- row. First each frame that a row names is freed, or all where the file is whole. Then the rows act
+-- in turn.
+use Rattle.std.specs.Prelude.{◌≡◌, if◌then◌else◌, List, [], ◌∷◌, map, Option, Some, None, Result, Ok, Err, ⊤}
+use Rattle.std.specs.List.{list_any}
 use Rattle.fr_base.specs.Refusing.{◌>>=◌}
 use Rattle.fr_base.specs.Tables.{get}
 use Rattle.fr_base.specs.Book.{Frame}
 use Rattle.fr_base.specs.Queries.{placements_in}
-use Rattle.fr_base.specs.Step.{OwnRows, RefusedAt, at_line, frame_of_row}
+use Rattle.fr_base.specs.Step.{OwnRows, RefusedAt, at_line, frame_of_row, kind_of_row, names_with}
+use Rattle.fr_base.specs.declared.import.Header.{Header}
+use Rattle.fr_base.specs.declared.import.Header.TheVariants.{Frames, Placements, Signals}
 use Rattle.fr_base.specs.declared.import.Row.{Row}
 use Rattle.fr_base.specs.declared.import.Row.TheVariants as row
 use Rattle.fr_base.specs.declared.import.RowRead.{RowRead}
@@ -13,18 +17,27 @@ use Rattle.fr_base.specs.declared.name.Name.{Name}
 use Rattle.fr_base.specs.declared.refusal.Refusal.{Refusal}
 use Rattle.fr_base.specs.declared.request.Change.TheVariants as change
 use Rattle.fr_base.specs.declared.request.FrameChange.{FrameChange}
-use Rattle.fr_base.specs.declared.request.FrameChange.TheVariants.{Unplace, DropSignal}
+use Rattle.fr_base.specs.declared.request.FrameChange.TheVariants.{Drop, Unplace, DropSignal}
 use Rattle.fr_world.specs.Decisions.{IsChecked, admits_alone}
 use Rattle.fr_world.specs.Edits.{rows_after}
 use Rattle.fr_world.specs.Pages.{PageData}
 use Rattle.fr_world.specs.RowDecisions.{DraftData, draft_of, make_frame, make_row, with_change}
 use Rattle.fr_world.specs.declared.edit.Edit.{Edit}
 
--- the changes that free what stands at a row's frame: each of its placements is taken back, or each of its signals dropped
-abbrev pub freeing : Row → Option Frame → List FrameChange
-freeing (row.Place f n q) (Some frame) = map Unplace (placements_in frame)
-freeing (row.AddSignal f signal) (Some frame) = map (λ s. DropSignal s.name) frame.signals
+-- the changes that free what stands at a frame that rows of this kind name: each of its placements is taken back, or each
+-- of its signals dropped
+abbrev pub freeing : Header → Option Frame → List FrameChange
+freeing Placements (Some frame) = map Unplace (placements_in frame)
+freeing Signals (Some frame) = map (λ s. DropSignal s.name) frame.signals
 freeing _ _ = []
+
+-- the changes that clear what stands at a frame where the file is the whole of its kind: it is freed; and below the header of
+-- frames it is dropped, unless a row names it together with the node that it has
+abbrev pub clearing : Header → List RowRead → Name → Option Frame → List FrameChange
+clearing Frames reads f (Some frame) = if list_any (λ read. names_with f frame.node read.row) reads then [] else Drop ∷ []
+clearing Frames reads f None = []
+clearing Placements reads f there = freeing Placements there
+clearing Signals reads f there = freeing Signals there
 
 -- The page admits the changes of the frame, one after another.
 abbrev pub AreAdmitted : OwnRows → Name → List FrameChange → Type 0
@@ -39,13 +52,31 @@ with_changes d f (what ∷ rest) = with_changes (with_change d (change.Frame f w
 
 -- the draft after the frame of a row was freed; a refused row names none
 abbrev pub free_row : DraftData → Result Row Refusal → DraftData
-free_row d (Ok row) = with_changes d (frame_of_row row) (freeing row (get d.page.frames (d.page.supplier, frame_of_row row)))
+free_row d (Ok row) = with_changes d (frame_of_row row) (freeing (kind_of_row row) (get d.page.frames (d.page.supplier, frame_of_row row)))
 free_row d (Err refusal) = d
 
 -- the draft after the frames of all rows were freed
 abbrev pub free_rows : DraftData → List RowRead → DraftData
 free_rows d [] = d
 free_rows d (read ∷ rest) = free_rows (free_row d read.row) rest
+
+-- the draft after the frame of this name was cleared
+abbrev pub clear_frame : DraftData → Header → List RowRead → Name → DraftData
+clear_frame d kind reads f = with_changes d f (clearing kind reads f (get d.page.frames (d.page.supplier, f)))
+
+-- the draft after the frames of these names were cleared
+abbrev pub clear_frames : DraftData → Header → List RowRead → List Name → DraftData
+clear_frames d kind reads [] = d
+clear_frames d kind reads (f ∷ rest) = clear_frames (clear_frame d kind reads f) kind reads rest
+
+-- the draft after all frames were cleared; where no kind is given, none was
+abbrev pub clear_all : DraftData → Option Header → List RowRead → DraftData
+clear_all d None reads = d
+clear_all d (Some kind) reads = clear_frames d kind reads (map (λ row. row.0.1) d.page.frames.rows)
+
+-- the draft on which the rows act
+abbrev pub begun : DraftData → Option Header → List RowRead → DraftData
+begun d whole reads = free_rows (clear_all d whole reads) reads
 
 -- what a row of a replacement does: a row of frames leaves a frame that is there with this node,
 -- and else adds it; the others do what those of an import do
@@ -66,7 +97,7 @@ replace_rows d (read ∷ rest) = do
   replace_rows after rest
 
 -- the edits that lead a page to what the rows of a replacement make of it, or the first refused row
-unfoldable pub replacement_decision : PageData → List RowRead → Result (List Edit) RefusedAt
-replacement_decision rows reads = do
-  last ← replace_rows (free_rows (draft_of rows) reads) reads
+unfoldable pub replacement_decision : PageData → Option Header → List RowRead → Result (List Edit) RefusedAt
+replacement_decision rows whole reads = do
+  last ← replace_rows (begun (draft_of rows) whole reads) reads
   Ok last.edits

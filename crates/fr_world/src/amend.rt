@@ -80,6 +80,7 @@ impl Page {
                 },
             },
             Edit::NewVariant { .. }
+            | Edit::NewFlat { .. }
             | Edit::NewSupplier { .. }
             | Edit::SetKey { .. }
             | Edit::KeepImport { .. } => Ok(()),

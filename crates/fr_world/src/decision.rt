@@ -5,6 +5,7 @@ ghost use Rattle.fr_world.specs.Decisions.{IsChecked, admits_alone, decision};
 ghost use Rattle.fr_world.specs.Edits.{Leads, rows_after};
 ghost use Rattle.fr_world.specs.Pages.{own_rows_of};
 
+mod clearing;
 mod draft;
 mod frames;
 mod freeing;

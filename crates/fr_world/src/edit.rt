@@ -11,6 +11,11 @@ pub enum Edit {
         parent: Option<Name>,
         depth: u32,
     },
+    /// A variant with all rows of another one, without a parent, of depth 1.
+    NewFlat {
+        variant: Name,
+        from: Name,
+    },
     /// The variant is released.
     SetReleased {
         variant: Name,

@@ -53,7 +53,6 @@ pub use laws::{
     rows_are_checked, rows_are_the_registers, rows_decide, rows_fit, rows_lead,
     sound_rows_are_a_page, supplier_decides, trial_decides,
 };
-pub use loads::page_load;
 pub use mask_occupancy::MaskOccupancy;
 pub use nodes::decide_node;
 pub use occupancy::{Occupancy, TakenCell};

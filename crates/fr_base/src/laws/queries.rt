@@ -1,5 +1,5 @@
 //! A query changes nothing, and is answered as the book has its variants.
-ghost use Rattle.fr_base.specs.QueryLaws.{DifferenceIsTold, InventoryIsTold, LoadIsTold, QueryChangesNothing};
+ghost use Rattle.fr_base.specs.QueryLaws.{DifferenceIsOfRows, DifferenceIsTold, InventoryIsTold, LoadIsTold, QueryChangesNothing, RowsAreTold};
 
 /// A query changes nothing, whoever asks it.
 pub fn query_changes_nothing()
@@ -20,4 +20,15 @@ pub fn difference_is_told()
 /// that it is not there.
 pub fn load_is_told()
     ensures { LoadIsTold }
+{}
+
+/// Who is known, and asks for the rows of a variant, is told those that it sees there, or that it is not there.
+pub fn rows_are_told()
+    ensures { RowsAreTold }
+{}
+
+/// Who is told the rows of two variants is told in what they differ: gone are just the rows that only the older one has,
+/// and new just those that only the newer one has.
+pub fn difference_is_of_rows()
+    ensures { DifferenceIsOfRows }
 {}

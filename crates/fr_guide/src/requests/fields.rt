@@ -1,4 +1,4 @@
-//! Which fields of a request are missing, unknown, or of another kind.
+//! Which fields of a request are missing, unknown, of another kind, or given alone.
 ghost use Rattle.std.specs.Prelude.{◌≡◌, IfOk};
 ghost use Rattle.fr_guide.specs.Faults.{are_none};
 
@@ -49,7 +49,25 @@ fn field_fault(alloc: Global, form: &Form, fault: &FieldFault<'_>) -> Result<Str
             format!(in alloc; "field \"{name}\" of {request} is missing")
         }
         FieldFault::OtherKind(field, value) => other_kind(alloc, field, value),
+        FieldFault::Alone(field, other, value) => alone(alloc, form, field, other, *value),
     }
+}
+
+// The fault of a field that is given without the other one, which is missing, null or false.
+fn alone(
+    alloc: Global,
+    form: &Form,
+    field: &Field,
+    other: &str,
+    value: Option<&Value>,
+) -> Result<String, NoMemory> {
+    let (name, request) = (field.name, form.word);
+    let state = match value {
+        None => "is missing",
+        Some(Value::Null) => "is null",
+        Some(_) => "is false",
+    };
+    format!(in alloc; "field \"{name}\" of {request} needs field \"{other}\", which {state}")
 }
 
 // The fault of a field that the request does not have.

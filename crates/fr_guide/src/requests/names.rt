@@ -5,7 +5,7 @@ ghost use Rattle.fr_guide.specs.Requests.{formed_in, has_form, have_forms, names
 
 use crate::form::Form;
 use crate::shown::shown;
-use fr_base::{Key, Name, NoMemory, Query, Report, Request, Text};
+use fr_base::{Beginning, Key, Name, NoMemory, Query, Report, Request, Text};
 use std::alloc::Global;
 
 /// A text of a request that must have a form, and its field.
@@ -22,11 +22,13 @@ pub fn name_faults(alloc: Global, request: &Request) -> Result<Vec<String>, NoMe
     ensures { IfOk result (λ faults. are_none faults.items ≡ have_forms (formed_in request.now)) }
 {
     match request {
-        Request::OpenVariant { variant, parent } => {
+        Request::OpenVariant { variant, beginning } => {
             let variant = name("variant", variant);
-            match parent {
-                Some(parent) => faults(alloc, &[variant, name("from", parent)]),
-                None => faults(alloc, &[variant]),
+            match beginning {
+                Beginning::Empty => faults(alloc, &[variant]),
+                Beginning::From(from) | Beginning::Flat(from) => {
+                    faults(alloc, &[variant, name("from", from)])
+                }
             }
         }
         Request::Release { variant } => faults(alloc, &[name("variant", variant)]),
@@ -122,10 +124,14 @@ pub fn name_faults(alloc: Global, request: &Request) -> Result<Vec<String>, NoMe
             label,
             body: _,
         } => faults(alloc, &[name("variant", variant), name("label", label)]),
-        Request::Replace { variant, body: _ }
+        Request::Replace {
+            variant,
+            whole: _,
+            body: _,
+        }
         | Request::Try {
             variant,
-            replaces: _,
+            manner: _,
             body: _,
         } => faults(alloc, &[name("variant", variant)]),
         Request::Query(query) => query_faults(alloc, query),

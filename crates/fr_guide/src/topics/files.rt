@@ -44,7 +44,7 @@ const NOT_A_REGISTER: Topic = Topic {
     about: "a fault of the commands on DB. The file is no register.",
     help: "\
 There is no file DB, or it is no SQLite database, has no table `register` or no row in it, or has a row that breaks a
-rule of its table.
+rule of its table. `slotplan check --register DB` tells which.
 Look at the path. `slotplan create` makes a register file.
 A file that was damaged is no register either: put a backup in its place.
 ",

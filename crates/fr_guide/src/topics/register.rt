@@ -19,6 +19,6 @@ Another program has the file; you may not write it or its folder, as a report ne
 DB is a folder or pipe, or has a second hard link, as by `cp -al`; its log is a link; a `-journal` lies beside it;
 for `create` it is no database or has another table; for `serve` other files stand there; the rows make no register.
 As a refusal: no memory, the file failed, or a row is not of its form. Nothing changed, but a failed disk may keep it.
-End the other program, see to path, permissions, memory and disk, and ask for a report before you send a command again.
+`slotplan check --register DB` tells which. See to that, to memory and disk, and ask for a report before you send again.
 ",
 };

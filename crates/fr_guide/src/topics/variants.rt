@@ -46,8 +46,9 @@ const TOO_DEEP: Topic = Topic {
     word: "TooDeep",
     about: "refusal 13. The parent has depth 16, which is the most.",
     help: "\
-It comes for `open_variant`. A variant that was opened empty has depth 1.
-A variant that was opened from another is one deeper than that one.
-Open the variant from one of less depth, or open it empty.
+It comes for `open_variant`. A variant that was opened empty or flat has depth 1.
+One that has a parent is one deeper than that.
+Open the variant flat, by the field `flat`: it has all rows then, and no parent.
+Or open it from one of less depth, or empty.
 ",
 };

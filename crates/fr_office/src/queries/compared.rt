@@ -1,11 +1,13 @@
-//! The rows of a page that a difference compares: for each kind of row a list, by frame.
-ghost use Rattle.std.specs.Prelude.{◌≡◌, ◌++◌, IfOk, OnOk};
+//! The rows of frames that a difference compares, and a report tells: for each kind of row a list, by frame.
+ghost use Rattle.std.specs.Prelude.{◌≡◌, [], ◌++◌, map, IfOk, OnOk};
 ghost use Rattle.std.specs.List.{flat_map};
-ghost use Rattle.fr_office.specs.Compared.{compared_rows};
+ghost use Rattle.fr_office.specs.Compared.{compared_rows, frame_told, gap_told, grant_told, placement_told, signal_told, with_more};
 ghost use Rattle.fr_world.specs.Pages.{own_rows_of};
 
 use crate::queries::gaps::push_gaps;
-use fr_base::{FrameRecord, GapRow, NoMemory, PlacementRecord, Rows, SignalRecord};
+use fr_base::{
+    FrameRecord, GapRow, GrantRow, NoMemory, PlacementRecord, Rows, SeenRow, SignalRecord,
+};
 use fr_world::{FileRecord, KeyedRow, Page};
 use std::alloc::Global;
 
@@ -80,17 +82,17 @@ fn push_records<T: FileRecord + Drop>(page: &Page, rows: &mut Rows<T>) -> Result
     Ok(())
 }
 
-// The rows of a kind of the page's frames, in order.
-fn page_rows<T: ComparedRow + Drop>(alloc: Global, page: &Page) -> Result<Rows<T>, NoMemory>
-    ensures { IfOk result (λ rows.
-        rows ≡ flat_map (T.compared page.now.params) (own_rows_of page.now).frames.rows) }
+// Appends these rows as rows of a variant. Where memory is refused, some of them may have been appended.
+fn push_seen<T: KeyedRow>(kind: &[T], rows: &mut Rows<SeenRow>) -> Result<(), NoMemory>
+    ensures { OnOk result (rows.new ≡ rows.old ++ map T.told kind.now) }
 {
-    let mut rows = Rows::new(alloc);
-    T::push_page(page, &mut rows)?;
-    Ok(rows)
+    for row in kind {
+        rows.push(row.seen())?;
+    }
+    Ok(())
 }
 
-/// The rows of a page's frames that a difference compares: of each kind a list, in order.
+/// The rows of frames: of each kind a list, in order.
 #[derive(Drop)]
 pub(crate) struct ComparedRows {
     /// The frames.
@@ -104,16 +106,54 @@ pub(crate) struct ComparedRows {
 }
 
 impl ComparedRows {
+    /// No row.
+    pub(crate) fn new(alloc: Global) -> ComparedRows
+        ensures { result ≡ record { frames = []; placements = []; signals = []; gaps = [] } }
+    {
+        ComparedRows {
+            frames: Rows::new(alloc),
+            placements: Rows::new(alloc),
+            signals: Rows::new(alloc),
+            gaps: Rows::new(alloc),
+        }
+    }
+
     /// The rows of this page.
     pub(crate) fn of_page(alloc: Global, page: &Page) -> Result<ComparedRows, NoMemory>
         ensures { IfOk result (λ rows.
             rows ≡ compared_rows page.now.params (own_rows_of page.now).frames) }
     {
-        Ok(ComparedRows {
-            frames: page_rows(alloc, page)?,
-            placements: page_rows(alloc, page)?,
-            signals: page_rows(alloc, page)?,
-            gaps: page_rows(alloc, page)?,
-        })
+        let mut rows = ComparedRows::new(alloc);
+        rows.push_page(page)?;
+        Ok(rows)
+    }
+
+    /// Appends the rows of the page. Where memory is refused, some of them may have been appended.
+    pub(crate) fn push_page(&mut self, page: &Page) -> Result<(), NoMemory>
+        ensures { OnOk result (self.new ≡ with_more self.old
+            (compared_rows page.now.params (own_rows_of page.now).frames)) }
+    {
+        FrameRecord::push_page(page, &mut self.frames)?;
+        PlacementRecord::push_page(page, &mut self.placements)?;
+        SignalRecord::push_page(page, &mut self.signals)?;
+        GapRow::push_page(page, &mut self.gaps)
+    }
+
+    /// Appends these rows as rows of a variant, kind after kind, behind these grants. Where memory is refused, some of them
+    /// may have been appended.
+    pub(crate) fn push_seen(
+        &self,
+        grants: &[GrantRow],
+        rows: &mut Rows<SeenRow>,
+    ) -> Result<(), NoMemory>
+        ensures { OnOk result (rows.new ≡ rows.old ++ map grant_told grants.now
+            ++ map frame_told self.now.frames ++ map placement_told self.now.placements
+            ++ map signal_told self.now.signals ++ map gap_told self.now.gaps) }
+    {
+        push_seen(grants, rows)?;
+        push_seen(self.frames.as_slice(), rows)?;
+        push_seen(self.placements.as_slice(), rows)?;
+        push_seen(self.signals.as_slice(), rows)?;
+        push_seen(self.gaps.as_slice(), rows)
     }
 }

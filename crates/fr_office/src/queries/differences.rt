@@ -15,7 +15,7 @@ use crate::queries::compared::ComparedRows;
 use crate::queries::find_page;
 use crate::queries::frame_differences::FrameDifferences;
 use crate::queries::grants::{add_grants, grant_rows};
-use crate::queries::suppliers::supplier_names;
+use crate::queries::suppliers::seen_suppliers;
 use fr_base::{Actor, DifferenceRow, LaneHolder, Name, NoMemory, Refusal, ReportRows, Rows};
 use fr_world::{ChannelSlot, push_differences};
 use std::alloc::Global;
@@ -55,13 +55,8 @@ fn gather_seen<R: Lender>(
     ensures { OnlyReads R.Records (SeesDifferences actor.now variant from)
         records.old records.new result }
 {
-    match actor {
-        Actor::Supplier(supplier) => gather(alloc, records, &[*supplier], variant, from),
-        Actor::Integrator => {
-            let suppliers = supplier_names(alloc, records.config())?;
-            gather(alloc, records, &suppliers, variant, from)
-        }
-    }
+    let suppliers = seen_suppliers(alloc, records, actor)?;
+    gather(alloc, records, &suppliers, variant, from)
 }
 
 // The rows of these suppliers in which the variants differ, by kind, then key. Each page is lent once.

@@ -1,7 +1,7 @@
 //! The records of a part of an export.
 #![tactic(auto, using(fr_world::proofs::ReadLaws::reads_none, fr_world::proofs::ReadLaws::reads_then))]
 
-ghost use Rattle.std.specs.Prelude.{◌≡◌, ◌++◌, List, map, IfOk, OnOk};
+ghost use Rattle.std.specs.Prelude.{◌≡◌, ◌++◌, List, map, OnOk};
 ghost use Rattle.std.specs.List.{flat_map};
 ghost use Rattle.fr_base.specs.Book.{own};
 ghost use Rattle.fr_base.specs.Exports.{exported, part_of};
@@ -15,23 +15,6 @@ use crate::queries::find_page;
 use fr_base::{Header, Name, NoMemory, Refusal, ReportRows, Rows};
 use fr_world::{FileRecord, Page, Part};
 use std::alloc::Global;
-
-/// The page's records below the header: the part of this number.
-pub(crate) fn page_export(
-    alloc: Global,
-    page: &Page,
-    header: Header,
-    number: u32,
-) -> Result<ReportRows, NoMemory>
-    ensures { IfOk result (λ rows.
-        rows ≡ exported header number (own_rows_of page.now).frames.rows) }
-{
-    match header {
-        Header::Frames => Ok(ReportRows::FrameRecords(page_part(alloc, page, number)?)),
-        Header::Placements => Ok(ReportRows::PlacementRecords(page_part(alloc, page, number)?)),
-        Header::Signals => Ok(ReportRows::SignalRecords(page_part(alloc, page, number)?)),
-    }
-}
 
 /// The records below the header of these suppliers' frames in the variant, supplier after supplier:
 /// the part of this number.
@@ -62,21 +45,6 @@ pub(crate) fn gather_export<R: Lender>(
             Ok(ReportRows::SignalRecords(rows))
         }
     }
-}
-
-// The page's records of a kind: the part of this number.
-fn page_part<T: FileRecord + Drop>(
-    alloc: Global,
-    page: &Page,
-    number: u32,
-) -> Result<Rows<T>, NoMemory>
-    ensures { IfOk result (λ rows.
-        rows ≡ part_of number (map T.records (own_rows_of page.now).frames.rows)) }
-{
-    let mut part = Part::new(number);
-    let mut rows = Rows::new(alloc);
-    push_part(page, &mut part, &mut rows)?;
-    Ok(rows)
 }
 
 // The records of a kind of these suppliers' frames in the variant: the part of this number.

@@ -16,23 +16,6 @@ use fr_world::{ChannelSlot, Page};
 use std::alloc::Global;
 use std::collections::BTreeMap;
 
-/// Which of the supplier's nodes holds which slot and channel, by slot and channel.
-pub(crate) fn page_grants(alloc: Global, page: &Page) -> Result<Rows<GrantRow>, NoMemory>
-    ensures { IfOk result (λ rows. rows ≡ grants_of (own_rows_of page.now).grants) }
-{
-    let supplier = page.supplier();
-    let mut rows = Rows::new(alloc);
-    for (at, node) in page.grants().iter() {
-        rows.push(GrantRow {
-            slot: at.slot,
-            channel: at.channel,
-            node: *node,
-            supplier,
-        })?;
-    }
-    Ok(rows)
-}
-
 /// Which of these suppliers holds which slot and channel in the variant, by slot and channel.
 pub(crate) fn gather_grants<R: Lender>(
     alloc: Global,

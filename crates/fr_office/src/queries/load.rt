@@ -1,16 +1,16 @@
 //! How full lanes are, as a query shows it.
 #![tactic(auto, using(fr_world::proofs::ReadLaws::reads_none, fr_world::proofs::ReadLaws::reads_then))]
 
-ghost use Rattle.std.specs.Prelude.{◌≡◌};
+ghost use Rattle.std.specs.Prelude.{◌≡◌, filter, is_some, IfOk};
 ghost use Rattle.fr_office.specs.Carried.{OnlyReads};
 ghost use Rattle.fr_office.specs.Shared.{grants_among, placements_among};
-ghost use Rattle.fr_office.specs.Shown.{Gathers};
+ghost use Rattle.fr_office.specs.Shown.{Gathers, lanes_told};
 ghost use Rattle.fr_world.specs.Loads.{filled_load};
 
 use crate::lender::Lender;
 use crate::queries::find_page;
 use crate::queries::grants::add_grants;
-use fr_base::{LoadRow, Name, Params, Refusal, Rows};
+use fr_base::{Actor, LoadRow, Name, NoMemory, Params, Refusal, Rows};
 use fr_world::Triggerings;
 use std::alloc::Global;
 use std::collections::BTreeMap;
@@ -39,4 +39,30 @@ pub(crate) fn gather_load<R: Lender>(
         triggerings.push_page(page)?;
     }
     Ok(triggerings.load(alloc, params, &held)?)
+}
+
+/// Of these lanes those that the actor sees: a supplier those that are held, the integrator all.
+pub(crate) fn seen_lanes(
+    alloc: Global,
+    lanes: Rows<LoadRow>,
+    actor: &Actor,
+) -> Result<Rows<LoadRow>, NoMemory>
+    ensures { IfOk result (λ rows. rows ≡ lanes_told actor.now lanes) }
+{
+    match actor {
+        Actor::Integrator => Ok(lanes),
+        Actor::Supplier(_) => held_lanes(alloc, lanes.as_slice()),
+    }
+}
+
+// The lanes that are held.
+fn held_lanes(alloc: Global, lanes: &[LoadRow]) -> Result<Rows<LoadRow>, NoMemory>
+    ensures { IfOk result (λ rows. rows ≡ filter (λ lane. is_some lane.holder) lanes.now) }
+{
+    let held: Vec<LoadRow> = lanes
+        .iter()
+        .copied()
+        .filter(|lane| lane.holder.is_some())
+        .collect(alloc)?;
+    Ok(Rows::from(held))
 }

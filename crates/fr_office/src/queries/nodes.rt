@@ -10,7 +10,7 @@ ghost use Rattle.fr_office.specs.Carried.{OnlyReads};
 ghost use Rattle.fr_office.specs.Shown.{node_of, Sees};
 ghost use Rattle.fr_world.specs.Held.{Tells};
 
-use crate::queries::suppliers::supplier_names;
+use crate::queries::suppliers::seen_suppliers;
 use fr_base::{Actor, Name, NoMemory, NodeRow, Refusal, Rows};
 use fr_world::Records;
 use std::alloc::Global;
@@ -25,13 +25,8 @@ pub(crate) fn node_rows<R: Records>(
         (Sees (λ c b rows. rows ≡ nodes_of (seen_nodes actor.now b.nodes)))
         records.old records.new result }
 {
-    match actor {
-        Actor::Supplier(supplier) => gather_nodes(alloc, records, &[*supplier]),
-        Actor::Integrator => {
-            let suppliers = supplier_names(alloc, records.config())?;
-            gather_nodes(alloc, records, &suppliers)
-        }
-    }
+    let suppliers = seen_suppliers(alloc, records, actor)?;
+    gather_nodes(alloc, records, &suppliers)
 }
 
 // The nodes of these suppliers, supplier after supplier.

@@ -1,30 +1,18 @@
 //! The schedule that a query shows.
 #![tactic(auto, using(fr_world::proofs::ReadLaws::reads_none, fr_world::proofs::ReadLaws::reads_then))]
 
-ghost use Rattle.std.specs.Prelude.{◌≡◌, IfOk};
+ghost use Rattle.std.specs.Prelude.{◌≡◌};
 ghost use Rattle.fr_base.specs.Cells.{cluster_cells};
 ghost use Rattle.fr_office.specs.Carried.{OnlyReads};
 ghost use Rattle.fr_office.specs.Shared.{placements_among};
 ghost use Rattle.fr_office.specs.Shown.{Gathers};
-ghost use Rattle.fr_base.specs.Queries.{sendings_of};
-ghost use Rattle.fr_world.specs.Pages.{own_rows_of};
 ghost use Rattle.fr_world.specs.Sendings.{sent_in};
 
 use crate::lender::Lender;
 use crate::queries::find_page;
-use fr_base::{Name, NoMemory, Params, Refusal, Rows, Sending};
-use fr_world::{Page, Triggerings};
+use fr_base::{Name, Params, Refusal, Rows, Sending};
+use fr_world::Triggerings;
 use std::alloc::Global;
-
-/// Which of the page's frames is sent in which cycle, slot and channel: by cycle, slot and channel.
-pub(crate) fn page_schedule(alloc: Global, page: &Page) -> Result<Rows<Sending>, NoMemory>
-    ensures { IfOk result (λ rows.
-        rows ≡ sendings_of page.now.params (own_rows_of page.now).frames) }
-{
-    let mut triggerings = Triggerings::new(alloc);
-    triggerings.push_page(page)?;
-    triggerings.schedule(alloc, &page.params())
-}
 
 /// Which of these suppliers' frames is sent in which cycle, slot and channel of the cluster in the
 /// variant: by cycle, slot and channel. Where several frames have a cell, the first one is sent.

@@ -7,6 +7,7 @@ ghost use Rattle.fr_store.specs.Joined.{after_edit};
 ghost use Rattle.fr_store.specs.Sparing.{SparesFrames, changes_frame};
 
 use crate::applying::done;
+use crate::applying::flat::open_flat;
 use crate::applying::frames::{add_signal, drop_frame, drop_signal, place, unplace};
 use crate::applying::joining::{add_supplier, set_key};
 use crate::fault::StoreFault;
@@ -36,6 +37,7 @@ pub fn carry_out<S: Alter>(
             parent,
             depth,
         } => stays(open_variant(tx, variant, *parent, *depth)),
+        Edit::NewFlat { variant, from } => stays(open_flat(tx, alloc, variant, from)),
         Edit::SetReleased { variant } => stays(done(variants::release(tx, variant))),
         Edit::NewSupplier { supplier, key } => add_supplier(tx, alloc, config, supplier, key),
         Edit::SetKey { supplier, key } => set_key(tx, alloc, config, supplier, key),

@@ -1,6 +1,6 @@
 //! Where a variant comes from: its parent, and whether it is laid over that. Read in a transaction.
 
-ghost use Rattle.std.specs.Prelude.{◌≡◌, IfSome};
+ghost use Rattle.std.specs.Prelude.{◌≡◌, None, IfSome, if◌then◌else◌};
 ghost use Rattle.sqlite.specs.Order.{column};
 ghost use Rattle.sqlite.specs.declared.types.Value.TheVariants.{Int};
 ghost use Rattle.fr_store.specs.Owning.{TellsOrigin};
@@ -20,6 +20,15 @@ use sqlite::{Alter, Row, Transaction};
 pub struct Origin {
     pub parent: Option<Name>,
     pub overlay: bool,
+}
+
+impl Origin {
+    /// The parent over which the variant is laid, if it is laid over one.
+    pub fn laid_over(&self) -> Option<Name>
+        ensures { result ≡ if self.now.overlay then self.now.parent else None }
+    {
+        if self.overlay { self.parent } else { None }
+    }
 }
 
 // What the row says. None where it has not the form.

@@ -16,7 +16,7 @@ use fr_tables::tables;
 use sqlite::{Alter, Error, Transaction};
 
 /// Whether the frame is the variant's own.
-fn is_own<S: Alter>(tx: &mut Transaction<'_, S>, key: &FrameKey) -> Result<bool, StoreFault>
+pub fn is_own<S: Alter>(tx: &mut Transaction<'_, S>, key: &FrameKey) -> Result<bool, StoreFault>
     ensures { Tries S.Store (Reads (λ t is. is ≡ is_own key.now t)) tx.old tx.new result }
 {
     let rows = tables::frames::one_inside(tx, key)?;
@@ -25,7 +25,7 @@ fn is_own<S: Alter>(tx: &mut Transaction<'_, S>, key: &FrameKey) -> Result<bool,
 
 /// The first variant that has the frame as its own, from this one on, parent after parent.
 /// `Unavailable` where none has it within the depth that a variant may have.
-fn owner<S: Alter>(tx: &mut Transaction<'_, S>, key: &FrameKey) -> Result<Name, StoreFault>
+pub fn owner<S: Alter>(tx: &mut Transaction<'_, S>, key: &FrameKey) -> Result<Name, StoreFault>
     ensures { Tries S.Store (FindsOwner key.now) tx.old tx.new result }
 {
     let mut above = key.variant;
@@ -45,7 +45,7 @@ fn owner<S: Alter>(tx: &mut Transaction<'_, S>, key: &FrameKey) -> Result<Name, 
 }
 
 /// Copies all rows of the frame in another variant into this one.
-fn copy_frame<S: Alter>(
+pub fn copy_frame<S: Alter>(
     tx: &mut Transaction<'_, S>,
     from: &Name,
     to: &FrameKey,

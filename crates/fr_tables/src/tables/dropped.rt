@@ -7,6 +7,10 @@ use crate::frame_key::FrameKey;
 use fr_base::Name;
 use sqlite::{Alter, Connection, Error, Row, Transaction, params};
 
+// Asks for the names of the supplier's frames that the variant has not, in byte order.
+const OF_SUPPLIER: &str =
+    "SELECT frame FROM dropped WHERE variant = ?1 AND supplier = ?2 ORDER BY frame";
+
 /// Notes that the variant has not its parent's frame of this name. Nothing changes where that is
 /// noted already.
 pub fn insert<S: Alter>(tx: &mut Transaction<'_, S>, key: &FrameKey) -> Result<usize, Error>
@@ -31,8 +35,18 @@ pub fn of_supplier<S: Alter>(
     ensures { Asks S.Store (Finds shows_dropped (is_dropped_by variant.now supplier.now) dropped_cmp
         (λ t. t.dropped)) conn.old conn.new result }
 {
-    conn.query_all(
-        "SELECT frame FROM dropped WHERE variant = ?1 AND supplier = ?2 ORDER BY frame",
-        params![variant.as_str(), supplier.as_str()],
-    )
+    conn.query_all(OF_SUPPLIER, params![variant.as_str(), supplier.as_str()])
+}
+
+/// The names of the supplier's frames that the variant has not, in byte order, read inside a
+/// transaction.
+pub fn of_supplier_inside<S: Alter>(
+    tx: &mut Transaction<'_, S>,
+    variant: &Name,
+    supplier: &Name,
+) -> Result<Vec<Row>, Error>
+    ensures { Runs S.Store (Finds shows_dropped (is_dropped_by variant.now supplier.now) dropped_cmp
+        (λ t. t.dropped)) tx.old tx.new result }
+{
+    tx.query_all(OF_SUPPLIER, params![variant.as_str(), supplier.as_str()])
 }

@@ -7,6 +7,10 @@ use crate::frame_key::FrameKey;
 use fr_base::Name;
 use sqlite::{Alter, Connection, Error, Row, Transaction, params};
 
+// Asks for the supplier's frames in the variant: name and node, by name.
+const OF_SUPPLIER: &str =
+    "SELECT name, node FROM frames WHERE variant = ?1 AND supplier = ?2 ORDER BY name";
+
 /// Adds a frame.
 pub fn insert<S: Alter>(
     tx: &mut Transaction<'_, S>,
@@ -70,10 +74,7 @@ pub fn of_supplier<S: Alter>(
     ensures { Asks S.Store (Finds shows_frame (is_frame_of variant.now supplier.now) frames_cmp
         (λ t. t.frames)) conn.old conn.new result }
 {
-    conn.query_all(
-        "SELECT name, node FROM frames WHERE variant = ?1 AND supplier = ?2 ORDER BY name",
-        params![variant.as_str(), supplier.as_str()],
-    )
+    conn.query_all(OF_SUPPLIER, params![variant.as_str(), supplier.as_str()])
 }
 
 /// The frame, read inside a transaction: name and node.
@@ -89,4 +90,16 @@ pub fn one_inside<S: Alter>(tx: &mut Transaction<'_, S>, key: &FrameKey) -> Resu
             key.frame.as_str()
         ],
     )
+}
+
+/// The supplier's frames in the variant, read inside a transaction: name and node, by name.
+pub fn of_supplier_inside<S: Alter>(
+    tx: &mut Transaction<'_, S>,
+    variant: &Name,
+    supplier: &Name,
+) -> Result<Vec<Row>, Error>
+    ensures { Runs S.Store (Finds shows_frame (is_frame_of variant.now supplier.now) frames_cmp
+        (λ t. t.frames)) tx.old tx.new result }
+{
+    tx.query_all(OF_SUPPLIER, params![variant.as_str(), supplier.as_str()])
 }

@@ -1,4 +1,4 @@
-//! The lines of a difference: each row of a variant that is gone, or new.
+//! The lines of a variant's rows, and of a difference: each row that is gone, or new.
 ghost use Rattle.std.specs.Prelude.{◌≡◌, [], ◌∷◌, ◌++◌, codes, OnOk, OnErr};
 ghost use Rattle.fr_base.specs.Channels.{text_of_channels};
 ghost use Rattle.fr_base.specs.declared.answer.SeenRow.TheVariants as seen;
@@ -23,26 +23,28 @@ impl Row for DifferenceRow {
         } else {
             push("- ", out)?;
         }
-        push_seen(&self.row, all, out)
+        self.row.push(all, "", out)
     }
 }
 
-// Appends the row.
-#[tactic(auto, using(crate::proofs::WordsLemmas::extending), unfolding(crate::specs::Report::seen_line, crate::specs::Styles::joined))]
-fn push_seen(row: &SeenRow, all: bool, out: &mut Vec<u8>) -> Result<(), NoMemory>
-    ensures ok { OnOk result (out.new.items ≡ out.old.items ++ seen_line all row.now) }
-    ensures err { OnErr result (Extends out.old.items out.new.items) }
-{
-    match row {
-        SeenRow::Grant(grant) => push_grant(grant, all, out),
-        SeenRow::Frame(frame) => push_frame(frame, all, out),
-        SeenRow::Placement {
-            frame,
-            placement,
-            supplier,
-        } => push_placement(frame, placement, supplier, all, out),
-        SeenRow::Signal(signal) => push_signal(signal, all, out),
-        SeenRow::Gap(gap) => gap.push(all, "", out),
+impl Row for SeenRow {
+    ghost first = { seen_line };
+
+    ghost others = { λ _ _. [] };
+
+    #[tactic(auto, using(crate::proofs::WordsLemmas::extending), unfolding(crate::specs::Report::seen_line, crate::specs::Styles::joined))]
+    fn push(&self, all: bool, _mark: &str, out: &mut Vec<u8>) -> Result<(), NoMemory> {
+        match self {
+            SeenRow::Grant(grant) => push_grant(grant, all, out),
+            SeenRow::Frame(frame) => push_frame(frame, all, out),
+            SeenRow::Placement {
+                frame,
+                placement,
+                supplier,
+            } => push_placement(frame, placement, supplier, all, out),
+            SeenRow::Signal(signal) => push_signal(signal, all, out),
+            SeenRow::Gap(gap) => gap.push(all, "", out),
+        }
     }
 }
 

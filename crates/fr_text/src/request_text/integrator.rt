@@ -1,10 +1,10 @@
 //! The requests that the integrator alone gives, made of the values of their fields.
-ghost use Rattle.std.specs.Prelude.{◌≡◌, IfOk};
-ghost use Rattle.fr_text.specs.Fields.{fields_in};
-ghost use Rattle.fr_text.specs.RequestText.{integrators, picked};
+ghost use Rattle.std.specs.Prelude.{◌≡◌, IfOk, codes};
+ghost use Rattle.fr_text.specs.Fields.{fields_in, flag, text_or_null};
+ghost use Rattle.fr_text.specs.RequestText.{beginning, integrators, picked};
 
-use crate::fields::{Fields, copy_text, copy_text_or_null, number_in};
-use fr_base::{NoMemory, Request};
+use crate::fields::{Fields, copy_text, copy_text_or_null, flag_in, number_in};
+use fr_base::{Beginning, NoMemory, Request, Text};
 use std::alloc::Global;
 
 /// The request of this word, if it is one of these.
@@ -15,7 +15,7 @@ pub(super) fn pick(alloc: Global, word: &str, fields: &Fields) -> Result<Option<
     match word {
         "open_variant" => Ok(Some(Request::OpenVariant {
             variant: copy_text(alloc, fields, "variant")?,
-            parent: copy_text_or_null(alloc, fields, "from")?,
+            beginning: beginning(alloc, fields)?,
         })),
         "release" => Ok(Some(Request::Release {
             variant: copy_text(alloc, fields, "variant")?,
@@ -46,5 +46,20 @@ pub(super) fn pick(alloc: Global, word: &str, fields: &Fields) -> Result<Option<
             supplier: copy_text(alloc, fields, "supplier")?,
         })),
         _ => Ok(None),
+    }
+}
+
+// What a new variant begins with.
+fn beginning(alloc: Global, fields: &Fields) -> Result<Beginning<Text>, NoMemory>
+    ensures { let fields = fields_in fields.now in IfOk result (λ begins. begins
+        ≡ beginning (text_or_null fields (codes "from")) (flag fields (codes "flat"))) }
+{
+    let Some(from) = copy_text_or_null(alloc, fields, "from")? else {
+        return Ok(Beginning::Empty);
+    };
+    if flag_in(fields, "flat") {
+        Ok(Beginning::Flat(from))
+    } else {
+        Ok(Beginning::From(from))
     }
 }

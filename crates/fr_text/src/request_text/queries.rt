@@ -28,6 +28,7 @@ pub(super) fn pick(alloc: Global, word: &str, fields: &Fields) -> Result<Option<
         "schedule" => of_variant(alloc, fields, Report::Schedule),
         "gaps" => of_variant(alloc, fields, Report::Gaps),
         "load" => of_variant(alloc, fields, Report::Load),
+        "rows" => of_variant(alloc, fields, Report::Rows),
         "layout" => {
             let frame = copy_text(alloc, fields, "frame")?;
             of_variant(alloc, fields, Report::Layout { frame })

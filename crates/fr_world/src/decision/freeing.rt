@@ -1,14 +1,14 @@
-//! The changes that free the frame of a replacement's row.
+//! The changes that free a frame, which rows of a replacement name.
 ghost use Rattle.std.specs.Prelude.{◌≡◌, map, IfOk};
 ghost use Rattle.fr_base.specs.Queries.{placements_in};
-ghost use Rattle.fr_base.specs.Step.{frame_of_row};
+ghost use Rattle.fr_base.specs.Step.{frame_of_row, kind_of_row};
 ghost use Rattle.fr_base.specs.Tables.{get};
 ghost use Rattle.fr_world.specs.Pages.{frame_data, frame_of, own_rows_of};
 ghost use Rattle.fr_world.specs.ReplacementDecisions.{freeing};
 
 use super::rows::frame_named;
 use crate::page::{Page, PageFrame};
-use fr_base::{FrameChange, Name, NoMemory, Row};
+use fr_base::{FrameChange, Header, Name, NoMemory, Row};
 use std::alloc::Global;
 
 /// The name of the row's frame.
@@ -22,20 +22,35 @@ pub(super) fn named_frame(row: &Row) -> Name
     }
 }
 
-/// The changes that end the placements of the row's frame, or its signals, by the kind of row. A
-/// frame that is not there has none.
-pub(super) fn freeing(alloc: Global, page: &Page, row: &Row) -> Result<Vec<FrameChange>, NoMemory>
-    ensures { IfOk result (λ ends.
-        ends.items ≡ freeing row.now
-        (get (own_rows_of page.now).frames (page.now.supplier, frame_of_row row.now))) }
+/// The row's kind, as a file's header tells it.
+pub(super) fn kind_of(row: &Row) -> Header
+    ensures { result ≡ kind_of_row row.now }
 {
     match row {
-        Row::AddFrame { .. } => Ok(Vec::new(alloc)),
-        Row::Place { frame, .. } => match frame_named(page, *frame) {
+        Row::AddFrame { .. } => Header::Frames,
+        Row::Place { .. } => Header::Placements,
+        Row::AddSignal { .. } => Header::Signals,
+    }
+}
+
+/// The changes that end the placements of the frame, or its signals, by the kind of the rows. A frame
+/// that is not there has none.
+pub(super) fn freeing(
+    alloc: Global,
+    page: &Page,
+    kind: Header,
+    frame: Name,
+) -> Result<Vec<FrameChange>, NoMemory>
+    ensures { IfOk result (λ ends.
+        ends.items ≡ freeing kind (get (own_rows_of page.now).frames (page.now.supplier, frame))) }
+{
+    match kind {
+        Header::Frames => Ok(Vec::new(alloc)),
+        Header::Placements => match frame_named(page, frame) {
             Some(row) => ends_of_placements(alloc, row),
             None => Ok(Vec::new(alloc)),
         },
-        Row::AddSignal { frame, .. } => match frame_named(page, *frame) {
+        Header::Signals => match frame_named(page, frame) {
             Some(row) => ends_of_signals(alloc, row),
             None => Ok(Vec::new(alloc)),
         },

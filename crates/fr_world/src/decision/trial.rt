@@ -7,37 +7,38 @@ ghost use Rattle.fr_base.specs.declared.import.Row.TheVariants as row;
 ghost use Rattle.fr_base.specs.declared.refusal.Refusal.TheVariants.{Unavailable};
 ghost use Rattle.fr_world.specs.Drafts.{draft_data};
 ghost use Rattle.fr_world.specs.Pages.{own_rows_of};
-ghost use Rattle.fr_world.specs.ReplacementDecisions.{free_rows};
 ghost use Rattle.fr_world.specs.RowDecisions.{AreChecked, IsCheckedRow, draft_of, make_row};
 ghost use Rattle.fr_world.specs.Trials.{IsMade, read_fate, trial, tried, try_row};
 
 use super::draft::Draft;
-use super::replacement::free_row;
+use super::replacement::begin;
 use super::rows::frame_named;
 use crate::page::Page;
-use fr_base::{FateRow, FrameChange, Name, Placement, Refusal, Row, RowRead, Rows};
+use fr_base::{FateRow, FrameChange, Header, Manner, Name, Placement, Refusal, Row, RowRead, Rows};
 use std::alloc::Global;
 
 /// The fate of each row: what refuses it, or that it is done. Each row is decided as an import's or
 /// a replacement's is, on the page that the rows before it left. A refused row leaves the page as
 /// it was. A replacement first frees the frames of the rows before the first row that its own text
-/// refuses. `Unavailable` where memory is refused.
+/// refuses. Where it is whole it first clears all frames, by the file's header and these rows.
+/// `Unavailable` where memory is refused.
 ///
-/// The page is given up. The rows were read under its parameters.
+/// The page is given up. The rows were read under its parameters, below the header.
 pub fn try_rows(
     alloc: Global,
     page: Page,
+    header: Option<Header>,
     rows: &[RowRead],
-    replaces: bool,
+    how: Manner,
 ) -> Result<Rows<FateRow>, Refusal>
     requires checked { AreChecked page.params rows.now }
-    ensures { MatchResult result (λ fates. fates ≡ trial replaces page rows.now)
+    ensures { MatchResult result (λ fates. fates ≡ trial how page header rows.now)
         (λ e. e ≡ Unavailable) }
 {
-    let mut draft = first_draft(alloc, page, rows, replaces)?;
+    let mut draft = first_draft(alloc, page, header, rows, how)?;
     let mut fates = Rows::new(alloc);
     for read in rows {
-        let fate = fate_of(alloc, &mut draft, read, replaces)?;
+        let fate = fate_of(alloc, &mut draft, read, how)?;
         fates.push(fate)?;
     }
     Ok(fates)
@@ -47,35 +48,33 @@ pub fn try_rows(
 fn first_draft(
     alloc: Global,
     page: Page,
+    header: Option<Header>,
     rows: &[RowRead],
-    replaces: bool,
+    how: Manner,
 ) -> Result<Draft, Refusal>
     ensures { MatchResult result
-        (λ draft. draft_data draft ≡ tried replaces (draft_of page) rows.now)
+        (λ draft. draft_data draft ≡ tried how (draft_of page) header rows.now)
         (λ e. e ≡ Unavailable) }
 {
-    if replaces {
-        free_readable(alloc, page, rows)
-    } else {
-        Ok(Draft::new(alloc, page))
+    match how {
+        Manner::Import => Ok(Draft::new(alloc, page)),
+        Manner::Replace { whole } => {
+            let kind = if whole { header } else { None };
+            begin(alloc, page, kind, readable(rows))
+        }
     }
 }
 
-// Frees the frames of the rows before the first one that its own text refuses. Gives the page after
-// that.
-fn free_readable(alloc: Global, page: Page, rows: &[RowRead]) -> Result<Draft, Refusal>
-    ensures { MatchResult result
-        (λ draft. draft_data draft ≡ free_rows (draft_of page) (up_to_refused rows.now))
-        (λ e. e ≡ Unavailable) }
+// The rows up to the first one that its own text refuses.
+fn readable(rows: &[RowRead]) -> &[RowRead]
+    ensures { result.now ≡ up_to_refused rows.now }
 {
-    let mut draft = Draft::new(alloc, page);
-    for read in rows {
-        match &read.row {
-            Ok(row) => free_row(alloc, &mut draft, row)?,
-            Err(_) => return Ok(draft),
+    for (place, read) in rows.iter().enumerate() {
+        if read.row.is_err() {
+            return &rows[..place + 1];
         }
     }
-    Ok(draft)
+    rows
 }
 
 // The fate of the row as it was read. The draft is the one that the row leaves.
@@ -83,16 +82,16 @@ fn fate_of(
     alloc: Global,
     draft: &mut Draft,
     read: &RowRead,
-    replaces: bool,
+    how: Manner,
 ) -> Result<FateRow, Refusal>
     requires checked { IfOk read.now.row (IsCheckedRow draft.old.page.params) }
     ensures { MatchResult result
-        (λ fate. read_fate replaces (draft_data draft.old) read.now ≡ (draft_data draft.new, fate))
+        (λ fate. read_fate how (draft_data draft.old) read.now ≡ (draft_data draft.new, fate))
         (λ e. e ≡ Unavailable) }
 {
     let line = read.line;
     let refusal = match read.row {
-        Ok(row) => refusal_of(alloc, draft, &row, replaces)?,
+        Ok(row) => refusal_of(alloc, draft, &row, how)?,
         Err(refusal) => Some(refusal),
     };
     Ok(FateRow { line, refusal })
@@ -103,14 +102,14 @@ fn refusal_of(
     alloc: Global,
     draft: &mut Draft,
     row: &Row,
-    replaces: bool,
+    how: Manner,
 ) -> Result<Option<Refusal>, Refusal>
     requires checked { IsCheckedRow draft.old.page.params row.now }
     ensures { MatchResult result
         (IsMade (draft_data draft.old) (draft_data draft.new)
-        (try_row replaces (draft_data draft.old) row.now)) (λ e. e ≡ Unavailable) }
+        (try_row how (draft_data draft.old) row.now)) (λ e. e ≡ Unavailable) }
 {
-    match draft.try_row(alloc, row, replaces) {
+    match draft.try_row(alloc, row, how) {
         Ok(()) => Ok(None),
         Err(refusal) if refusal == Refusal::Unavailable => Err(refusal),
         Err(refusal) => Ok(Some(refusal)),
@@ -120,17 +119,17 @@ fn refusal_of(
 impl Draft {
     // Does what the row asks, or gives its first refusal, which leaves the draft as it was.
     // `Unavailable` where memory is refused.
-    fn try_row(&mut self, alloc: Global, row: &Row, replaces: bool) -> Result<(), Refusal>
+    fn try_row(&mut self, alloc: Global, row: &Row, how: Manner) -> Result<(), Refusal>
         requires checked { IsCheckedRow self.old.page.params row.now }
-        ensures ok { OnOk result (try_row replaces (draft_data self.old) row.now
+        ensures ok { OnOk result (try_row how (draft_data self.old) row.now
             ≡ Ok (draft_data self.new)) }
         ensures err { IfErr result (λ e. (e ≡ Unavailable)
-            ⊎ (try_row replaces (draft_data self.old) row.now ≡ Err e)) }
+            ⊎ (try_row how (draft_data self.old) row.now ≡ Err e)) }
         ensures left { IfErr result
             (λ e. (e ≡ Unavailable) ⊎ (draft_data self.new ≡ draft_data self.old)) }
     {
         match row {
-            Row::AddFrame { frame, node } => self.try_frame(alloc, *frame, *node, replaces),
+            Row::AddFrame { frame, node } => self.try_frame(alloc, *frame, *node, how),
             Row::Place {
                 frame,
                 node,
@@ -147,19 +146,18 @@ impl Draft {
         alloc: Global,
         frame: Name,
         node: Name,
-        replaces: bool,
+        how: Manner,
     ) -> Result<(), Refusal>
-        ensures ok { OnOk result (try_row replaces (draft_data self.old) (row.AddFrame frame node)
+        ensures ok { OnOk result (try_row how (draft_data self.old) (row.AddFrame frame node)
             ≡ Ok (draft_data self.new)) }
         ensures err { IfErr result (λ e. (e ≡ Unavailable)
-            ⊎ (try_row replaces (draft_data self.old) (row.AddFrame frame node) ≡ Err e)) }
+            ⊎ (try_row how (draft_data self.old) (row.AddFrame frame node) ≡ Err e)) }
         ensures left { IfErr result
             (λ e. (e ≡ Unavailable) ⊎ (draft_data self.new ≡ draft_data self.old)) }
     {
-        if replaces {
-            self.make_frame(alloc, frame, node)
-        } else {
-            self.add_frame(alloc, frame, node)
+        match how {
+            Manner::Replace { whole: _ } => self.make_frame(alloc, frame, node),
+            Manner::Import => self.add_frame(alloc, frame, node),
         }
     }
 

@@ -1,5 +1,5 @@
 use Rattle.std.proofs.Common.{rules, ◌∙◌, sym}
-use Rattle.fr_office.proofs.OwnReplies.{finds-page, finds-none}
+use Rattle.fr_office.proofs.LentPages.{finds-page, finds-none}
 use Rattle.fr_world.proofs.ReadLaws.{reads_then}
 use Rattle.fr_office.proofs.queries.find_page.Goals as goal
 

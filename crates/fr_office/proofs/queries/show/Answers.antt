@@ -1,70 +1,105 @@
-use Rattle.std.proofs.Common.{◌∙◌, ◌++◌, not, Ok, Err, sym, ap, subst, rules}
-use Rattle.fr_base.specs.Queries.{frames_of, gaps_of, named, signals_of}
-use Rattle.fr_base.specs.declared.answer.ReportRows.TheVariants as shows
-use Rattle.fr_base.specs.declared.refusal.Refusal.TheVariants.{NoFrame}
-use Rattle.fr_world.specs.Pages.{own_rows_of}
-use Rattle.fr_office.specs.Shown.{ShowsOwn}
-use Rattle.fr_office.proofs.OwnReplies.{shows-grants, shows-frames, shows-schedule, shows-gaps, shows-layout, shows-no_frame, shows-load, shows-room, shows-no_room, shows-export}
+use Rattle.std.proofs.Common.{rules, ◌∙◌, List, Option, Ok, ap, subst, sym}
+use Rattle.fr_base.specs.Book.{Book}
+use Rattle.fr_base.specs.Cluster.{Cluster, ClusterFile}
+use Rattle.fr_base.specs.declared.answer.SignalRow.{SignalRow}
+use Rattle.fr_office.specs.Shown.{AreSignals, Gathers, Shows}
+use Rattle.fr_office.proofs.ShownReplies.{shows-export, shows-frames, shows-gaps, shows-grants, shows-layout, shows-load, shows-no_frame, shows-rows, shows-schedule}
+use Rattle.fr_world.proofs.ReadLaws.{reads_then}
 use Rattle.fr_office.proofs.queries.show.Goals as goal
 
-pub returns-in_ok-page_grants-in-Grants : goal.returns-in_ok-page_grants-in-Grants
-returns-in_ok-page_grants-in-Grants c =
-    let rows = c.in_ok-page_grants-in-Grants.field-0 in
-    subst (λ q. ShowsOwn c.args.page.now q (Ok (shows.Grants rows))) (sym c.in-Grants.is)
-    (shows-grants c.args.page.now rows c.in_ok-page_grants-in-Grants.ensures)
+pub returns-in-Grants : goal.returns-in-Grants
+returns-in-Grants g c = record {
+  reads = search (rules, reads_then);
+  told = λ now.
+      let stands = g.R.Records.stands in
+      shows-grants (stands c.args.records.now) (stands c.gather_grants.new.records) c.args.actor.now c.args.variant c.deref.result.now
+      (λ k b stood. c.deref.ensures.value ∙ c.in_ok-suppliers.ensures k b stood) c.args.report.now c.in_ok-rows-in-Grants.rows c.in-Grants.is (c.in_ok-rows-in-Grants.ensures.told now);
+}
 
-pub returns-in_ok-push_frames-in-Frames : goal.returns-in_ok-push_frames-in-Frames
-returns-in_ok-push_frames-in-Frames c =
-    let rows = c.push_frames.new.rows in
-    subst (λ q. ShowsOwn c.args.page.now q (Ok (shows.Frames rows))) (sym c.in-Frames.is)
-    (shows-frames c.args.page.now rows (c.in_ok-push_frames-in-Frames.ensures ∙ ap (λ rs. rs ++ frames_of (own_rows_of c.args.page.now).frames) c.new-rows.ensures))
+pub returns-in-Frames : goal.returns-in-Frames
+returns-in-Frames g c = record {
+  reads = search (rules, reads_then);
+  told = λ now.
+      let stands = g.R.Records.stands in
+      shows-frames (stands c.args.records.now) (stands c.gather_frames.new.records) c.args.actor.now c.args.variant c.deref-in-Frames.result.now
+      (λ k b stood. c.deref-in-Frames.ensures.value ∙ c.in_ok-suppliers.ensures k b stood) c.args.report.now c.in_ok-rows-in-Frames.rows c.in-Frames.is (c.in_ok-rows-in-Frames.ensures.told now);
+}
 
-pub returns-in_ok-page_schedule-in-Schedule : goal.returns-in_ok-page_schedule-in-Schedule
-returns-in_ok-page_schedule-in-Schedule c =
-    let rows = c.in_ok-page_schedule-in-Schedule.field-0 in
-    subst (λ q. ShowsOwn c.args.page.now q (Ok (shows.Schedule rows))) (sym c.in-Schedule.is)
-    (shows-schedule c.args.page.now rows c.in_ok-page_schedule-in-Schedule.ensures)
+pub returns-in-Schedule : goal.returns-in-Schedule
+returns-in-Schedule g c = record {
+  reads = search (rules, reads_then);
+  told = λ now.
+      let stands = g.R.Records.stands in
+      shows-schedule (stands c.args.records.now) (stands c.gather_schedule.new.records) c.args.actor.now c.args.variant c.deref-in-Schedule.result.now
+      (λ k b stood. c.deref-in-Schedule.ensures.value ∙ c.in_ok-suppliers.ensures k b stood) c.args.report.now c.params-params.result c.in_ok-rows-in-Schedule.rows c.in-Schedule.is
+      (λ k b stood. c.params-params.ensures.value ∙ ap (λ (f : ClusterFile). f.cluster.params) (c.config.ensures.config k b stood)) (c.in_ok-rows-in-Schedule.ensures.told now);
+}
 
-pub returns-in_ok-push_gaps-in-Gaps : goal.returns-in_ok-push_gaps-in-Gaps
-returns-in_ok-push_gaps-in-Gaps c =
-    let rows = c.push_gaps.new.rows in
-    subst (λ q. ShowsOwn c.args.page.now q (Ok (shows.Gaps rows))) (sym c.in-Gaps.is)
-    (shows-gaps c.args.page.now rows (c.in_ok-push_gaps-in-Gaps.ensures ∙ ap (λ rs. rs ++ gaps_of c.args.page.now.params (own_rows_of c.args.page.now).frames) c.new-rows-in-Gaps.ensures))
+pub returns-in-Gaps : goal.returns-in-Gaps
+returns-in-Gaps g c = record {
+  reads = search (rules, reads_then);
+  told = λ now.
+      let stands = g.R.Records.stands in
+      shows-gaps (stands c.args.records.now) (stands c.gather_gaps.new.records) c.args.actor.now c.args.variant c.deref-in-Gaps.result.now
+      (λ k b stood. c.deref-in-Gaps.ensures.value ∙ c.in_ok-suppliers.ensures k b stood) c.args.report.now c.in_ok-rows-in-Gaps.rows c.in-Gaps.is (c.in_ok-rows-in-Gaps.ensures.told now);
+}
 
-pub returns-then-not-branch : goal.returns-then-not-branch
-returns-then-not-branch c =
-    subst (λ q. ShowsOwn c.args.page.now q (Err NoFrame)) (sym c.in-Layout.is)
-    (shows-no_frame c.args.page.now c.in-Layout.frame (sym c.in_ok-push_signals-in-Layout.ensures.found ∙ ap not c.if-not-branch.true))
+pub returns-in-Some : goal.returns-in-Some
+returns-in-Some g c = record {
+  reads = search (rules, reads_then);
+  told = λ now.
+      let stands = g.R.Records.stands in
+      let old = stands c.args.records.now in
+      let new = stands c.gather_signals.new.records in
+      shows-layout old new c.args.actor.now c.args.variant c.deref-in-Layout.result.now
+      (λ k b stood. c.deref-in-Layout.ensures.value ∙ c.in_ok-suppliers.ensures k b stood) c.args.report.now c.in-Layout.frame c.in-Some.rows c.in-Layout.is
+      (subst (λ found. Gathers c.args.variant (λ p x found. AreSignals c.in-Layout.frame c.deref-in-Layout.result.now x found) old new (Ok found)) c.in-Some.is (c.in_ok-rows-in-Layout.ensures.told now));
+}
 
-pub returns-else-not-branch : goal.returns-else-not-branch
-returns-else-not-branch c =
-    let rows = c.push_signals.new.rows in
-    let name = c.in-Layout.frame in
-    subst (λ q. ShowsOwn c.args.page.now q (Ok (shows.Layout rows))) (sym c.in-Layout.is)
-    (shows-layout c.args.page.now name rows
-    (c.in_ok-push_signals-in-Layout.ensures.rows ∙ ap (λ rs. rs ++ signals_of (named name (own_rows_of c.args.page.now).frames)) c.new-rows-in-Layout.ensures)
-    (sym c.in_ok-push_signals-in-Layout.ensures.found ∙ ap not c.if-not-branch.false))
+pub returns-in-Layout : goal.returns-in-Layout
+returns-in-Layout g c = record {
+  reads = search (rules, reads_then);
+  told = λ now.
+      let stands = g.R.Records.stands in
+      let old = stands c.args.records.now in
+      let new = stands c.gather_signals.new.records in
+      shows-no_frame old new c.args.actor.now c.args.variant c.deref-in-Layout.result.now
+      (λ k b stood. c.deref-in-Layout.ensures.value ∙ c.in_ok-suppliers.ensures k b stood) c.args.report.now c.in-Layout.frame c.in-Layout.is
+      (subst (λ (found : Option (List SignalRow)). Gathers c.args.variant (λ p x found. AreSignals c.in-Layout.frame c.deref-in-Layout.result.now x found) old new (Ok found)) c.in-None.is (c.in_ok-rows-in-Layout.ensures.told now));
+}
 
-pub returns-in_ok-page_load-in-Load : goal.returns-in_ok-page_load-in-Load
-returns-in_ok-page_load-in-Load c =
-    let rows = c.in_ok-page_load-in-Load.field-0 in
-    subst (λ q. ShowsOwn c.args.page.now q (Ok (shows.Load rows))) (sym c.in-Load.is)
-    (shows-load c.args.page.now rows c.in_ok-page_load-in-Load.ensures)
+pub returns-in-Load : goal.returns-in-Load
+returns-in-Load g c = record {
+  reads = search (rules, reads_then);
+  told = λ now.
+      let stands = g.R.Records.stands in
+      shows-load (stands c.args.records.now) (stands c.gather_load.new.records) c.args.actor.now c.args.variant c.deref-in-Load.result.now
+      (λ k b stood. c.deref-in-Load.ensures.value ∙ c.in_ok-suppliers.ensures k b stood) c.args.report.now c.params-params.result c.in_ok-lanes-in-Load.lanes c.in_ok-seen_lanes-in-Load.field-0 c.in-Load.is
+      (λ k b stood. c.params-params.ensures.value ∙ ap (λ (f : ClusterFile). f.cluster.params) (c.config.ensures.config k b stood)) c.in_ok-seen_lanes-in-Load.ensures (c.in_ok-lanes-in-Load.ensures.told now);
+}
 
-pub returns-in_err-rows-in-Room : goal.returns-in_err-rows-in-Room
-returns-in_err-rows-in-Room c =
-    subst (λ q. ShowsOwn c.args.page.now q c.from_residual-in_err-rows-in-Room.result) (sym c.in-Room.is)
-    (shows-no_room c.args.page.now c.in-Room.frame c.in-Room.repetition c.from_residual-in_err-rows-in-Room.result c.in_err-rows-in-Room.field-0.0 (search rules)
-    c.in_err-rows-in-Room.ensures.refusal)
+pub returns-in-Rows : goal.returns-in-Rows
+returns-in-Rows g c = record {
+  reads = search (rules, reads_then);
+  told = λ now.
+      let stands = g.R.Records.stands in
+      shows-rows (stands c.args.records.now) (stands c.gather_rows.new.records) c.args.actor.now c.args.variant c.deref-in-Rows.result.now
+      (λ k b stood. c.deref-in-Rows.ensures.value ∙ c.in_ok-suppliers.ensures k b stood) c.args.report.now c.in_ok-rows-in-Rows.rows c.in-Rows.is (c.in_ok-rows-in-Rows.ensures.told now);
+}
 
-pub returns-in_ok-rows-in-Room : goal.returns-in_ok-rows-in-Room
-returns-in_ok-rows-in-Room c =
-    let places = c.in_ok-rows-in-Room.rows in
-    subst (λ q. ShowsOwn c.args.page.now q (Ok (shows.Room places))) (sym c.in-Room.is)
-    (shows-room c.args.page.now c.in-Room.frame c.in-Room.repetition places c.in_ok-rows-in-Room.ensures.places)
+pub returns-in-Room : goal.returns-in-Room
+returns-in-Room g c = record {
+  reads = search (rules, reads_then);
+  told = λ now.
+      let stands = g.R.Records.stands in
+      subst (λ q. Shows c.args.actor.now c.args.variant q (stands c.args.records.now) (stands c.find_room.new.records) c.find_room.result) (sym c.in-Room.is) (c.find_room.ensures.told now);
+}
 
-pub returns-in_ok-page_export-in-Export : goal.returns-in_ok-page_export-in-Export
-returns-in_ok-page_export-in-Export c =
-    let rows = c.in_ok-page_export-in-Export.field-0 in
-    subst (λ q. ShowsOwn c.args.page.now q (Ok rows)) (sym c.in-Export.is)
-    (shows-export c.args.page.now c.in-Export.header c.in-Export.part rows c.in_ok-page_export-in-Export.ensures)
+pub returns : goal.returns
+returns g c = record {
+  reads = search (rules, reads_then);
+  told = λ now.
+      let stands = g.R.Records.stands in
+      shows-export (stands c.args.records.now) (stands c.gather_export.new.records) c.args.actor.now c.args.variant c.deref-in-Export.result.now
+      (λ k b stood. c.deref-in-Export.ensures.value ∙ c.in_ok-suppliers.ensures k b stood) c.args.report.now c.in-Export.header c.in-Export.part c.gather_export.result c.in-Export.is (c.gather_export.ensures.told now);
+}

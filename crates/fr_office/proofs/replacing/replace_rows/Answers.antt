@@ -10,7 +10,7 @@ use Rattle.fr_office.proofs.replacing.replace_rows.Goals as goal
 
 pub overflow_cast-count : goal.overflow_cast-count
 overflow_cast-count g c =
-    let few : length c.in_ok-rows.rows ≤ MAX_ROWS = few_replaced c.lent-page.result.now c.args.replacement.now.body c.in_ok-rows.rows c.in-Ok.draft.edits.items (search rules) (search rules) in
+    let few : length c.in_ok-rows.rows ≤ MAX_ROWS = few_replaced c.lent-page.result.now c.in_ok-whole.whole c.args.replacement.now.body c.in_ok-rows.rows c.in-Ok.draft.edits.items (search rules) (search rules) in
     let counted : c.len-count.result ≡ length c.in_ok-rows.rows = search rules in
     omega (arith, few, counted)
 

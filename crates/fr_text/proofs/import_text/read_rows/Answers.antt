@@ -9,11 +9,11 @@ pub returns : goal.returns
 returns c =
     elim c.match-branch-2.branch [
       | in-Some+in_ok-push_all-in-Some w ↦
-          let rows : c.match-branch-2.rows ≡ take 513 (rows_from c.args.params.now w.in-Some.header 2 c.read_header.new.records) = search rules in
-          let header : rows_of_records c.args.params.now (records_of c.args.body.now) ≡ rows_below c.args.params.now (Some w.in-Some.header) c.read_header.new.records = search rules in
+          let rows : c.match-branch-2.rows ≡ take 513 (rows_from c.args.params.now w.in-Some.header 2 c.first_header.new.records) = search rules in
+          let header : rows_of_records c.args.params.now (records_of c.args.body.now) ≡ rows_below c.args.params.now (Some w.in-Some.header) c.first_header.new.records = search rules in
           rows ∙ sym (all-rows c.args.params.now c.args.body.now _ _ header)
       | in-None+in_ok-push-in-None w ↦
           let rows : c.match-branch-2.rows ≡ record { line = 1; row = Err BadText } ∷ [] = search rules in
-          let header : rows_of_records c.args.params.now (records_of c.args.body.now) ≡ rows_below c.args.params.now None c.read_header.new.records = search rules in
+          let header : rows_of_records c.args.params.now (records_of c.args.body.now) ≡ rows_below c.args.params.now None c.first_header.new.records = search rules in
           rows ∙ sym (all-other c.args.params.now c.args.body.now _ header)
     ]

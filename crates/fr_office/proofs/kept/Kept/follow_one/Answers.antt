@@ -9,6 +9,10 @@ pub returns-in-NewVariant-clause-pages : goal.returns-in-NewVariant-clause-pages
 returns-in-NewVariant-clause-pages c =
     where-followed c.args.edit.now c.args.self.now.pages c.let_go_of_variant.new.self (c.let_go_of_variant.ensures ∙ (λ i. kept_where (λ page. not (touches (sym c.in-NewVariant.is i) page)) c.args.self.now.pages))
 
+pub returns-in-NewFlat-clause-pages : goal.returns-in-NewFlat-clause-pages
+returns-in-NewFlat-clause-pages c =
+    where-followed c.args.edit.now c.args.self.now.pages c.let_go_of_variant-in-NewFlat.new.self (c.let_go_of_variant-in-NewFlat.ensures ∙ (λ i. kept_where (λ page. not (touches (sym c.in-NewFlat.is i) page)) c.args.self.now.pages))
+
 pub returns-in-SetReleased-clause-pages : goal.returns-in-SetReleased-clause-pages
 returns-in-SetReleased-clause-pages c =
     where-followed c.args.edit.now c.args.self.now.pages c.let_go_of_variant-in-SetReleased.new.self (c.let_go_of_variant-in-SetReleased.ensures ∙ (λ i. kept_where (λ page. not (touches (sym c.in-SetReleased.is i) page)) c.args.self.now.pages))
@@ -34,6 +38,9 @@ returns-in-KeepImport-clause-counts c = one_more c.args.edit.now _ _ _ _ _ c.in-
 
 pub returns-in-NewVariant-clause-counts : goal.returns-in-NewVariant-clause-counts
 returns-in-NewVariant-clause-counts c = λ p b fits counted. others_counted b c.args.edit.now c.args.self.now.counts (λ s label v body rows is. let no = sym c.in-NewVariant.is ∙ is in cc) counted
+
+pub returns-in-NewFlat-clause-counts : goal.returns-in-NewFlat-clause-counts
+returns-in-NewFlat-clause-counts c = λ p b fits counted. others_counted b c.args.edit.now c.args.self.now.counts (λ s label v body rows is. let no = sym c.in-NewFlat.is ∙ is in cc) counted
 
 pub returns-in-SetReleased-clause-counts : goal.returns-in-SetReleased-clause-counts
 returns-in-SetReleased-clause-counts c = λ p b fits counted. others_counted b c.args.edit.now c.args.self.now.counts (λ s label v body rows is. let no = sym c.in-SetReleased.is ∙ is in cc) counted

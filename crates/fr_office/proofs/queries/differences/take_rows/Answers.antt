@@ -1,6 +1,6 @@
 use Rattle.std.proofs.Common.{rules}
 use Rattle.fr_office.proofs.ComparedLaws.{page-taken}
-use Rattle.fr_office.proofs.OwnReplies.{finds-lent}
+use Rattle.fr_office.proofs.LentPages.{finds-lent}
 use Rattle.fr_world.proofs.ReadLaws.{reads_then}
 use Rattle.fr_office.proofs.queries.differences.take_rows.Goals as goal
 

@@ -2,7 +2,7 @@ use Rattle.std.proofs.Common.{rules, ◌+◌, ◌∙◌, ◌++◌, [], ◌∷◌
 use Rattle.std.proofs.lemmas.List.{take_more}
 use Rattle.fr_world.proofs.ReadLaws.{reads_none, reads_then}
 use Rattle.fr_office.proofs.ExportLaws.{begun-all_of, begun-more, begun-none}
-use Rattle.fr_office.proofs.OwnReplies.{finds-lent}
+use Rattle.fr_office.proofs.LentPages.{finds-lent}
 use Rattle.fr_office.proofs.queries.exports.gather_part.Goals as goal
 
 pub loop-supplier-init : goal.loop-supplier-init

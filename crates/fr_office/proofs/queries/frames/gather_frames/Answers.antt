@@ -2,7 +2,7 @@ use Rattle.std.proofs.Common.{rules, ◌+◌, ◌∙◌, ◌++◌, [], ◌∷◌
 use Rattle.std.proofs.lemmas.List.{take_more}
 use Rattle.fr_base.specs.Queries.{frames_of}
 use Rattle.fr_office.proofs.GatherLaws.{gathered-more, gathered-all}
-use Rattle.fr_office.proofs.OwnReplies.{finds-lent}
+use Rattle.fr_office.proofs.LentPages.{finds-lent}
 use Rattle.fr_world.proofs.ReadLaws.{reads_then}
 use Rattle.fr_office.proofs.queries.frames.gather_frames.Goals as goal
 

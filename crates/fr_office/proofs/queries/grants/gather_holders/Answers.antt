@@ -1,7 +1,7 @@
 use Rattle.std.proofs.Common.{rules, ◌+◌, ◌∙◌, ◌++◌, [], ◌∷◌, take, sym, ap}
 use Rattle.std.proofs.lemmas.List.{take_more}
 use Rattle.fr_office.proofs.GrantLaws.{held-none, held-more, held-all}
-use Rattle.fr_office.proofs.OwnReplies.{finds-lent}
+use Rattle.fr_office.proofs.LentPages.{finds-lent}
 use Rattle.fr_world.proofs.ReadLaws.{reads_none, reads_then}
 use Rattle.fr_office.proofs.queries.grants.gather_holders.Goals as goal
 

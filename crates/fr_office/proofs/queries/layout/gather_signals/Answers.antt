@@ -1,7 +1,7 @@
 use Rattle.std.proofs.Common.{rules, ◌≡◌, ◌+◌, ◌∙◌, ◌++◌, ◌||◌, [], ◌∷◌, take, sym, ap, subst}
 use Rattle.std.proofs.lemmas.List.{take_more}
 use Rattle.fr_office.proofs.GatherLaws.{IsFound, IsSoFar, found-more, gathered-more, or_with, or_without, signals-gathered, signals-none, signals_named}
-use Rattle.fr_office.proofs.OwnReplies.{finds-lent}
+use Rattle.fr_office.proofs.LentPages.{finds-lent}
 use Rattle.fr_world.proofs.ReadLaws.{reads_then}
 use Rattle.fr_office.proofs.queries.layout.gather_signals.Goals as goal
 use Rattle.fr_office.proofs.queries.layout.gather_signals.Goals.{then-branch, else-branch, then-found, else-found}

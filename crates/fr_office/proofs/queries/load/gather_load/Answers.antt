@@ -3,7 +3,7 @@ use Rattle.std.proofs.lemmas.List.{take_more}
 use Rattle.fr_base.specs.Book.{placements_of}
 use Rattle.fr_office.proofs.GatherLaws.{gathered-all, gathered-more, gathered-none}
 use Rattle.fr_office.proofs.GrantLaws.{held-all, held-more, held-none, load-gathered}
-use Rattle.fr_office.proofs.OwnReplies.{finds-lent}
+use Rattle.fr_office.proofs.LentPages.{finds-lent}
 use Rattle.fr_world.proofs.ReadLaws.{reads_none, reads_then}
 use Rattle.fr_office.proofs.queries.load.gather_load.Goals as goal
 

@@ -1,4 +1,4 @@
-use Rattle.std.proofs.Common.{◌≡◌, ◌∙◌, Result, ap, refl, sym, subst}
+use Rattle.std.proofs.Common.{◌≡◌, ◌∙◌, Result, ap, refl, sym, subst, true≢false}
 use Rattle.std.specs.Prelude.{⊤}
 use Rattle.sqlite.specs.declared.transaction.Transaction.{Transaction}
 use Rattle.sqlite_trees.specs.declared.store.Store.{Ghosts}
@@ -11,6 +11,7 @@ use Rattle.fr_world.specs.declared.edit.Edit.TheVariants.{KeepImport, NewNode, R
 use Rattle.fr_tables.specs.Changes.{Changes}
 use Rattle.fr_tables.specs.Statements.{row_of_frame, with_frame}
 use Rattle.fr_store.specs.Applying.{CarriesOut, Edits}
+use Rattle.fr_store.specs.Sparing.{changes_frame}
 use Rattle.fr_store.specs.declared.fault.StoreFault.{StoreFault}
 use Rattle.fr_store.proofs.ApplyLemmas.{node_applied}
 use Rattle.fr_store.proofs.CallLemmas.{edit_done, edit_of_frame, edit_stays, seen}
@@ -34,6 +35,16 @@ returns-in-NewVariant-clause-carried g c =
     let new = c.open_variant.new.tx in
     edit_stays g.S.Store c.args.edit.now old new c.open_variant.result c.stays.result c.stays.ensures
     (so g.S.Store old _ c.args.edit.now new new c.open_variant.result c.open_variant.result c.in-NewVariant.is refl refl c.open_variant.ensures.carried)
+
+pub returns-in-NewFlat-clause-carried : goal.returns-in-NewFlat-clause-carried
+returns-in-NewFlat-clause-carried g c =
+    let old = c.args.tx.now in
+    let new = c.open_flat.new.tx in
+    edit_stays g.S.Store c.args.edit.now old new c.open_flat.result c.stays-in-NewFlat.result c.stays-in-NewFlat.ensures
+    (so g.S.Store old _ c.args.edit.now new new c.open_flat.result c.open_flat.result c.in-NewFlat.is refl refl c.open_flat.ensures)
+
+pub returns-in-NewFlat-clause-spared : goal.returns-in-NewFlat-clause-spared
+returns-in-NewFlat-clause-spared g c none = absurd (true≢false (sym (ap changes_frame c.in-NewFlat.is) ∙ none))
 
 pub returns-in-SetReleased-clause-carried : goal.returns-in-SetReleased-clause-carried
 returns-in-SetReleased-clause-carried g c =

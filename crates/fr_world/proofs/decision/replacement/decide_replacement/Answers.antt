@@ -4,20 +4,20 @@ use Rattle.fr_base.specs.Refusing.{◌>>=◌}
 use Rattle.fr_base.specs.Parameters.{check_params}
 use Rattle.fr_base.specs.declared.import.RowRead.{RowRead}
 use Rattle.fr_world.specs.Drafts.{draft_data}
-use Rattle.fr_world.specs.ReplacementDecisions.{free_rows, replace_rows, replacement_decision}
+use Rattle.fr_world.specs.ReplacementDecisions.{begun, replace_rows, replacement_decision}
 use Rattle.fr_world.specs.RowDecisions.{IsCheckedRow, draft_of}
 use Rattle.fr_world.specs.RowFaults.{IsFault}
 use Rattle.fr_world.proofs.DraftRows.{fault-on}
-use Rattle.fr_world.proofs.ReplacementRows.{all_freed-params, replaced-params, replace-fault, replace-next}
+use Rattle.fr_world.proofs.ReplacementRows.{begun-params, replaced-params, replace-fault, replace-next}
 use Rattle.fr_world.proofs.ReplacementsLead.{replacement-led}
 use Rattle.fr_world.proofs.RowsLead.{none-releases}
 use Rattle.fr_world.proofs.decision.replacement.decide_replacement.Goals as goal
 
 pub loop-read-init : goal.loop-read-init
 loop-read-init c =
-    let is = c.in_ok-draft.ensures.ok in
     let rows = c.args.rows.now in
-    (ap (λ d. replace_rows d rows) (sym is), ap (λ d. d.page.params) is ∙ all_freed-params rows (draft_of c.args.page))
+    let is : draft_data c.in_ok-draft.draft ≡ begun (draft_of c.args.page) c.args.whole rows = search rules in
+    (ap (λ d. replace_rows d rows) (sym is), ap (λ d. d.page.params) is ∙ begun-params c.args.whole rows (draft_of c.args.page))
 
 pub replace_read-requires : goal.replace_read-requires
 replace_read-requires c = record {
@@ -33,8 +33,8 @@ returns-in_err-replace_read-clause-fault c =
     let e = c.in_err-replace_read.field-0.0 in
     let next : drop i rows ≡ c.read-item.result ∷ drop (i + 1) rows = drop_more rows i c.read-item.result c.loop-read-test.true ∙ ap (λ r. r ∷ drop (i + 1) rows) (sym c.read-item.is) in
     let same : c.from_residual-in_err-replace_read.result ≡ Err e = search rules in
-    subst (λ r. IfErr r (IsFault (replacement_decision c.args.page rows))) (sym same)
-    (fault-on (replace_rows (free_rows (draft_of c.args.page) rows) rows) _ e
+    subst (λ r. IfErr r (IsFault (replacement_decision c.args.page c.args.whole rows))) (sym same)
+    (fault-on (replace_rows (begun (draft_of c.args.page) c.args.whole rows) rows) _ e
     (subst (λ r. IsFault r e) (sym (c.loop-read.invariant.0 ∙ ap (replace_rows (draft_data c.loop-read.draft)) next))
     (replace-fault (draft_data c.loop-read.draft) c.read-item.result (drop (i + 1) rows) e c.in_err-replace_read.ensures.fault)))
 
@@ -64,7 +64,7 @@ returns-clause-leads c =
     let d = draft_data c.loop-read.draft in
     let over = c.loop-read-test.false in
     let none : drop c.loop-read.read-index c.args.rows.now ≡ [] = drop_all c.loop-read.read-index c.args.rows.now (omega (arith, over)) in
-    (replacement-led c.args.page (subst (λ p. check_params p ≡ Ok p) c.params.ensures c.raw-raw.ensures.checked) c.frames-frames.ensures.kept c.args.rows.now c.requires.checked d (c.loop-read.invariant.0 ∙ ap (replace_rows d) none)).leads
+    (replacement-led c.args.page (subst (λ p. check_params p ≡ Ok p) c.params.ensures c.raw-raw.ensures.checked) c.frames-frames.ensures.kept c.args.whole c.args.rows.now c.requires.checked d (c.loop-read.invariant.0 ∙ ap (replace_rows d) none)).leads
 
 pub returns-clause-page : goal.returns-clause-page
 unfolding replace_rows
@@ -72,7 +72,7 @@ returns-clause-page c =
     let d = draft_data c.loop-read.draft in
     let over = c.loop-read-test.false in
     let none : drop c.loop-read.read-index c.args.rows.now ≡ [] = drop_all c.loop-read.read-index c.args.rows.now (omega (arith, over)) in
-    let led = replacement-led c.args.page (subst (λ p. check_params p ≡ Ok p) c.params.ensures c.raw-raw.ensures.checked) c.frames-frames.ensures.kept c.args.rows.now c.requires.checked d (c.loop-read.invariant.0 ∙ ap (replace_rows d) none) in
+    let led = replacement-led c.args.page (subst (λ p. check_params p ≡ Ok p) c.params.ensures c.raw-raw.ensures.checked) c.frames-frames.ensures.kept c.args.whole c.args.rows.now c.requires.checked d (c.loop-read.invariant.0 ∙ ap (replace_rows d) none) in
     record { supplier = led.supplier; variant = led.variant; released = led.released }
 
 pub returns-clause-still : goal.returns-clause-still
@@ -81,5 +81,5 @@ returns-clause-still c =
     let d = draft_data c.loop-read.draft in
     let over = c.loop-read-test.false in
     let none : drop c.loop-read.read-index c.args.rows.now ≡ [] = drop_all c.loop-read.read-index c.args.rows.now (omega (arith, over)) in
-    let led = replacement-led c.args.page (subst (λ p. check_params p ≡ Ok p) c.params.ensures c.raw-raw.ensures.checked) c.frames-frames.ensures.kept c.args.rows.now c.requires.checked d (c.loop-read.invariant.0 ∙ ap (replace_rows d) none) in
+    let led = replacement-led c.args.page (subst (λ p. check_params p ≡ Ok p) c.params.ensures c.raw-raw.ensures.checked) c.frames-frames.ensures.kept c.args.whole c.args.rows.now c.requires.checked d (c.loop-read.invariant.0 ∙ ap (replace_rows d) none) in
     none-releases c.args.page.params d.edits led.frames

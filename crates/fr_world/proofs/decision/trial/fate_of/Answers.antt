@@ -9,9 +9,9 @@ returns c =
     let d = draft_data c.args.draft.now in
     elim c.match-read.branch [
       | in-Ok+in_ok-refusal-in-Ok w ↦
-          made-fate d c.args.replaces c.args.read.now w.in-Ok.row (draft_data w.refusal_of.new.draft) w.in_ok-refusal-in-Ok.refusal w.in-Ok.is w.in_ok-refusal-in-Ok.ensures
+          made-fate d c.args.how c.args.read.now w.in-Ok.row (draft_data w.refusal_of.new.draft) w.in_ok-refusal-in-Ok.refusal w.in-Ok.is w.in_ok-refusal-in-Ok.ensures
           ∙ (λ i. (draft_data (sym w.draft-is i), record { line = c.args.read.now.line; refusal = sym w.refusal-is i }))
       | in-Err w ↦
-          refused-fate d c.args.replaces c.args.read.now w.in-Err.refusal w.in-Err.is
+          refused-fate d c.args.how c.args.read.now w.in-Err.refusal w.in-Err.is
           ∙ (λ i. (draft_data (sym w.draft-is i), record { line = c.args.read.now.line; refusal = sym w.refusal-is i }))
     ]

@@ -11,9 +11,9 @@ pub loop-read-init : goal.loop-read-init
 loop-read-init c =
     let is = c.in_ok-draft.ensures in
     let rows = c.args.rows.now in
-    let replaces = c.args.replaces in (
-      ap (λ l. l ++ fates_of replaces (draft_data c.in_ok-draft.draft) rows) c.new-fates.ensures ∙ trial-begins replaces c.args.page rows (draft_data c.in_ok-draft.draft) is,
-      ap (λ d. d.page.params) is ∙ tried-params replaces (draft_of c.args.page) rows,
+    let how = c.args.how in (
+      ap (λ l. l ++ fates_of how (draft_data c.in_ok-draft.draft) rows) c.new-fates.ensures ∙ trial-begins how c.args.page c.args.header rows (draft_data c.in_ok-draft.draft) is,
+      ap (λ d. d.page.params) is ∙ tried-params how (draft_of c.args.page) c.args.header rows,
     )
 
 pub fate_of-requires : goal.fate_of-requires
@@ -25,23 +25,23 @@ fate_of-requires c = record {
 pub loop-read-preserved : goal.loop-read-preserved
 loop-read-preserved c =
     let rows = c.args.rows.now in
-    let replaces = c.args.replaces in
+    let how = c.args.how in
     let i = c.loop-read.read-index in
     let d = draft_data c.loop-read.draft in
     let m = draft_data c.fate_of.new.draft in
     let fate = c.in_ok-fate.fate in
     let next : drop i rows ≡ c.read-item.result ∷ drop (i + 1) rows = drop_more rows i c.read-item.result c.loop-read-test.true ∙ ap (λ r. r ∷ drop (i + 1) rows) (sym c.read-item.is) in
     let made = c.in_ok-fate.ensures in (
-      fates-more replaces d c.read-item.result m fate made c.loop-read.fates c.push.new.self (trial replaces c.args.page rows) (drop (i + 1) rows)
-          (ap (λ reads. c.loop-read.fates ++ fates_of replaces d reads) (sym next) ∙ c.loop-read.invariant.0) (search rules),
-      fate-params replaces d c.read-item.result m fate made ∙ c.loop-read.invariant.1,
+      fates-more how d c.read-item.result m fate made c.loop-read.fates c.push.new.self (trial how c.args.page c.args.header rows) (drop (i + 1) rows)
+          (ap (λ reads. c.loop-read.fates ++ fates_of how d reads) (sym next) ∙ c.loop-read.invariant.0) (search rules),
+      fate-params how d c.read-item.result m fate made ∙ c.loop-read.invariant.1,
     )
 
 pub returns : goal.returns
 returns c =
-    let replaces = c.args.replaces in
+    let how = c.args.how in
     let d = draft_data c.loop-read.draft in
     let over = c.loop-read-test.false in
     let none : drop c.loop-read.read-index c.args.rows.now ≡ [] = drop_all c.loop-read.read-index c.args.rows.now (omega (arith, over)) in
-    fates-end replaces d c.loop-read.fates (trial replaces c.args.page c.args.rows.now)
-    (ap (λ reads. c.loop-read.fates ++ fates_of replaces d reads) (sym none) ∙ c.loop-read.invariant.0)
+    fates-end how d c.loop-read.fates (trial how c.args.page c.args.header c.args.rows.now)
+    (ap (λ reads. c.loop-read.fates ++ fates_of how d reads) (sym none) ∙ c.loop-read.invariant.0)

@@ -1,0 +1,126 @@
+-- The words of a report's subcommand: what is asked with them, and that nothing else is.
+use Rattle.std.proofs.Common.{◌≡◌, ◌∙◌, ◌||◌, sym, refl, ap, subst, cond, map, ℕ, Bool, true, false, List, [], ◌∷◌, Option, Some, None, Ok, Err, codes, Bor}
+use Rattle.std.specs.List.{find}
+use Rattle.std.specs.Map.{lookup}
+use Rattle.std.specs.Prelude.{⊤, ◌≢◌, option_copied, option_map}
+use Rattle.std.specs.Str.{bytes_eq}
+use Rattle.clap.specs.Walk.{Row, Text, first_of}
+use Rattle.fr_base.proofs.QueryLemmas.{names_open}
+use Rattle.fr_base.specs.QueryNames.{IsQueryRead, IsReportRead}
+use Rattle.fr_base.specs.declared.query.Query.{Query}
+use Rattle.fr_base.specs.declared.query.Query.TheVariants.{Register as OfRegister, Variant as OfVariant, Difference as OfTwo}
+use Rattle.fr_base.specs.declared.report.Report.{Report}
+use Rattle.fr_base.specs.declared.report.Report.TheVariants.{Grants, Frames, Schedule, Gaps, Layout, Load, Rows, Room, Export}
+use Rattle.fr_cli.specs.Reports.{Question, asked_with, row_in, text_of_name}
+use Rattle.fr_cli.specs.Words.{IsAnswerable, IsDeliveryIn, IsJobIn, IsJobOf, IsNumberAt, IsReportJobIn, IsWordAt, asked_by, word_of_delivery}
+use Rattle.fr_cli.specs.declared.delivery.Delivery.{Delivery}
+use Rattle.fr_cli.specs.declared.delivery.DeliveryKind.{DeliveryKind}
+use Rattle.fr_cli.specs.declared.delivery.DeliveryKind.TheVariants.{Import as ByLabel, Replacement, Trial}
+use Rattle.fr_cli.specs.declared.query.Inquiry.{Inquiry}
+use Rattle.fr_cli.specs.declared.reports.ArgName.{ArgName}
+use Rattle.fr_cli.specs.declared.reports.ReportCommand.{ReportCommand}
+use Rattle.fr_cli.specs.declared.words.Job.{Job}
+use Rattle.fr_cli.specs.declared.words.Job.TheVariants.{Run, Create, Migrate, Serve, Ask, Report as ReportOn, Picture, Deliver, Check, Explain}
+
+-- what is seen of a subcommand, and of its copy
+pub copied : (o : Option (Bor ReportCommand)) → option_map (λ command. command.now.query) o ≡ option_map (λ command. command.query) (option_copied o)
+copied None = refl
+copied (Some command) = refl
+
+-- a subcommand is found by its name
+pub found : (name : Text) (all : List ReportCommand)
+    → option_map (λ command. command.query) (find (λ command. bytes_eq name command.name.now) all) ≡ lookup (bytes_eq name) (map row_in all)
+found name [] = refl
+found name (command ∷ others) = by (bytes_eq name command.name.now) (found name others)
+  where
+    by : (b : Bool) → option_map (λ (c : ReportCommand). c.query) (find (λ c. bytes_eq name c.name.now) others) ≡ lookup (bytes_eq name) (map row_in others)
+        → option_map (λ (c : ReportCommand). c.query) (cond b (Some command) (find (λ c. bytes_eq name c.name.now) others))
+        ≡ cond b (Some command.query) (lookup (bytes_eq name) (map row_in others))
+    by true same = refl
+    by false same = same
+
+-- whether a file is delivered by the subcommand of this name
+is_delivery : Text → Bool
+is_delivery name = bytes_eq name (codes "import") || (bytes_eq name (codes "replace") || bytes_eq name (codes "try"))
+
+delivers : (kind : DeliveryKind) → is_delivery (word_of_delivery kind) ≡ true
+delivers (ByLabel label) = refl
+delivers Replacement = refl
+delivers (Trial replaces) = refl
+
+no_delivery : {X : Type 0} (kind : DeliveryKind) (name : Text) → is_delivery name ≡ false → word_of_delivery kind ≡ name → X
+no_delivery kind name other is = let no : true ≡ false = sym (delivers kind) ∙ (ap is_delivery is ∙ other) in cc
+
+-- no report is asked for by a subcommand that delivers a file
+no_question : (kind : DeliveryKind) (rows : List Row) → asked_by (word_of_delivery kind) rows ≡ None
+unfolding asked_with
+no_question (ByLabel label) rows = refl
+no_question Replacement rows = refl
+no_question (Trial replaces) rows = refl
+
+-- where no delivery is of these words, its subcommand has no job
+pub undelivered : (kind : DeliveryKind) (rows : List Row) (job : Option Job) → job ≡ None → ((delivery : Delivery) → IsDeliveryIn rows delivery → ⊥)
+    → IsJobIn job (word_of_delivery kind) rows
+undelivered kind rows (Some job) none lacks = cc
+undelivered kind rows None none lacks = go
+  where
+    go : (job : Job) → IsJobOf job (word_of_delivery kind) rows → ⊥
+    go Run is = no_delivery kind (codes "run") refl is
+    go (Create db config) is = no_delivery kind (codes "create") refl is.0
+    go (Migrate db) is = no_delivery kind (codes "migrate") refl is.0
+    go (Serve db port count seconds) is = no_delivery kind (codes "serve") refl is.0
+    go (Ask db) is = no_delivery kind (codes "ask") refl is.0
+    go (ReportOn db query) is = subst (λ (o : Option Question). IsAnswerable o rows query.query) (no_question kind rows) is.1
+    go (Picture db variant since supplier) is = no_delivery kind (codes "picture") refl is.0
+    go (Deliver db delivery) is = lacks delivery is.2
+    go (Check file) is = no_delivery kind (codes "check") refl is.0
+    go (Explain word) is = no_delivery kind (codes "explain") refl is.0
+
+-- where a word is wanting, none is there
+pub wanting : {X : Type 0} (said : Option Text) (text : Text) → None ≡ said → said ≡ Some text → X
+wanting said text none has = let no : None ≡ Some text = none ∙ has in cc
+
+module _ (rows : List Row) where
+  -- where a word is wanting, none is there
+  no_word : {X : Type 0} (name : ArgName) (text : Bor Text) → first_of (text_of_name name) rows ≡ None → first_of (text_of_name name) rows ≡ Some text.now → X
+  no_word name text none has = let no : None ≡ Some text.now = sym none ∙ has in cc
+
+  -- what cannot be read of the words has no other reading
+  report_unread : (report : Report ArgName ArgName) (e : ⊤) (filled : Report (Bor Text) ℕ)
+      → IsReportRead (IsWordAt rows) (IsNumberAt rows) report (Err e) → IsReportRead (IsWordAt rows) (IsNumberAt rows) report (Ok filled) → ⊥
+  unfolding names_open
+  report_unread Grants e filled none is = cc
+  report_unread Frames e filled none is = cc
+  report_unread Schedule e filled none is = cc
+  report_unread Gaps e filled none is = cc
+  report_unread Load e filled none is = cc
+  report_unread Rows e filled none is = cc
+  report_unread (Layout frame) e filled (Ok f, has, no) is = cc
+  report_unread (Layout frame) e filled (Err _, none, no) (Ok f, has, is) = no_word frame f none has
+  report_unread (Layout frame) e filled (Err _, none, no) (Err _, other, is) = cc
+  report_unread (Room frame number) e filled (Ok f, has, (Ok n, counted, no)) is = cc
+  report_unread (Room frame number) e filled (Ok f, has, (Err _, none, no)) (Ok _, _, (Ok n, counted, is)) = none n counted
+  report_unread (Room frame number) e filled (Ok f, has, (Err _, none, no)) (Ok _, _, (Err _, other, is)) = cc
+  report_unread (Room frame number) e filled (Ok f, has, (Err _, none, no)) (Err _, other, is) = cc
+  report_unread (Room frame number) e filled (Err _, none, no) (Ok f, has, is) = no_word frame f none has
+  report_unread (Room frame number) e filled (Err _, none, no) (Err _, other, is) = cc
+  report_unread (Export header part) e filled (Ok n, counted, no) is = cc
+  report_unread (Export header part) e filled (Err _, none, no) (Ok n, counted, is) = none n counted
+  report_unread (Export header part) e filled (Err _, none, no) (Err _, other, is) = cc
+
+  pub unread : (question : Question) (e : ⊤) (filled : Query (Bor Text) ℕ)
+      → IsQueryRead (IsWordAt rows) (IsNumberAt rows) question (Err e) → IsQueryRead (IsWordAt rows) (IsNumberAt rows) question (Ok filled) → ⊥
+  unfolding names_open
+  unread (OfRegister inventory) e filled none is = cc
+  unread (OfVariant variant report) e filled (Ok v, has, (Ok r, read, no)) is = cc
+  unread (OfVariant variant report) e filled (Ok v, has, (Err e', none, no)) (Ok _, _, (Ok r, read, is)) = report_unread report e' r none read
+  unread (OfVariant variant report) e filled (Ok v, has, (Err e', none, no)) (Ok _, _, (Err _, other, is)) = cc
+  unread (OfVariant variant report) e filled (Ok v, has, (Err e', none, no)) (Err _, other, is) = cc
+  unread (OfVariant variant report) e filled (Err _, none, no) (Ok v, has, is) = no_word variant v none has
+  unread (OfVariant variant report) e filled (Err _, none, no) (Err _, other, is) = cc
+  unread (OfTwo variant from) e filled (Ok v, has, (Ok f, other, no)) is = cc
+  unread (OfTwo variant from) e filled (Ok v, has, (Err _, none, no)) (Ok _, _, (Ok f, other, is)) = no_word from f none other
+  unread (OfTwo variant from) e filled (Ok v, has, (Err _, none, no)) (Ok _, _, (Err _, other, is)) = cc
+  unread (OfTwo variant from) e filled (Ok v, has, (Err _, none, no)) (Err _, other, is) = cc
+  unread (OfTwo variant from) e filled (Err _, none, no) (Ok v, has, is) = no_word variant v none has
+  unread (OfTwo variant from) e filled (Err _, none, no) (Err _, other, is) = cc
