@@ -22,7 +22,7 @@ class Cluster:
 
 @dataclass(frozen=True, order=True, slots=True)
 class Variant:
-    """A variant, and the one that it was opened from: none where it was opened empty."""
+    """A variant, and its parent: none where it was opened empty or flat."""
 
     name: str
     parent: str | None

@@ -126,7 +126,7 @@ class Page(HTMLParser):
             self.list = self.index if given.get("class") == "index" else self.keys
         elif tag == "li":
             self.list.append(["", ""])
-        elif tag in ("a", "i"):
+        elif tag in ("a", "i") and "li" in self.open:
             self.list[-1][1] = given["href" if tag == "a" else "class"]
         elif tag == "table":
             self.tables.append([])

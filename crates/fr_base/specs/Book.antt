@@ -29,7 +29,7 @@ pub record Frame : Type 0 where
   pub signals : List SignalData
 
 -- a plan of the static segment: who holds which slot and channel, and each supplier's frames.
--- Its parent is the variant that it was opened from; a variant that was opened empty has depth 1.
+-- Its parent is the variant that it was opened from; one that was opened empty or flat has none, and depth 1.
 pub record Variant : Type 0 where
   pub parent : Option Name
   pub depth : ℕ

@@ -1,5 +1,5 @@
 -- Sound: the cluster with the book's suppliers is a well formed cluster file. Names have their form, and each row's
--- owner is there. Each variant was opened empty, or from a released one that is one less deep. Grants and placements
+-- owner is there. Each variant has no parent, or a released one that is one less deep. Grants and placements
 -- fit the cluster, whose count of cycles each placement's set has. Each placement lies in grants to its frame's node.
 -- In a cell at most one frame is sent, by one placement. Each frame's signals have names and make a layout of the
 -- payload. A kept import's label is a name, its supplier and variant are there, and its file is within the limits. The
@@ -63,7 +63,7 @@ pub record IsSoundVariant (p : Params) (nodes : Table owned ⊤) (v : Variant) :
   pub frame_limit : (s : Name) → len (own s v.frames) ≤ MAX_FRAMES
   pub depth : v.depth ≤ MAX_DEPTH
 
--- a variant of this parent and depth: one that was opened empty has depth 1; else the parent is a released variant, one less deep
+-- a variant of this parent and depth: one without a parent has depth 1; else the parent is a released variant, one less deep
 abbrev pub IsOpenedFrom : Table names Variant → Option Name → ℕ → Type 0
 IsOpenedFrom variants None depth = depth ≡ 1
 IsOpenedFrom variants (Some name) depth =
@@ -79,7 +79,7 @@ pub record IsSoundImport (suppliers : Table names Key) (variants : Table names V
 
 -- a book under a cluster: the cluster with the book's suppliers is what a cluster file may say, at most 64, with names and keys of
 -- their form, and no key twice, the integrator's too; each node has a name, and its supplier is there; each variant has a name, is
--- sound, and was opened empty, or from a released one that is one less deep; the kept imports are sound; the limits are kept
+-- sound, and has no parent, or a released one that is one less deep; the kept imports are sound; the limits are kept
 pub record IsSound (c : Cluster) (b : Book) : Type 0 where
   pub cluster : IsWellFormed (file_of c b)
   pub nodes : (s n : Name) → IsTrue (contains b.nodes (s, n)) → IsTrue (is_name n) × IsTrue (contains b.suppliers s)

@@ -182,7 +182,7 @@ impl Figure {
 pub struct VariantRow {
     /// Its name.
     pub variant: Name,
-    /// The variant that it was opened from; none where it was opened empty.
+    /// Its parent; none where it was opened empty or flat.
     pub parent: Option<Name>,
     /// 1 to 16: 1 without a parent, or one more than the parent's.
     pub depth: u32,

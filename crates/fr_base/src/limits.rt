@@ -9,7 +9,7 @@ pub const MAX_NODES: usize = 64;
 /// Variants of a register.
 pub const MAX_VARIANTS: usize = 64;
 
-/// The depth of a variant: 1 where it was opened empty, else one more than that of its parent.
+/// The depth of a variant: 1 where it has no parent, else one more than its parent has.
 pub const MAX_DEPTH: u32 = 16;
 
 /// Frames of a supplier in a variant.

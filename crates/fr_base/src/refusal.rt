@@ -33,7 +33,7 @@ pub enum Refusal {
     NoVariant,
     /// The variant is released, and never changes.
     Released,
-    /// The parent is not released.
+    /// The variant from which another is opened is not released.
     NotReleased,
     /// The parent is of depth 16.
     TooDeep,

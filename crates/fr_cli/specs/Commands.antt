@@ -141,11 +141,6 @@ abbrev pub check_texts : App
 check_texts = with_rule (with_rule (with_rule (with_rule (new_app (codes "check")) (free_word (codes "CONFIG"))) (named (codes "requests")))
     (named (codes "rows"))) (named (codes "path"))
 
--- `check`, with the texts that it may take
-abbrev pub check_texts : App
-check_texts = with_rule (with_rule (with_rule (with_rule (new_app (codes "check")) (free_word (codes "CONFIG"))) (named (codes "requests")))
-    (named (codes "rows"))) (named (codes "path"))
-
 abbrev pub check : App
 check = with_rule check_texts (named (codes "register"))
 

@@ -189,7 +189,7 @@ const VARIANTS_ABOUT: &str =
 
 const VARIANTS_HELP: &str = "\
 Each line: name, parent, depth, and open or released. A variant that was opened empty
-has - for its parent. Each supplier sees all variants.
+or flat has - for its parent. Each supplier sees all variants.
 
 Example:
   slotplan variants car.db

@@ -5,7 +5,6 @@ use Rattle.std.specs.List.{flat_map, range_with_len}
 use Rattle.fr_base.specs.Channels.{text_of_channels}
 use Rattle.fr_base.specs.declared.channel.Channels.{Channels}
 use Rattle.fr_base.specs.declared.channel.Channels.TheVariants as channels
-use Rattle.fr_base.specs.declared.answer.DifferenceRow.{DifferenceRow}
 use Rattle.fr_base.specs.declared.name.Name.{Name}
 use Rattle.fr_base.specs.declared.params.Params.{Params}
 use Rattle.fr_base.specs.declared.params.RawParams.{RawParams}
@@ -42,7 +41,7 @@ unfoldable pub opened_text : Name → List ℕ
 opened_text parent = together (codes "It was opened from " ∷ parent ∷ codes "," ∷ [])
 
 unfoldable pub parent_text : Option Name → List ℕ
-parent_text None = fixed_text fixed.OpenedEmpty
+parent_text None = fixed_text fixed.NoParent
 parent_text (Some parent) = opened_text parent
 
 unfoldable pub state_text : Bool → List ℕ

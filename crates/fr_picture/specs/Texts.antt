@@ -6,7 +6,7 @@ use Rattle.std.specs.Prelude.{◌≡◌, ◌++◌, ℕ, List, String, codes}
 use Rattle.std.specs.List.{flat_map}
 use Rattle.std.specs.String.{string_bytes}
 use Rattle.fr_picture.specs.declared.texts.Fixed.{Fixed}
-use Rattle.fr_picture.specs.declared.texts.Fixed.TheVariants.{OpenedEmpty, Never, StripStart, StripEnd, NoStrip, PathStart, CyclesStart, TitleEnd, PathEnd, LinkStart, OddShade, TagEnd, LinkEnd, TextEnd, Patterns, OverStart, LaneStart, KeyStart, FreeStart, Free, GapOfNobody, GapOfOthers, LaneEnd, GroupEnd, LegendStart, LegendEnd, LegendEndOfOne, OverviewStart, OverviewEnd, ShapesStart, NumbersStart, BandA, BandB, BandsAB, SlotRow, Comma, SlotTableEnd, ChangeStyle, IndexStart, PageEnd}
+use Rattle.fr_picture.specs.declared.texts.Fixed.TheVariants.{NoParent, Never, StripStart, StripEnd, NoStrip, PathStart, CyclesStart, TitleEnd, PathEnd, LinkStart, OddShade, TagEnd, LinkEnd, TextEnd, Patterns, OverStart, LaneStart, KeyStart, FreeStart, Free, GapOfNobody, GapOfOthers, LaneEnd, GroupEnd, LegendStart, LegendEnd, LegendEndOfOne, OverviewStart, OverviewEnd, ShapesStart, NumbersStart, BandA, BandB, BandsAB, SlotRow, Comma, SlotTableEnd, ChangeStyle, IndexStart, PageEnd}
 
 -- the text was appended to what stood there
 abbrev pub Appends : {Z : Type 0} → String Z → String Z → List ℕ → Type 0
@@ -18,7 +18,7 @@ together texts = flat_map (λ text. text) texts
 
 -- the texts that are always the same
 unfoldable pub fixed_text : Fixed → List ℕ
-fixed_text OpenedEmpty = codes "It was opened empty,"
+fixed_text NoParent = codes "It has no parent,"
 fixed_text Never = codes "<td>never"
 fixed_text StripStart = codes "<td><svg role=none><path d="
 fixed_text StripEnd = codes " /></svg>"

@@ -143,7 +143,7 @@ fn push_parent(parent: Option<Name>, out: &mut String) -> Result<(), NoMemory>
 {
     match parent {
         Some(parent) => push_opened(parent, out),
-        None => push_fixed(Fixed::OpenedEmpty, out),
+        None => push_fixed(Fixed::NoParent, out),
     }
 }
 

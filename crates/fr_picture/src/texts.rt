@@ -15,7 +15,7 @@ pub(crate) fn push(text: &str, out: &mut String) -> Result<(), NoMemory>
 #[derive(Clone, Copy)]
 pub(crate) enum Fixed {
     /// A variant without a parent.
-    OpenedEmpty,
+    NoParent,
     /// The gap of a frame that is never sent.
     Never,
     /// The beginning of a payload's bits.
@@ -105,7 +105,7 @@ impl Fixed {
         ensures { result.now ≡ fixed_text self }
     {
         match self {
-            Fixed::OpenedEmpty => OPENED_EMPTY,
+            Fixed::NoParent => NO_PARENT,
             Fixed::Never => NEVER,
             Fixed::StripStart => STRIP_START,
             Fixed::StripEnd => STRIP_END,
@@ -149,7 +149,7 @@ impl Fixed {
     }
 }
 
-const OPENED_EMPTY: &str = "It was opened empty,";
+const NO_PARENT: &str = "It has no parent,";
 
 const NEVER: &str = "<td>never";
 

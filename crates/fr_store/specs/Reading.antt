@@ -86,7 +86,7 @@ holder_in b v at = held_in (get b.variants v) at
 abbrev pub WasOpened : List VariantRow → VariantRow → Type 0
 WasOpened variants row = depth_after variants row.parent ≡ Ok row.depth
 
--- there are no more variants than a register may have, and each was opened empty or from another of
+-- there are no more variants than a register may have, and each has no parent, or another of
 -- them
 pub record AreOpened (variants : List VariantRow) : Type 0 where
   pub limit : length variants ≤ MAX_VARIANTS

@@ -20,7 +20,7 @@ use fr_tables::cluster;
 use sqlite::{Alter, Connection, Row};
 use std::alloc::Global;
 
-/// Whether a register can have the variants that the tables tell: each was opened empty, or from
+/// Whether a register can have the variants that the tables tell: each has no parent, or
 /// another of them. Want of memory counts as no.
 fn has_opened_variants<S: Alter>(alloc: Global, conn: &mut Connection<S>) -> bool
     requires { conn.old.in_transaction ≡ false }

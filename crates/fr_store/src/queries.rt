@@ -72,7 +72,7 @@ impl<S: Alter> Store<S> {
         first_holder(rows.as_slice())
     }
 
-    /// The variants, by name. Each was opened empty or from one of them. The only refusal is
+    /// The variants, by name. Each has no parent, or one of them. The only refusal is
     /// `Unavailable`.
     pub fn variants(&mut self, alloc: Global) -> Result<Vec<VariantRow>, StoreFault>
         ensures tells { OnlyTells S.Store

@@ -39,7 +39,7 @@ pub(crate) fn opened_variants(alloc: Global, rows: &[Row]) -> Option<Vec<Variant
     }
 }
 
-// Whether each of the variants was opened empty, or from one of them.
+// Whether each of the variants has no parent, or one of them.
 fn each_was_opened(variants: &[VariantRow]) -> bool
     ensures { IsTrue result → All (WasOpened variants.now) variants.now }
 {

@@ -70,7 +70,7 @@ cluster_line (Channels cs) = line (codes "channels" ∷ text_of_channels cs ∷ 
 cluster_line (Number figure n) = line (key_of_figure figure ∷ decimal n ∷ [])
 cluster_line (Supplier s) = line (codes "supplier" ∷ s ∷ [])
 
--- the variant that another was opened from, or a hyphen where it was opened empty
+-- the parent of a variant, or a hyphen where it has none
 abbrev pub parent_word : Option Name → List ℕ
 parent_word None = codes "-"
 parent_word (Some parent) = parent

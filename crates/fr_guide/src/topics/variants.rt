@@ -34,10 +34,10 @@ To go on, let the integrator open a new variant from this one, and change the ne
 
 const NOT_RELEASED: Topic = Topic {
     word: "NotReleased",
-    about: "refusal 12. The parent is not released.",
+    about: "refusal 12. The variant from which another is opened is not released.",
     help: "\
 It comes for `open_variant`: a variant is opened from a released variant, or empty.
-Release the parent first. Then it never changes again.
+Release the variant that `from` names. Then it never changes again.
 Or leave `from` out, and the variant is opened empty.
 ",
 };

@@ -8,5 +8,6 @@ pub returns : goal.returns
 returns c =
     let new : IsReadAs (new_app (codes "picture")) c.after_help.result = search rules in
     with_arg _ _ _ _ _ c.in_ok-command.ensures
+    (with_arg _ _ _ _ _ c.in_ok-arg-3.ensures
     (with_arg _ _ _ _ _ c.in_ok-arg-2.ensures
-    (with_arg _ _ _ _ _ c.in_ok-arg.ensures new c.db.ensures) c.variant.ensures) c.supplier.ensures
+    (with_arg _ _ _ _ _ c.in_ok-arg.ensures new c.db.ensures) c.variant.ensures) c.named.ensures) c.supplier.ensures

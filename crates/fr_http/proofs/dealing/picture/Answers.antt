@@ -2,7 +2,7 @@ use Rattle.std.proofs.Common.{rules, ◌≡◌, Err, sym, subst}
 use Rattle.fr_base.specs.declared.refusal.Refusal.TheVariants.{Unavailable}
 use Rattle.fr_picture.specs.Plans.{since_of}
 use Rattle.fr_http.specs.Connection.{HasDrawn}
-use Rattle.fr_http.proofs.DealingLaws.{page_lacked}
+use Rattle.fr_http.proofs.DealingLaws.{page_drawn, page_lacked}
 use Rattle.fr_http.proofs.dealing.picture.Goals as goal
 
 pub returns-in_err-page : goal.returns-in_err-page
@@ -13,3 +13,10 @@ returns-in_err-page g c =
           (page_lacked _ _ _ c.args.view.now.reader c.args.view.now.variant.now (since_of c.args.view.now.since) c.in_ok-plan.plan c.in_ok-plan.ensures.reads);
       falls = search rules;
     }
+
+pub returns : goal.returns
+returns g c = record {
+  does = page_drawn _ _ _ c.args.view.now.reader c.args.view.now.variant.now (since_of c.args.view.now.since) c.in_ok-plan.plan c.into_bytes.result
+      c.in_ok-plan.ensures.reads (search rules);
+  falls = search rules;
+}
