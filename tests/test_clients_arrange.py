@@ -237,8 +237,8 @@ class Sending(Arranging):
     def test_stop_between(self):
         """The server ends behind some of the requests; the same call does the rest."""
         words = *self.tables(NODES, self.WANTED), "--key", "integrator.key", "--do"
-        # (seven reports are read before: the eighth and the ninth connection are the first two requests)
-        with self.served("--count", "9") as (server, port):
+        # (four reports are read before: the fifth and the sixth connection are the first two requests)
+        with self.served("--count", "6") as (server, port):
             url = f"http://127.0.0.1:{port}"
             status, written, said = self.client("arrange", url, "v1", *words)
         self.see("what was done", (2, "- GRANT 0002 A n1 s2\n- GRANT 0002 B n1 s2\n"), (status, written))
