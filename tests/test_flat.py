@@ -179,6 +179,14 @@ class InAFile(FileCase):
         self.tell(["diff", "car.db", "v2", "w"], b"")
         self.sound()
 
+    def test_picture(self):
+        """A picture of it is that of the other one, but for the head: it has no parent."""
+        self.ask(opened("flat_one", "v2", flat=True).encode(), DONE + b"\n")
+        other = ran(["picture", "car.db", "v2"], self.folder)[1]
+        head, flat_head = b"It was opened from v1, and is released.", b"It has no parent, and is open."
+        self.see("what the other one's head says", 1, other.count(head))
+        self.tell(["picture", "car.db", "flat_one"], other.replace(head, flat_head).replace(b"Variant v2", b"Variant flat_one").replace(b"Plan of v2", b"Plan of flat_one"))
+
     def test_refused_ones_leave_nothing(self):
         before = self.rows("SELECT * FROM variants")
         for line, refusal in (

@@ -17,9 +17,9 @@ COLOUR = re.compile(r"^\.c(\d)\{fill:(#\w{6});background:(#\w{6});stroke:(#\w{6}
 
 def head_of(register, opened, supplier):
     """The sentences above the drawing: the variant, and the cluster's figures."""
-    variant, parent, of = opened["variant"], opened.get("from"), register.cluster
+    variant, parent, of = opened["variant"], None if opened.get("flat") else opened.get("from"), register.cluster
     released = any(request["variant"] == variant for request in register.done("release"))
-    told = f"Variant {variant} It was opened {'from ' + parent if parent else 'empty'}, and is {'released' if released else 'open'}."
+    told = f"Variant {variant} It {'was opened from ' + parent if parent else 'has no parent'}, and is {'released' if released else 'open'}."
     return (
         told
         + (f" This page shows what is {supplier}'s alone." if supplier else "")
