@@ -12,6 +12,7 @@ MAY = {
     "fr_cli/src/creating.rt": {"fs", "os"},
     "fr_cli/src/local_files.rt": {"fs"},
     "fr_cli/src/local_listener.rt": {"net", "time", "mio"},
+    "fr_cli/src/looking.rt": {"fs", "os"},
     "fr_cli/src/timed_stream.rt": {"net", "time"},
     "fr_cli/src/watch.rt": {"fs", "os"},
     "fr_desks/src/file_desk.rt": {"fs"},
