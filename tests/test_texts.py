@@ -384,7 +384,7 @@ def is_refused_for_itself(reply):
 
 
 class Paths(RegisterCase):
-    """`check --path` tells of each name, number and word in a path that is none, and of a path that no route has"""
+    """`check --path` tells of each name, number and word in a path that is none, and of a path that no route has."""
 
     def setUp(self):
         super().setUp()
