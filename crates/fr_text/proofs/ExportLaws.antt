@@ -19,7 +19,7 @@ use Rattle.fr_base.specs.Cluster.{Cluster}
 use Rattle.fr_base.specs.ExportedLaws.{exported_rows}
 use Rattle.fr_base.specs.Exports.{exported, frame_records, placement_records, signal_records, part_of}
 use Rattle.fr_base.specs.Keys.{owned, placement_order}
-use Rattle.fr_base.specs.ImportRows.{row_of, rows_of_body, spelled}
+use Rattle.fr_base.specs.ImportRows.{header_of_body, row_of, rows_of_body, spelled}
 use Rattle.fr_base.specs.Layouts.{lies_inside}
 use Rattle.fr_base.specs.Names.{is_name}
 use Rattle.fr_base.specs.Parameters.{check_params}
@@ -55,7 +55,7 @@ use Rattle.fr_base.proofs.ParametersLaws.{few_words}
 use Rattle.fr_base.proofs.SoundRefusing.{gives_when}
 use Rattle.fr_base.proofs.SoundTables.{only-stood}
 use Rattle.fr_base.proofs.TableLaws.{equal, none_above}
-use Rattle.fr_text.proofs.ExportLemmas.{IsShort, file_text, file_read, file_short, part_all, part_few}
+use Rattle.fr_text.proofs.ExportLemmas.{IsShort, file_text, file_header, file_read, file_short, part_all, part_few}
 use Rattle.fr_text.proofs.FileLemmas.{IsRecord}
 use Rattle.fr_text.proofs.RecordLemmas.{AreSmall, IsFineFrame, IsFinePlacement, IsFineSignal, frame_words, frame_read, placement_words, placement_read, signal_words, signal_read}
 use Rattle.fr_text.specs.AnswerText.{report_of}
@@ -265,8 +265,9 @@ signal_short r h =
 
 -- ---- what is sent
 
--- what the laws say of rows
-record IsGood (p : Params) (rows : ReportRows) : Type 0 where
+-- what the laws say of rows below a header
+record IsGood (p : Params) (header : Header) (rows : ReportRows) : Type 0 where
+  begins : header_of_body (sent rows) ≡ Some header
   read : rows_of_body p (sent rows) ≡ read_from 2 (exported_rows rows)
   few : length (exported_rows rows) ≤ MAX_ROWS
   short : length (sent rows) ≤ MAX_IMPORT_BYTES
@@ -279,19 +280,20 @@ module _ {R : Type 0} (p : Params) (header : Header) (fields : R → List (List 
   -- records of words that are read as their rows, and short
   good : (rows : ReportRows) (records : List R) → exported_rows rows ≡ map row records → sent rows ≡ plain_lines (comma_line (spelled header) ∷ map line records)
       → length records ≤ MAX_ROWS → AllByRecursion (λ r. IsRecord (fields r)) records → AllByRecursion (λ r. row_of p header (fields r) ≡ Ok (row r)) records
-      → AllByRecursion (λ r. IsShort (fields r)) records → IsGood p rows
+      → AllByRecursion (λ r. IsShort (fields r)) records → IsGood p header rows
   good rows records are says few words reads shorts =
       let text : sent rows ≡ file_text header (map fields records) = says ∙ ap (λ lines. plain_lines (comma_line (spelled header) ∷ lines)) (lines_are records) in
       let count : length (map row records) ≡ length records = length-map records row in
       let fields_count : length (map fields records) ≡ length records = length-map records fields in
       record {
+        begins = rw text (file_header header (map fields records) (all_mapped IsRecord fields records words));
         read = rw (text, are) (file_read p header fields row records few words reads);
         few = rw (are, count) few;
         short = rw text (file_short header (map fields records) (rw fields_count few) (all_mapped IsShort fields records shorts));
       }
 
 export_good : (c : Cluster) (b : Book) → IsSound c b → (v : Name) (variant : Variant) → get b.variants v ≡ Some variant → (s : Name) (header : Header) (part : ℕ)
-    → IsGood c.params (exported header part (own s variant.frames).rows)
+    → IsGood c.params header (exported header part (own s variant.frames).rows)
 unfolding exported report_of lines_of lines_of_rows header_line frame_record placement_record signal_record
 export_good c b sound v variant there s Frames part =
     let lists = map frame_records (mine c b sound v variant there s) in
@@ -331,10 +333,10 @@ is_exported c b s v header part rows is = by (get b.variants v) refl is
     by None there e = cc
     by (Some variant) there e = record { variant = variant; there = there; are = same_ok _ rows _ refl e }
 
-found_good : (c : Cluster) (b : Book) (s v : Name) (header : Header) (part : ℕ) (rows : ReportRows) → IsSound c b → IsExport c b s v header part rows → IsGood c.params rows
+found_good : (c : Cluster) (b : Book) (s v : Name) (header : Header) (part : ℕ) (rows : ReportRows) → IsSound c b → IsExport c b s v header part rows → IsGood c.params header rows
 found_good c b s v header part rows sound is =
     let of = is_exported c b s v header part rows is in
-    subst (IsGood c.params) of.are (export_good c b sound v of.variant of.there s header part)
+    subst (IsGood c.params header) of.are (export_good c b sound v of.variant of.there s header part)
 
 pub export_is_read_back : ExportIsReadBack
 export_is_read_back c b s v header part rows sound is =
@@ -343,3 +345,7 @@ export_is_read_back c b s v header part rows sound is =
 
 pub export_is_within_bytes : ExportIsWithinBytes
 export_is_within_bytes c b s v header part rows sound is = (found_good c b s v header part rows sound is).short
+
+-- what a supplier is sent of an export begins with its header
+pub export_begins : (c : Cluster) (b : Book) (s v : Name) (header : Header) (part : ℕ) (rows : ReportRows) → IsSound c b → IsExport c b s v header part rows → header_of_body (sent rows) ≡ Some header
+export_begins c b s v header part rows sound is = (found_good c b s v header part rows sound is).begins

@@ -6,7 +6,7 @@ use Rattle.std.specs.List.{AllByRecursion}
 use Rattle.std.proofs.lemmas.Bool.{leb-true}
 use Rattle.std.proofs.lemmas.List.{length-map}
 use Rattle.fr_base.specs.Exports.{fitting, part_of}
-use Rattle.fr_base.specs.ImportRows.{header_of, records_of, row_of, rows_below, rows_from, rows_of_body, rows_of_records, spelled, up_to_refused}
+use Rattle.fr_base.specs.ImportRows.{header_in, header_of, header_of_body, records_of, row_of, rows_below, rows_from, rows_of_body, rows_of_records, spelled, up_to_refused}
 use Rattle.fr_base.specs.declared.limits.TheConstants.{MAX_ROWS}
 use Rattle.fr_base.specs.declared.import.Header.{Header}
 use Rattle.fr_base.specs.declared.import.Header.TheVariants.{Frames, Placements, Signals}
@@ -95,6 +95,11 @@ records_are header records h =
     let few : length lines ≤ length (plain_lines lines) = lines_count lines in
     ap (λ text. records_from default_config (length text + 1) st.StartRecord text) (no_mark header records)
     ∙ records_read (spelled header ∷ records) (length (file_text header records) + 1) (header_words header, h) (omega (arith, count, few))
+
+-- so it begins with this header, whether or not records follow
+pub file_header : (header : Header) (records : List (List (List ℕ))) → AllByRecursion IsRecord records → header_of_body (file_text header records) ≡ Some header
+unfolding header_of_body
+file_header header records h = ap header_in (records_are header records h) ∙ header_is header
 
 module _ {R : Type 0} (p : Params) (header : Header) (fields : R → List (List ℕ)) (row : R → Row) where
   rows_are : (line : ℕ) (records : List R) → line + length records ≤ 514 → AllByRecursion (λ r. row_of p header (fields r) ≡ Ok (row r)) records

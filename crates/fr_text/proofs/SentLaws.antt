@@ -18,8 +18,9 @@ use Rattle.fr_base.specs.declared.name.Name.{Name}
 use Rattle.fr_base.specs.declared.params.Params.{Params}
 use Rattle.fr_base.proofs.ExportedLaws.{changes_nothing}
 use Rattle.fr_base.proofs.ImportedExports.{is_imported}
-use Rattle.fr_text.specs.ExportLaws.{AreSentFrom, IsExport, MayBeLabelled, SentBackChangesNothing, SentIsImported, read_from, sent}
-use Rattle.fr_text.proofs.ExportLaws.{export_is_read_back, export_is_within_bytes, is_exported}
+use Rattle.fr_base.proofs.WholeExports.{whole_export_changes_nothing}
+use Rattle.fr_text.specs.ExportLaws.{AreSentFrom, IsExport, MayBeLabelled, SentBackChangesNothing, SentWholeChangesNothing, SentIsImported, read_from, sent}
+use Rattle.fr_text.proofs.ExportLaws.{export_begins, export_is_read_back, export_is_within_bytes, is_exported}
 
 -- ---- what is sent is read
 
@@ -46,6 +47,15 @@ sent_back_changes_nothing c b s v x header part rows sound known there opened is
     let are = are_of c b s v sound x there header part rows is in
     changes_nothing c b s v x header part (sent rows) sound known there opened (export_is_within_bytes c b s v header part rows sound is)
     (subst (λ r. ReadsAs c.params (sent rows) (exported_rows r)) are (reads_as c b s v sound header part rows is))
+    ∙ ap (λ r. record { book = b; answer = Replaced (length (exported_rows r)) }) (sym are)
+
+pub sent_whole_changes_nothing : SentWholeChangesNothing
+sent_whole_changes_nothing c b s v x header rows behind sound known there opened is next none =
+    let are = are_of c b s v sound x there header 0 rows is in
+    whole_export_changes_nothing c b s v x header (sent rows) sound known there opened (export_is_within_bytes c b s v header 0 rows sound is)
+    (export_begins c b s v header 0 rows sound is)
+    (subst (λ r. ReadsAs c.params (sent rows) (exported_rows r)) are (reads_as c b s v sound header 0 rows is))
+    (ap exported_rows (sym (are_of c b s v sound x there header 1 behind next)) ∙ none)
     ∙ ap (λ r. record { book = b; answer = Replaced (length (exported_rows r)) }) (sym are)
 
 -- ---- elsewhere

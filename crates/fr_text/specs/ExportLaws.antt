@@ -1,7 +1,8 @@
 -- Export's laws: what a supplier is sent of an export is read as an import's file. Its rows are
 -- exactly the records, none is refused, and the file is within the limits of an import. So, sent
--- back, it changes nothing. All parts, imported elsewhere, bring the supplier's frames along.
-use Rattle.std.specs.Prelude.{◌≡◌, ◌≢◌, ℕ, suc, ◌+◌, ◌≤◌, List, [], ◌∷◌, ◌++◌, map, length, false, Some, None, Ok, IsTrue, IsFalse, All, AllPairs}
+-- back, it changes nothing; nor does a part that has all records, sent back as a whole. All parts,
+-- imported elsewhere, bring the supplier's frames along.
+use Rattle.std.specs.Prelude.{◌≡◌, ◌≢◌, ℕ, suc, ◌+◌, ◌≤◌, List, [], ◌∷◌, ◌++◌, map, length, true, false, Some, None, Ok, IsTrue, IsFalse, All, AllPairs}
 use Rattle.fr_base.specs.Alone.{answers_to, book_after}
 use Rattle.fr_base.specs.Book.{Variant, Book, own, own_grants}
 use Rattle.fr_base.specs.Cluster.{Cluster}
@@ -57,6 +58,15 @@ abbrev pub SentBackChangesNothing : Type 0
 SentBackChangesNothing = (c : Cluster) (b : Book) (s v : Name) (x : Variant) (header : Header) (part : ℕ) (rows : ReportRows) →
     IsSound c b → IsTrue (knows b (Supplier s)) → get b.variants v ≡ Some x → IsFalse x.released → IsExport c b s v header part rows
     → step c b (Supplier s) (Replace v false (sent rows)) ≡ record { book = b; answer = Replaced (length (exported_rows rows)) }
+
+-- In a sound book a supplier sends back what it was sent of part 0 of its own export of an open
+-- variant, of any kind, as a whole replacement there. Part 1 has no record. It changes nothing, and
+-- is answered Replaced, with the count of its rows.
+abbrev pub SentWholeChangesNothing : Type 0
+SentWholeChangesNothing = (c : Cluster) (b : Book) (s v : Name) (x : Variant) (header : Header) (rows behind : ReportRows) →
+    IsSound c b → IsTrue (knows b (Supplier s)) → get b.variants v ≡ Some x → IsFalse x.released →
+    IsExport c b s v header 0 rows → IsExport c b s v header 1 behind → exported_rows behind ≡ []
+    → step c b (Supplier s) (Replace v true (sent rows)) ≡ record { book = b; answer = Replaced (length (exported_rows rows)) }
 
 -- ---- elsewhere
 

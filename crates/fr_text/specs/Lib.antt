@@ -3,6 +3,7 @@ pub mod SupplierTexts
 pub mod Fields
 pub mod Script
 pub mod RequestText
+pub mod Flaws
 pub mod Faults
 pub mod ImportText
 pub mod Words

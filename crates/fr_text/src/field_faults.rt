@@ -1,12 +1,13 @@
 //! Which fields of a request are unknown, missing, of another kind than its form has, or given
 //! without the field that they need.
-ghost use Rattle.std.specs.Prelude.{◌≡◌, ◌∷◌, ◌&&◌, not, IfOk, OnOk, codes, is_some, map, option_map};
-ghost use Rattle.std.specs.List.{list_all, list_any};
+ghost use Rattle.std.specs.Prelude.{◌≡◌, ◌++◌, ◌&&◌, not, IfOk, OnOk, is_some, map, option_map};
+ghost use Rattle.std.specs.List.{filter_map, list_all, list_any};
 ghost use Rattle.std.specs.Str.{bytes_eq};
 ghost use Rattle.serde_json.specs.View.{view};
 ghost use Rattle.fr_base.specs.Forms.{field_in, fields_of};
-ghost use Rattle.fr_text.specs.Fields.{fields_in, has_field, has_just, has_kind, is_among, is_given, is_of_kind, names_in, only};
+ghost use Rattle.fr_text.specs.Fields.{fields_in, has_field, has_just, has_kind, is_among, is_given, is_of_kind, names_in, names_of, only};
 ghost use Rattle.fr_text.specs.Faults.{are_none};
+ghost use Rattle.fr_text.specs.Flaws.{flaw_in, flaw_of, flaws_in, stranger};
 
 use crate::fields::{Fields, field, whole};
 use fr_base::{Field, Form, Kind, NoMemory};
@@ -35,8 +36,10 @@ pub(crate) fn field_faults<'v>(
     form: &Form,
     fields: &'v Fields,
 ) -> Result<Vec<FieldFault<'v>>, NoMemory>
-    ensures { IfOk result (λ faults.
+    ensures none { IfOk result (λ faults.
         are_none faults.items ≡ has_just (fields_of form.now) (fields_in fields.now)) }
+    ensures which { IfOk result (λ faults.
+        map flaw_of faults.items ≡ flaws_in (fields_of form.now) (fields_in fields.now)) }
 {
     let mut faults = Vec::new(alloc);
     add_unknown(&mut faults, form, fields)?;
@@ -50,8 +53,10 @@ fn add_unknown<'v>(
     form: &Form,
     fields: &'v Fields,
 ) -> Result<(), NoMemory>
-    ensures { OnOk result (are_none faults.new.items ≡ are_none faults.old.items
+    ensures none { OnOk result (are_none faults.new.items ≡ are_none faults.old.items
         && only (names_in (fields_of form.now)) (fields_in fields.now)) }
+    ensures which { OnOk result (map flaw_of faults.new.items ≡ map flaw_of faults.old.items
+        ++ filter_map (stranger (names_in (fields_of form.now))) (names_of (fields_in fields.now))) }
 {
     for name in fields.keys() {
         if !has_name(form, name.as_str()) {
@@ -81,8 +86,10 @@ fn add_bad<'v>(
     form: &Form,
     fields: &'v Fields,
 ) -> Result<(), NoMemory>
-    ensures { OnOk result (are_none faults.new.items ≡ are_none faults.old.items
+    ensures none { OnOk result (are_none faults.new.items ≡ are_none faults.old.items
         && list_all (has_field (fields_in fields.now)) (fields_of form.now)) }
+    ensures which { OnOk result (map flaw_of faults.new.items ≡ map flaw_of faults.old.items
+        ++ filter_map (flaw_in (fields_in fields.now)) (fields_of form.now)) }
 {
     for asked in form.fields {
         if let Some(fault) = fault_of(asked, fields) {
@@ -93,8 +100,10 @@ fn add_bad<'v>(
 }
 
 // What is wrong with this field of the form.
+#[tactic(auto, unfolding(crate::specs::Flaws::flaw_in))]
 fn fault_of<'v>(asked: &Field, fields: &'v Fields) -> Option<FieldFault<'v>>
-    ensures { is_some result ≡ not (has_field (fields_in fields.now) (field_in asked.now)) }
+    ensures any { is_some result ≡ not (has_field (fields_in fields.now) (field_in asked.now)) }
+    ensures which { option_map flaw_of result ≡ flaw_in (fields_in fields.now) (field_in asked.now) }
 {
     let value = field(fields, asked.name);
     if !is_there(asked.kind, value) {

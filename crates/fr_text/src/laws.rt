@@ -1,6 +1,6 @@
 //! Laws of the definitions: what is written for a request or an export is read back. So an export
 //! that is sent back changes nothing, and elsewhere it brings the supplier's frames along.
-ghost use Rattle.fr_text.specs.ExportLaws.{ExportIsReadBack, ExportIsWithinBytes, SentBackChangesNothing, SentIsImported};
+ghost use Rattle.fr_text.specs.ExportLaws.{ExportIsReadBack, ExportIsWithinBytes, SentBackChangesNothing, SentIsImported, SentWholeChangesNothing};
 ghost use Rattle.fr_text.specs.Laws.{WrittenIsReadBack};
 
 /// JSON of the fields that are written for a request, with numbers below 2^32, is read back as that request.
@@ -22,6 +22,12 @@ pub fn export_is_within_bytes()
 /// replacement, changes nothing.
 pub fn sent_back_changes_nothing()
     ensures { SentBackChangesNothing }
+{}
+
+/// What a supplier is sent of part 0 of its own export of an open variant of a sound book, where part 1 has no record, sent
+/// back there as a whole replacement, changes nothing.
+pub fn sent_whole_changes_nothing()
+    ensures { SentWholeChangesNothing }
 {}
 
 /// What a supplier is sent of all parts of its exports of a variant of a sound book, imported into an open variant of one

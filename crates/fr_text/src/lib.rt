@@ -26,7 +26,7 @@ pub use import_text::{
 };
 pub use laws::{
     export_is_read_back, export_is_within_bytes, sent_back_changes_nothing, sent_is_imported,
-    written_is_read_back,
+    sent_whole_changes_nothing, written_is_read_back,
 };
 pub use lines::{LINE_BYTES, RequestLines, key_and_text, next_line, split_once, split_script};
 pub use output::{Output, WRITE_RETRIES, WriteFailed};
