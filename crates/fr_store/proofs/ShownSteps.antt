@@ -18,25 +18,25 @@ abbrev pub Said : (Tables → Type 0) → State → State → Type 0
 Said says old new = HasCleanDisk new → HasTables old.now → says (tables_of old) × IsUnchanged old new
 
 -- a read after another one says of the first tables what it says of those that it reads
-pub reads_then : {X E : Type 0} (First : Tables → Type 0) (Then Last : Tables → X → Type 0) (old mid new : State) (r : Result X E) → Survives mid new (λ _. ⊥) → Said First old mid → ((t : Tables) (x : X) → First t → Then t x → Last t x)
-    → Reads Then mid new r → Reads Last old new r
-reads_then First Then Last old mid new (Ok x) after first join then clean was =
+pub reads_after : {X E : Type 0} (First : Tables → Type 0) (Second Last : Tables → X → Type 0) (old mid new : State) (r : Result X E) → Survives mid new (λ _. ⊥) → Said First old mid → ((t : Tables) (x : X) → First t → Second t x → Last t x)
+    → Reads Second mid new r → Reads Last old new r
+reads_after First Second Last old mid new (Ok x) after first join second clean was =
     let clean_mid : HasCleanDisk mid = omega (arith, after.clean, clean) in
     let one = first clean_mid was in
-    let two = then clean (has_still old mid one.1 was) in
-    (join (tables_of old) x one.0 (subst (λ t. Then t x) (same_tables old mid one.1) two.0), unchanged_then old mid new one.1 two.1)
-reads_then First Then Last old mid new (Err e) after first join then clean was =
+    let two = second clean (has_still old mid one.1 was) in
+    (join (tables_of old) x one.0 (subst (λ t. Second t x) (same_tables old mid one.1) two.0), unchanged_then old mid new one.1 two.1)
+reads_after First Second Last old mid new (Err e) after first join second clean was =
     let clean_mid : HasCleanDisk mid = omega (arith, after.clean, clean) in
     let one = first clean_mid was in
-    stays_then old mid new one.1 (then clean (has_still old mid one.1 was))
+    stays_then old mid new one.1 (second clean (has_still old mid one.1 was))
 
 -- two reads that did not fail
-pub said_then : (First Then Both : Tables → Type 0) (old mid new : State) → Survives mid new (λ _. ⊥) → Said First old mid → ((t : Tables) → First t → Then t → Both t) → Said Then mid new → Said Both old new
-said_then First Then Both old mid new after first join then clean was =
+pub said_after : (First Second Both : Tables → Type 0) (old mid new : State) → Survives mid new (λ _. ⊥) → Said First old mid → ((t : Tables) → First t → Second t → Both t) → Said Second mid new → Said Both old new
+said_after First Second Both old mid new after first join second clean was =
     let clean_mid : HasCleanDisk mid = omega (arith, after.clean, clean) in
     let one = first clean_mid was in
-    let two = then clean (has_still old mid one.1 was) in
-    (join (tables_of old) one.0 (subst Then (same_tables old mid one.1) two.0), unchanged_then old mid new one.1 two.1)
+    let two = second clean (has_still old mid one.1 was) in
+    (join (tables_of old) one.0 (subst Second (same_tables old mid one.1) two.0), unchanged_then old mid new one.1 two.1)
 
 module _ (v s : Name) (origin : Origin) where
   abbrev above : Option Name
@@ -45,12 +45,12 @@ module _ (v s : Name) (origin : Origin) where
   pub alone_read : {E : Type 0} (none : List Name) (old mid new : State) (r : Result (BTreeSet Name) E) → Survives mid new (λ _. ⊥) → Said (λ t. TellsOrigin v t origin) old mid → above ≡ None → none ≡ []
       → Reads (λ t (all : BTreeSet Name). LaysNames v s none t all.keys) mid new r → Reads (λ t (all : BTreeSet Name). TellsNames v s t all.keys) old new r
   alone_read none old mid new r after told laid empty =
-      reads_then (λ t. TellsOrigin v t origin) (λ t all. LaysNames v s none t all.keys) (λ t all. TellsNames v s t all.keys) old mid new r after told
+      reads_after (λ t. TellsOrigin v t origin) (λ t all. LaysNames v s none t all.keys) (λ t all. TellsNames v s t all.keys) old mid new r after told
       (λ t all told lays. alone_named t v s origin told all.keys laid (subst (λ names. LaysNames v s names t all.keys) empty lays))
 
   pub over_read : {E : Type 0} (parent : Name) (inherited : List Name) (old mid up new : State) (r : Result (BTreeSet Name) E) → Survives mid up (λ _. ⊥) → Survives up new (λ _. ⊥) → Said (λ t. TellsOrigin v t origin) old mid → above ≡ Some parent
       → Said (λ t. TellsNames parent s t inherited) mid up → Reads (λ t (all : BTreeSet Name). LaysNames v s inherited t all.keys) up new r → Reads (λ t (all : BTreeSet Name). TellsNames v s t all.keys) old new r
   over_read parent inherited old mid up new r after last told laid names =
-      reads_then (λ t. TellsOrigin v t origin × TellsNames parent s t inherited) (λ t all. LaysNames v s inherited t all.keys) (λ t all. TellsNames v s t all.keys) old up new r last
-      (said_then (λ t. TellsOrigin v t origin) (λ t. TellsNames parent s t inherited) (λ t. TellsOrigin v t origin × TellsNames parent s t inherited) old mid up after told (λ t one two. (one, two)) names)
+      reads_after (λ t. TellsOrigin v t origin × TellsNames parent s t inherited) (λ t all. LaysNames v s inherited t all.keys) (λ t all. TellsNames v s t all.keys) old up new r last
+      (said_after (λ t. TellsOrigin v t origin) (λ t. TellsNames parent s t inherited) (λ t. TellsOrigin v t origin × TellsNames parent s t inherited) old mid up after told (λ t one two. (one, two)) names)
       (λ t all both lays. over_named t v s origin both.0 all.keys parent inherited laid both.1 lays)

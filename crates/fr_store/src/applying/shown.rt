@@ -48,7 +48,7 @@ fn lay_over<S: Alter>(
     supplier: &Name,
 ) -> Result<BTreeSet<Name>, StoreFault>
     ensures { Tries S.Store (Reads (λ t names.
-        LaysNames variant.now supplier.now inherited.entry.keys t names.keys))
+        LaysNames variant.now supplier.now inherited.keys t names.keys))
         tx.old tx.new result }
 {
     let dropped = tables::dropped::of_supplier_inside(tx, variant, supplier)?;
@@ -61,7 +61,7 @@ fn lay_over<S: Alter>(
 fn join(names: BTreeSet<Name>, dropped: &[Row], own: &[Row]) -> Option<BTreeSet<Name>>
     ensures { IfSome result (λ all. (n : _) → has_name n all.keys
         ≡ (any_named n own.now
-        || (not (any_named n dropped.now) && has_name n names.entry.keys))) }
+        || (not (any_named n dropped.now) && has_name n names.keys))) }
 {
     with(without(names, dropped)?, own)
 }
@@ -69,7 +69,7 @@ fn join(names: BTreeSet<Name>, dropped: &[Row], own: &[Row]) -> Option<BTreeSet<
 // The names without those in the rows.
 fn without(mut names: BTreeSet<Name>, rows: &[Row]) -> Option<BTreeSet<Name>>
     ensures { IfSome result (λ kept. (n : _) → has_name n kept.keys
-        ≡ (not (any_named n rows.now) && has_name n names.entry.keys)) }
+        ≡ (not (any_named n rows.now) && has_name n names.keys)) }
 {
     for row in rows {
         names.remove(&name_at(row, 0)?);
@@ -80,7 +80,7 @@ fn without(mut names: BTreeSet<Name>, rows: &[Row]) -> Option<BTreeSet<Name>>
 // The names, and those in the rows.
 fn with(mut names: BTreeSet<Name>, rows: &[Row]) -> Option<BTreeSet<Name>>
     ensures { IfSome result (λ all. (n : _) → has_name n all.keys
-        ≡ (any_named n rows.now || has_name n names.entry.keys)) }
+        ≡ (any_named n rows.now || has_name n names.keys)) }
 {
     for row in rows {
         let Ok(_) = names.insert(name_at(row, 0)?) else {
