@@ -1,32 +1,30 @@
 -- A flat variant that is filled with the frames of another one: what the tables stand for after each
 -- copy, and when all are there.
-use Rattle.std.proofs.Common.{◌≡◌, ◌≢◌, ℕ, Bool, true, false, cond, ◌||◌, None, Some, Option, is_some, List, [], ◌∷◌, map, filter, length, take, get_or, refl, sym, ap, ◌∙◌, subst, IsPermutation, IsTrue, All, true≢false, inl, inr, arith}
+use Rattle.std.proofs.Common.{◌≡◌, Bool, true, false, cond, ◌||◌, None, Some, Option, is_some, List, [], ◌∷◌, map, filter, refl, sym, ap, ◌∙◌, subst, IsPermutation, IsTrue, All, true≢false, inl, inr}
 use Rattle.std.specs.List.{list_any}
 use Rattle.std.specs.BTreeMap.{is_at}
 use Rattle.std.specs.Cmp.Lexicographic.{slice_cmp, nat_list_cmp_total}
 use Rattle.std.specs.FinMap.Entries.{find}
-use Rattle.std.specs.Ordering.{eq_by_cmp, is_eq, nat_cmp}
-use Rattle.std.proofs.lemmas.Bool.{cases_Bool}
+use Rattle.std.specs.Ordering.{eq_by_cmp, nat_cmp}
 use Rattle.std.proofs.lemmas.Cmp.{eq_by_cmp_equiv}
 use Rattle.std.proofs.lemmas.List.Elements.{All-head, All-tail}
-use Rattle.std.proofs.lemmas.List.Sorted.{IsPermutation-trans, IsPermutation-map, list_any-IsPermutation}
+use Rattle.std.proofs.lemmas.List.Sorted.{list_any-IsPermutation}
 use Rattle.std.proofs.lemmas.Map.Views.{All-from_any}
 use Rattle.sqlite.specs.Effect.{Database}
 use Rattle.sqlite.specs.Order.{Row}
 use Rattle.sqlite.specs.State.{State, IsUnchanged}
-use Rattle.sqlite_keyed.proofs.ListLemmas.{filter_all, all_of, map-map}
-use Rattle.fr_base.specs.Tables.{Table, empty, get, contains, insert}
+use Rattle.sqlite_keyed.proofs.ListLemmas.{filter_all, all_of}
+use Rattle.fr_base.specs.Tables.{Table, get, contains, insert}
 use Rattle.fr_base.specs.Keys.{names, owned}
 use Rattle.fr_base.specs.Cluster.{Cluster}
 use Rattle.fr_base.specs.Book.{Frame, Variant, Book, listed}
-use Rattle.fr_base.specs.Names.{same_text}
 use Rattle.fr_base.specs.Step.{with_variant}
 use Rattle.fr_base.specs.declared.key.Key.{Key}
 use Rattle.fr_base.specs.declared.name.Name.{Name}
-use Rattle.fr_base.proofs.SoundTables.{get-put, insert-again, insert-cases, same_key, same_some, some_there, value_of}
-use Rattle.fr_base.proofs.TableLaws.{equal, get-insert, get-empty, same_table}
+use Rattle.fr_base.proofs.SoundTables.{get-put, insert-again, insert-cases, same_some, some_there, value_of}
+use Rattle.fr_base.proofs.TableLaws.{equal, get-insert, same_table}
 use Rattle.fr_world.specs.BookEdits.{applied, or_empty}
-use Rattle.fr_world.specs.Fits.{Fits, HasKnownSuppliers, IsCopiable, IsOpen}
+use Rattle.fr_world.specs.Fits.{HasKnownSuppliers, IsCopiable, IsOpen}
 use Rattle.fr_world.specs.declared.edit.Edit.TheVariants.{NewFlat}
 use Rattle.fr_world.proofs.KeyLaws.{name_cmp}
 use Rattle.fr_tables.specs.Changes.{AreListed, tables_of}

@@ -1,21 +1,20 @@
 -- Copies of frames one after the other, inside a transaction.
-use Rattle.std.proofs.Common.{◌≡◌, ℕ, suc, ◌+◌, ◌<◌, Bool, true, false, ◌||◌, List, [], ◌∷◌, ◌++◌, take, length, get_or, Result, Ok, Err, IsTrue, All, refl, sym, ap, ◌∙◌, subst, arith, true≢false, Some}
-use Rattle.std.specs.Prelude.{⊤, OnOk}
+use Rattle.std.proofs.Common.{◌≡◌, ℕ, suc, ◌+◌, ◌<◌, Bool, true, false, ◌||◌, List, [], ◌∷◌, ◌++◌, take, length, get_or, Result, Ok, Err, IsTrue, refl, sym, ap, ◌∙◌, subst, arith, true≢false}
+use Rattle.std.specs.Prelude.{OnOk}
 use Rattle.std.specs.BTreeMap.{is_at}
 use Rattle.std.specs.Cmp.Lexicographic.{slice_cmp}
-use Rattle.std.specs.List.{list_any}
 use Rattle.std.specs.Ordering.{nat_cmp}
 use Rattle.std.proofs.lemmas.List.Folds.{list_any-append}
 use Rattle.std.proofs.Math.Bool.{or-false}
 use Rattle.std.proofs.Math.Seq.{take-suc}
-use Rattle.sqlite.specs.State.{State, HasCleanDisk, KeepsCommit, Survives}
-use Rattle.fr_base.specs.Tables.{Table, get}
+use Rattle.sqlite.specs.State.{State, KeepsCommit}
+use Rattle.fr_base.specs.Tables.{Table}
 use Rattle.fr_base.specs.Keys.{owned}
 use Rattle.fr_base.specs.Cluster.{Cluster}
 use Rattle.fr_base.specs.Book.{Frame, Variant, Book}
 use Rattle.fr_base.specs.declared.name.Name.{Name}
 use Rattle.fr_store.specs.Applying.{GoesOn}
-use Rattle.fr_store.specs.Flat.{AnyFrames, Copies, HasMore, IsPart, MayOpen, Reaches, filled, has_name}
+use Rattle.fr_store.specs.Flat.{HasMore, IsPart, MayOpen, Reaches, filled, has_name}
 use Rattle.fr_store.specs.Reading.{Stands}
 use Rattle.fr_store.proofs.FlatLemmas.{same_name}
 use Rattle.fr_store.proofs.InsideLemmas.{keeps_then}

@@ -1,5 +1,5 @@
 -- The names of the frames that a supplier has in a variant, as they are read level by level.
-use Rattle.std.proofs.Common.{◌≡◌, ℕ, suc, ◌+◌, ◌<◌, Bool, true, false, not, ◌||◌, ◌&&◌, cond, None, Some, Option, is_some, List, [], ◌∷◌, ◌++◌, map, filter, take, length, get_or, bytes_eq, if◌then◌else◌, refl, sym, ap, ap₂, ◌∙◌, subst, arith}
+use Rattle.std.proofs.Common.{◌≡◌, ℕ, suc, ◌+◌, ◌<◌, Bool, true, false, not, ◌||◌, ◌&&◌, cond, None, Some, Option, is_some, List, [], ◌∷◌, ◌++◌, map, filter, take, length, get_or, bytes_eq, if◌then◌else◌, refl, sym, ap, ap₂, ◌∙◌, arith}
 use Rattle.std.specs.List.{list_any}
 use Rattle.std.specs.Option.{option_or}
 use Rattle.std.specs.BTreeMap.{is_at}
@@ -9,8 +9,8 @@ use Rattle.std.proofs.lemmas.Map.Text.{is_eq-slice_cmp}
 use Rattle.std.proofs.Math.Bool.{or-false}
 use Rattle.std.proofs.Math.Seq.{take-suc}
 use Rattle.sqlite.specs.Order.{Row}
-use Rattle.fr_base.specs.Tables.{Table, get, contains}
-use Rattle.fr_base.specs.Book.{Book, Variant, Frame}
+use Rattle.fr_base.specs.Tables.{get, contains}
+use Rattle.fr_base.specs.Book.{Book, Variant}
 use Rattle.fr_base.specs.declared.name.Name.{Name}
 use Rattle.fr_world.proofs.KeyLaws.{name_cmp}
 use Rattle.fr_tables.specs.Rows.{FrameRow, key_of}

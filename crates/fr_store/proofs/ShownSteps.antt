@@ -1,10 +1,9 @@
 -- The names that are read level by level, as calls one after the other.
-use Rattle.std.proofs.Common.{◌≡◌, None, Some, Option, List, [], if◌then◌else◌, Result, Ok, Err, sym, subst, arith}
-use Rattle.std.specs.Prelude.{MatchResult}
+use Rattle.std.proofs.Common.{◌≡◌, None, Some, Option, List, [], if◌then◌else◌, Result, Ok, Err, subst, arith}
 use Rattle.std.specs.BTreeSet.{BTreeSet}
 use Rattle.sqlite.specs.State.{State, HasCleanDisk, IsUnchanged, Survives}
 use Rattle.fr_base.specs.declared.name.Name.{Name}
-use Rattle.fr_tables.specs.Changes.{Stays, tables_of}
+use Rattle.fr_tables.specs.Changes.{tables_of}
 use Rattle.fr_tables.specs.Tables.{Tables, HasTables}
 use Rattle.fr_store.specs.Flat.{LaysNames, TellsNames}
 use Rattle.fr_store.specs.Owning.{TellsOrigin}

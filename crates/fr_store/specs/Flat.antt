@@ -13,7 +13,6 @@ use Rattle.fr_base.specs.Cluster.{Cluster}
 use Rattle.fr_base.specs.Book.{Frame, Variant, Book}
 use Rattle.fr_base.specs.Step.{with_variant}
 use Rattle.fr_base.specs.declared.name.Name.{Name}
-use Rattle.fr_world.specs.Fits.{IsCopiable}
 use Rattle.fr_tables.specs.Rows.{key_of}
 use Rattle.fr_tables.specs.Statements.{is_dropped}
 use Rattle.fr_tables.specs.Tables.{Tables}

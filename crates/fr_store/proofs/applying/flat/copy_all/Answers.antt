@@ -1,12 +1,12 @@
-use Rattle.std.proofs.Common.{rules, ◌≡◌, ◌+◌, ◌<◌, ◌≤◌, ◌∙◌, ap, get_or, length, take, arith, refl, sym, subst, IsTrue}
+use Rattle.std.proofs.Common.{rules, ◌≡◌, ◌+◌, ◌<◌, ◌≤◌, ◌∙◌, ap, get_or, length, take, arith, refl, IsTrue}
 use Rattle.std.proofs.lemmas.List.{take_all}
-use Rattle.sqlite.specs.State.{HasCleanDisk, KeepsCommit}
+use Rattle.sqlite.specs.State.{HasCleanDisk}
 use Rattle.sqlite.specs.Held.{state}
 use Rattle.fr_base.specs.declared.name.Name.{Name}
 use Rattle.fr_tables.proofs.FillLemmas.{survives_both}
 use Rattle.fr_store.specs.Flat.{AnyFrames, Reaches, has_name}
 use Rattle.fr_store.proofs.ClimbLemmas.{survives_itself}
-use Rattle.fr_store.proofs.FlatSteps.{Frames, filled_none, more_of, next_supplier, one_more, still_reached}
+use Rattle.fr_store.proofs.FlatSteps.{filled_none, more_of, next_supplier, one_more, still_reached}
 use Rattle.fr_store.proofs.applying.flat.copy_all.Goals as goal
 
 pub loop-supplier-init : goal.loop-supplier-init

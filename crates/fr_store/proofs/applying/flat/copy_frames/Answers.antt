@@ -1,4 +1,4 @@
-use Rattle.std.proofs.Common.{◌≡◌, ◌∙◌, ◌++◌, [], ◌∷◌, All, arith, ap, map, refl, sym, subst, IsTrue}
+use Rattle.std.proofs.Common.{◌≡◌, ◌∙◌, ◌++◌, [], ◌∷◌, All, arith, map, refl, sym, subst, IsTrue}
 use Rattle.std.proofs.lemmas.List.{map-append}
 use Rattle.std.proofs.lemmas.List.Elements.{All-append, All-cons, All-nil, All-weaker}
 use Rattle.std.proofs.lemmas.Map.Iter.{iter_end}
@@ -11,7 +11,7 @@ use Rattle.fr_base.specs.declared.name.Name.{Name}
 use Rattle.fr_tables.proofs.FillLemmas.{survives_both}
 use Rattle.fr_store.specs.Flat.{Reaches}
 use Rattle.fr_store.proofs.ClimbLemmas.{survives_itself}
-use Rattle.fr_store.proofs.FlatSteps.{Frames, filled_none, more_of, one_more, still_reached}
+use Rattle.fr_store.proofs.FlatSteps.{filled_none, more_of, one_more, still_reached}
 use Rattle.fr_store.proofs.applying.flat.copy_frames.Goals as goal
 
 pub loop-name-init : goal.loop-name-init

@@ -1,18 +1,16 @@
-use Rattle.std.proofs.Common.{◌≡◌, ◌∙◌, ap, sym, subst, arith, IsTrue, false}
-use Rattle.sqlite.specs.Effect.{Database}
+use Rattle.std.proofs.Common.{◌≡◌, ◌∙◌, ap, sym, subst, arith, false}
 use Rattle.sqlite.specs.State.{HasCleanDisk, KeepsCommit}
 use Rattle.fr_base.specs.Tables.{get}
 use Rattle.fr_base.proofs.SoundTables.{value_of}
 use Rattle.fr_tables.specs.Changes.{tables_of}
 use Rattle.fr_tables.specs.Rows.{key_of}
-use Rattle.fr_tables.specs.Tables.{tables_in}
 use Rattle.fr_tables.specs.declared.frame_key.FrameKey.{FrameKey}
 use Rattle.fr_tables.proofs.FillLemmas.{survives_both}
 use Rattle.fr_store.specs.Flat.{HasMore, Reaches, filled}
 use Rattle.fr_store.specs.Owning.{CopiesFrame, IsOwner, MakesFrameCopies, is_own}
 use Rattle.fr_store.proofs.AgainLemmas.{still_stands}
 use Rattle.fr_store.proofs.CallLemmas.{KeepsOn, done_refused, done_stays, frame_copies_stay, keeps_on, on_done, seen, stays_then}
-use Rattle.fr_store.proofs.ChainLemmas.{has_still, same_tables}
+use Rattle.fr_store.proofs.ChainLemmas.{same_tables}
 use Rattle.fr_store.proofs.ClimbLemmas.{has_after}
 use Rattle.fr_store.proofs.FlatLemmas.{copied_before, copied_now}
 use Rattle.fr_store.proofs.InsideLemmas.{asked_inside}

@@ -1,4 +1,4 @@
-use Rattle.std.proofs.Common.{◌≡◌, ◌∙◌, ap, sym, arith, IsTrue, All}
+use Rattle.std.proofs.Common.{◌∙◌, sym, arith, IsTrue, All}
 use Rattle.sqlite.specs.State.{HasCleanDisk}
 use Rattle.fr_base.specs.Tables.{contains, get}
 use Rattle.fr_base.specs.declared.name.Name.{Name}

@@ -1,6 +1,6 @@
 use Rattle.std.proofs.Common.{◌≡◌, ◌∙◌, ap, sym, arith, Some, None, IsTrue}
 use Rattle.sqlite.specs.State.{HasCleanDisk}
-use Rattle.fr_base.specs.Tables.{empty, get}
+use Rattle.fr_base.specs.Tables.{empty}
 use Rattle.fr_base.specs.Keys.{owned}
 use Rattle.fr_base.specs.declared.name.Name.{Name}
 use Rattle.fr_base.proofs.TableLaws.{get-empty}

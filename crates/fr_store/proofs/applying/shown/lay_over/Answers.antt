@@ -1,4 +1,4 @@
-use Rattle.std.proofs.Common.{arith, ◌∙◌, subst, sym}
+use Rattle.std.proofs.Common.{arith, ◌∙◌, subst}
 use Rattle.sqlite.specs.State.{HasCleanDisk}
 use Rattle.fr_tables.specs.Changes.{AreListed, tables_of}
 use Rattle.fr_tables.specs.Statements.{frames_cmp, is_frame_of, shows_frame}
