@@ -1,8 +1,8 @@
 -- In what two variants differ, as it is gathered of one after the other, is what the register shows.
-use Rattle.std.proofs.Common.{◌≡◌, ℕ, Bool, true, false, ◌||◌, List, [], ◌∷◌, ◌++◌, map, Option, Some, None, is_some, Result, Ok, Err, refl, sym, ap, ◌∙◌, inl, inr, append_assoc, append-nil}
+use Rattle.std.proofs.Common.{◌≡◌, ℕ, Bool, true, false, ◌||◌, List, [], ◌∷◌, ◌++◌, map, Option, Some, None, is_some, Result, Ok, Err, refl, sym, ap, ◌∙◌, inl, inr, append_assoc}
 use Rattle.std.specs.List.{flat_map}
 use Rattle.fr_base.specs.Book as book
-use Rattle.fr_base.specs.Book.{Book, Frame, Variant, own, own_grants}
+use Rattle.fr_base.specs.Book.{Book, Frame, Variant}
 use Rattle.fr_base.specs.Cluster.{Cluster}
 use Rattle.fr_base.specs.Differences.{all_placements, all_signals, differences, frame_seen, frames_differ, gap_of, gap_seen, grant_seen, grants_differ, placed_frames, placement_seen, same_gap, same_holder, same_signal, signal_seen, starts}
 use Rattle.fr_base.specs.Exports.{frame_records, placement_records, signal_records}

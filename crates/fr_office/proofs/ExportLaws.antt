@@ -51,6 +51,18 @@ module _ {R : Type 0} (records : FrameEntry → List R) where
         ∙ ap (λ es. mid ++ in_part part (each_frame s es ++ more)) (sym stepped)
         ∙ so more
 
+-- ---- the whole part
+
+module _ {R : Type 0} where
+  -- the rows behind the last frame are the part
+  pushed-part : (number : ℕ) (frames : List (List R)) (rows : List R) (left : Part) → rows ++ in_part left [] ≡ in_part (begun number) (frames ++ []) → rows ≡ part_of number frames
+  pushed-part number frames rows left so =
+      sym (append-nil rows)
+      ∙ ap (λ rest. rows ++ rest) (sym (none-left left))
+      ∙ so
+      ∙ ap (in_part (begun number)) (append-nil frames)
+      ∙ begun-all number frames
+
 -- ---- page by page
 
 -- the frames of these suppliers in the variant, one supplier's after another's

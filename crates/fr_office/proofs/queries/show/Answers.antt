@@ -1,6 +1,5 @@
 use Rattle.std.proofs.Common.{rules, ◌∙◌, List, Option, Ok, ap, subst, sym}
-use Rattle.fr_base.specs.Book.{Book}
-use Rattle.fr_base.specs.Cluster.{Cluster, ClusterFile}
+use Rattle.fr_base.specs.Cluster.{ClusterFile}
 use Rattle.fr_base.specs.declared.answer.SignalRow.{SignalRow}
 use Rattle.fr_office.specs.Shown.{AreSignals, Gathers, Shows}
 use Rattle.fr_office.proofs.ShownReplies.{shows-export, shows-frames, shows-gaps, shows-grants, shows-layout, shows-load, shows-no_frame, shows-rows, shows-schedule}

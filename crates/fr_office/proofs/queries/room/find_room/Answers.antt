@@ -1,4 +1,4 @@
-use Rattle.std.proofs.Common.{rules, ap, subst, sym, Ok, Err}
+use Rattle.std.proofs.Common.{rules, subst, sym, Ok, Err}
 use Rattle.fr_base.specs.declared.actor.Actor.{Actor}
 use Rattle.fr_base.specs.declared.answer.ReportRows.TheVariants as shows
 use Rattle.fr_base.specs.declared.refusal.Refusal.TheVariants.{NotYours}
