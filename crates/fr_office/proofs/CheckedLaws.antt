@@ -119,10 +119,10 @@ check-own p actor (request.Import variant label body) =
     gives_each _ (asking actor) _ (λ s _.
     gives_each _ (name variant) _ (λ v _.
     gives_each _ (name label) _ (λ l _. tt)))
-check-own p actor (request.Replace variant body) =
+check-own p actor (request.Replace variant whole body) =
     gives_each _ (asking actor) _ (λ s _.
     gives_each _ (name variant) _ (λ v _. tt))
-check-own p actor (request.Try variant replaces body) =
+check-own p actor (request.Try variant manner body) =
     gives_each _ (asking actor) _ (λ s _.
     gives_each _ (name variant) _ (λ v _. tt))
 check-own p actor (request.Query asked) = gives_when _ _ _ _ (λ _. gives_each _ (query asked) _ (λ q _. gives_when _ _ _ _ (λ _. tt)))

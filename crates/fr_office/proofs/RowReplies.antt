@@ -64,17 +64,17 @@ module _ (old : Standing) (v : Name) where
       pushed ∙ (λ i. with_more (is i) (compared_rows (of_p i) (same i).frames)) ∙ one-more p s ss x ∙ ap (λ ts. suppliers_rows p ts x) (sym is_more))
 
   -- after the last, kind after kind
-  pub rows-all : (now : Standing) (i : ℕ) (ss : List Name) (held : List (ChannelSlot × LaneHolder)) (frames : ComparedRows) (grants : List GrantRow) (all : List SeenRow) → length ss ≤ i →
-      HoldsSoFar old now v (take i ss) held → HasRowsSoFar old now v (take i ss) frames → grants ≡ grants_of (grants_in_lanes held) →
-      all ≡ map grant_told grants ++ map frame_told frames.frames ++ map placement_told frames.placements ++ map signal_told frames.signals ++ map gap_told frames.gaps →
+  pub rows-all : (now : Standing) (i : ℕ) (ss : List Name) (held : List (ChannelSlot × LaneHolder)) (frames : ComparedRows) (grants : List GrantRow) (none all : List SeenRow) → length ss ≤ i →
+      HoldsSoFar old now v (take i ss) held → HasRowsSoFar old now v (take i ss) frames → grants ≡ grants_of (grants_in_lanes held) → none ≡ [] →
+      all ≡ none ++ map grant_told grants ++ map frame_told frames.frames ++ map placement_told frames.placements ++ map signal_told frames.signals ++ map gap_told frames.gaps →
       Gathers v (λ p x rows. rows ≡ seen_among p ss x) old now (Ok all)
-  rows-all now i ss held frames grants all last holds has listed joined c b stood =
+  rows-all now i ss held frames grants none all last holds has listed empty joined c b stood =
       let held_now = holds c b stood in
       let has_now = has c b stood in (
         has_now.0,
         λ x there.
             joined
-            ∙ (λ j. map grant_told ((listed ∙ ap grants_of (held_now.1 x there)) j) ++ map frame_told (has_now.1 x there j).frames ++ map placement_told (has_now.1 x there j).placements
+            ∙ (λ j. empty j ++ map grant_told ((listed ∙ ap grants_of (held_now.1 x there)) j) ++ map frame_told (has_now.1 x there j).frames ++ map placement_told (has_now.1 x there j).placements
             ++ map signal_told (has_now.1 x there j).signals ++ map gap_told (has_now.1 x there j).gaps)
             ∙ ap (λ ts. seen_among c.params ts x) (take_all i ss last),
       )

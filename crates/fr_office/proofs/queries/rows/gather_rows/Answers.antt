@@ -1,6 +1,5 @@
-use Rattle.std.proofs.Common.{rules, ◌+◌, ◌∙◌, ◌++◌, [], ◌∷◌, map, take, sym, ap}
+use Rattle.std.proofs.Common.{rules, ◌+◌, ◌∙◌, ◌++◌, [], ◌∷◌, take, sym, ap}
 use Rattle.std.proofs.lemmas.List.{take_more}
-use Rattle.fr_office.specs.Compared.{frame_told, gap_told, grant_told, placement_told, signal_told}
 use Rattle.fr_office.proofs.GrantLaws.{held-more, held-none}
 use Rattle.fr_office.proofs.LentPages.{finds-lent}
 use Rattle.fr_office.proofs.RowReplies.{rows-all, rows-more, rows-none}
@@ -40,9 +39,7 @@ returns g c = record {
   reads = search (rules, reads_then);
   told = λ now.
       let stands = g.R.Records.stands in
-      let frames = c.loop-supplier.frames in
-      rows-all (stands c.args.records.now) c.args.variant (stands c.loop-supplier.records) c.loop-supplier.supplier-index c.args.suppliers.now c.loop-supplier.held.entries frames c.in_ok-grants.grants c.push_seen.new.rows
-      c.loop-supplier-test.false (c.loop-supplier.invariant.held now) (c.loop-supplier.invariant.rows now) c.in_ok-grants.ensures
-      (c.in_ok-push_seen.ensures
-      ∙ (λ i. c.new-rows.ensures i ++ map grant_told (c.as_slice.ensures i) ++ map frame_told frames.frames ++ map placement_told frames.placements ++ map signal_told frames.signals ++ map gap_told frames.gaps));
+      rows-all (stands c.args.records.now) c.args.variant (stands c.loop-supplier.records) c.loop-supplier.supplier-index c.args.suppliers.now c.loop-supplier.held.entries c.loop-supplier.frames
+      c.as_slice.result.now c.new-rows.result c.push_seen.new.rows c.loop-supplier-test.false (c.loop-supplier.invariant.held now) (c.loop-supplier.invariant.rows now)
+      (c.as_slice.ensures ∙ c.in_ok-grants.ensures) c.new-rows.ensures c.in_ok-push_seen.ensures;
 }
