@@ -4,6 +4,7 @@ pub mod ErrandLaws
 pub mod IncomingLaws
 mod CommandLaws
 mod NumberLaws
+mod FlagLaws
 mod ReportLaws
 mod WordLaws
 mod TakenRows

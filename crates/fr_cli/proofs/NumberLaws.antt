@@ -73,8 +73,8 @@ numbers_of rows (Deliver db delivery) is = delivered delivery.kind is.0
   where
     delivered : {X : Type 0} (kind : DeliveryKind) → codes "serve" ≡ word_of_delivery kind → X
     delivered (ByLabel label) same = apart _ _ refl same
-    delivered Replacement same = apart _ _ refl same
-    delivered (Trial replaces) same = apart _ _ refl same
+    delivered (Replacement whole) same = apart _ _ refl same
+    delivered (Trial manner) same = apart _ _ refl same
 numbers_of rows (Check file) is = apart _ _ refl is.0
 numbers_of rows (Explain word) is = apart _ _ refl is.0
 

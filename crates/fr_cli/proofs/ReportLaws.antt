@@ -12,7 +12,7 @@ use Rattle.fr_base.specs.declared.query.Query.TheVariants.{Register as OfRegiste
 use Rattle.fr_base.specs.declared.report.Report.{Report}
 use Rattle.fr_base.specs.declared.report.Report.TheVariants.{Grants, Frames, Schedule, Gaps, Layout, Load, Rows, Room, Export}
 use Rattle.fr_cli.specs.Reports.{Question, asked_with, row_in, text_of_name}
-use Rattle.fr_cli.specs.Words.{IsAnswerable, IsDeliveryIn, IsJobIn, IsJobOf, IsNumberAt, IsReportJobIn, IsWordAt, asked_by, word_of_delivery}
+use Rattle.fr_cli.specs.Words.{HasKind, IsAnswerable, IsDeliveryIn, IsJobIn, IsJobOf, IsNumberAt, IsReportJobIn, IsWordAt, asked_by, manner_in, word_of_delivery}
 use Rattle.fr_cli.specs.declared.delivery.Delivery.{Delivery}
 use Rattle.fr_cli.specs.declared.delivery.DeliveryKind.{DeliveryKind}
 use Rattle.fr_cli.specs.declared.delivery.DeliveryKind.TheVariants.{Import as ByLabel, Replacement, Trial}
@@ -45,8 +45,8 @@ is_delivery name = bytes_eq name (codes "import") || (bytes_eq name (codes "repl
 
 delivers : (kind : DeliveryKind) → is_delivery (word_of_delivery kind) ≡ true
 delivers (ByLabel label) = refl
-delivers Replacement = refl
-delivers (Trial replaces) = refl
+delivers (Replacement whole) = refl
+delivers (Trial manner) = refl
 
 no_delivery : {X : Type 0} (kind : DeliveryKind) (name : Text) → is_delivery name ≡ false → word_of_delivery kind ≡ name → X
 no_delivery kind name other is = let no : true ≡ false = sym (delivers kind) ∙ (ap is_delivery is ∙ other) in cc
@@ -55,11 +55,12 @@ no_delivery kind name other is = let no : true ≡ false = sym (delivers kind) �
 no_question : (kind : DeliveryKind) (rows : List Row) → asked_by (word_of_delivery kind) rows ≡ None
 unfolding asked_with
 no_question (ByLabel label) rows = refl
-no_question Replacement rows = refl
-no_question (Trial replaces) rows = refl
+no_question (Replacement whole) rows = refl
+no_question (Trial manner) rows = refl
 
--- where no delivery is of these words, its subcommand has no job
-pub undelivered : (kind : DeliveryKind) (rows : List Row) (job : Option Job) → job ≡ None → ((delivery : Delivery) → IsDeliveryIn rows delivery → ⊥)
+-- where no delivery by a subcommand is of these words, it has no job
+pub undelivered : (kind : DeliveryKind) (rows : List Row) (job : Option Job) → job ≡ None
+    → ((delivery : Delivery) → word_of_delivery kind ≡ word_of_delivery delivery.kind → IsDeliveryIn rows delivery → ⊥)
     → IsJobIn job (word_of_delivery kind) rows
 undelivered kind rows (Some job) none lacks = cc
 undelivered kind rows None none lacks = go
@@ -72,9 +73,18 @@ undelivered kind rows None none lacks = go
     go (Ask db) is = no_delivery kind (codes "ask") refl is.0
     go (ReportOn db query) is = subst (λ (o : Option Question). IsAnswerable o rows query.query) (no_question kind rows) is.1
     go (Picture db variant since supplier) is = no_delivery kind (codes "picture") refl is.0
-    go (Deliver db delivery) is = lacks delivery is.2
+    go (Deliver db delivery) is = lacks delivery is.0 is.2
     go (Check file) is = no_delivery kind (codes "check") refl is.0
     go (Explain word) is = no_delivery kind (codes "explain") refl is.0
+
+-- where no manner is said, no file is tried
+pub untried : (rows : List Row) → manner_in rows ≡ None → (delivery : Delivery) → codes "try" ≡ word_of_delivery delivery.kind → IsDeliveryIn rows delivery → ⊥
+untried rows none delivery named is = go delivery.kind named is.2
+  where
+    go : (kind : DeliveryKind) → codes "try" ≡ word_of_delivery kind → HasKind kind rows → ⊥
+    go (ByLabel label) named has = cc
+    go (Replacement whole) named has = cc
+    go (Trial manner) named has = let no : None ≡ Some manner = sym none ∙ has in cc
 
 -- where a word is wanting, none is there
 pub wanting : {X : Type 0} (said : Option Text) (text : Text) → None ≡ said → said ≡ Some text → X

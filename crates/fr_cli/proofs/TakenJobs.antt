@@ -1,4 +1,4 @@
--- Words in which `clap` finds no fault ask for a job, but for those of `check` and `export` that lack an object.
+-- Words in which `clap` finds no fault ask for a job, but for those of `check`, `export` and `try` that lack an object.
 use Rattle.std.proofs.Common.{◌≡◌, ◌⊎◌, inl, inr, ℕ, Bool, true, false, ◌||◌, cond, List, [], ◌∷◌, Option, Some, None, Ok, codes, refl, sym, ap, ◌∙◌, subst}
 use Rattle.std.specs.Prelude.{find, option_map}
 use Rattle.std.specs.Borrow.{Bor}
@@ -15,9 +15,10 @@ use Rattle.fr_base.specs.declared.query.Query.{Query}
 use Rattle.fr_base.specs.declared.query.Query.TheVariants.{Register as OfRegister, Variant as OfVariant, Difference as OfTwo}
 use Rattle.fr_base.specs.declared.report.Report.{Report}
 use Rattle.fr_base.specs.declared.report.Report.TheVariants.{Grants, Frames, Schedule, Gaps, Layout, Load, Rows, Room, Export}
+use Rattle.fr_base.specs.declared.request.Manner.{Manner}
 use Rattle.fr_cli.specs.Commands.{slotplan}
 use Rattle.fr_cli.specs.Reports.{Question, asked_with, of_variant, text_of_name}
-use Rattle.fr_cli.specs.Words.{AreTaken, AskForNone, HasKind, HasNoObject, HasNumber, IsAnswerable, IsFlagIn, IsFoundWithoutObject, IsJobFound, IsJobIn, IsJobOf, IsNumberAt, IsWordAt, LackAnObject, asked_by, header_in, max_number, records, word_of_delivery}
+use Rattle.fr_cli.specs.Words.{AreTaken, AskForNone, HasKind, HasNoObject, HasNumber, IsAnswerable, IsFoundWithoutObject, IsJobFound, IsJobIn, IsJobOf, IsNumberAt, IsWordAt, LackAnObject, asked_by, header_in, is_given, manner_in, max_number, records, word_of_delivery}
 use Rattle.fr_cli.specs.declared.reports.ArgName.{ArgName}
 use Rattle.fr_cli.specs.declared.reports.ArgName.TheVariants as arg
 use Rattle.fr_cli.specs.declared.delivery.DeliveryKind.{DeliveryKind}
@@ -41,18 +42,6 @@ lent_if = option_map lent
 lent_back : (o : Option Text) → option_map (λ t. t.now) (lent_if o) ≡ o
 lent_back None = refl
 lent_back (Some t) = refl
-
-abbrev flag_of : Option Text → Bool
-flag_of (Some t) = bytes_eq t (codes "true")
-flag_of None = false
-
-flag_is : (name : Text) (rows : List Row) (o : Option Text) → one_of name rows ≡ o → IsFlagIn (flag_of o) name rows
-flag_is name rows (Some t) is = (
-  λ e. (bytes_eq-Decides t (codes "true")).1 (some_same t (codes "true") (sym is ∙ e)),
-  λ e. ap (λ k. bytes_eq k (codes "true")) (some_same t (codes "false") (sym is ∙ e)),
-  λ e. some_none t (sym e ∙ is),
-)
-flag_is name rows None is = (λ e. some_none (codes "true") (sym is ∙ e), λ e. refl, λ e. refl)
 
 -- the subcommand of this name has a job with these words
 abbrev HasJob : Text → List Row → Type 0
@@ -212,15 +201,8 @@ import_job s once named db key variant label file rest fine =
 replace_job : (s : Shape) → s.args_override_self ≡ false → s.name ≡ codes "replace" → has_word s.rules (codes "DB") ≡ true
     → has_word s.rules (codes "KEY") ≡ true
     → has_word s.rules (codes "VARIANT") ≡ true → has_word s.rules (codes "FILE") ≡ true → AlwaysHasJob s
-replace_job s once named db key variant file rest fine = deliver_job s once rest fine Replacement named tt db key variant file
-
-try_job : (s : Shape) → s.args_override_self ≡ false → s.name ≡ codes "try" → has_word s.rules (codes "DB") ≡ true
-    → has_word s.rules (codes "KEY") ≡ true
-    → has_word s.rules (codes "VARIANT") ≡ true → has_word s.rules (codes "FILE") ≡ true → AlwaysHasJob s
-try_job s once named db key variant file rest fine =
-    let said = one_of (codes "replace") (rows_after s.rules [] rest) in
-    let is = flag_is (codes "replace") (rows_after s.rules [] rest) said refl in
-    deliver_job s once rest fine (Trial (flag_of said)) named is db key variant file
+replace_job s once named db key variant file rest fine =
+    deliver_job s once rest fine (Replacement (is_given (codes "whole") (rows_after s.rules [] rest))) named refl db key variant file
 
 explain_job : (s : Shape) → s.name ≡ codes "explain" → AlwaysHasJob s
 explain_job s named rest fine =
@@ -230,7 +212,7 @@ explain_job s named rest fine =
 -- `export` has one where its rows are named
 export_job : (s : Shape) → s.args_override_self ≡ false → s.name ≡ codes "export" → has_word s.rules (codes "DB") ≡ true
     → ((header : Header) → WordsThere s.rules (records header)) → OnlyLacks s
-export_job s once named db words rest fine none = inr (named, go (header_in (rows_after s.rules [] rest)) refl)
+export_job s once named db words rest fine none = inr (inl (named, go (header_in (rows_after s.rules [] rest)) refl))
   where
     asks : (o : Option Header) → header_in (rows_after s.rules [] rest) ≡ o → asked_by s.name (rows_after s.rules [] rest) ≡ option_map records o
     asks o is =
@@ -241,6 +223,18 @@ export_job s once named db words rest fine none = inr (named, go (header_in (row
     go None is = is
     go (Some header) is =
         let (j, has) = asked_job s once rest fine (records header) (asks (Some header) is) db (words header) in
+        absurd (none j has)
+
+-- and `try` where it may be whole
+try_job : (s : Shape) → s.args_override_self ≡ false → s.name ≡ codes "try" → has_word s.rules (codes "DB") ≡ true
+    → has_word s.rules (codes "KEY") ≡ true
+    → has_word s.rules (codes "VARIANT") ≡ true → has_word s.rules (codes "FILE") ≡ true → OnlyLacks s
+try_job s once named db key variant file rest fine none = inr (inr (named, go (manner_in (rows_after s.rules [] rest)) refl))
+  where
+    go : (o : Option Manner) → manner_in (rows_after s.rules [] rest) ≡ o → manner_in (rows_after s.rules [] rest) ≡ None
+    go None is = is
+    go (Some manner) is =
+        let (j, has) = deliver_job s once rest fine (Trial manner) named is db key variant file in
         absurd (none j has)
 
 -- and `check` where its file is
@@ -278,7 +272,7 @@ all_ask =
     and asks _ (picture_job _ refl refl refl refl)
     and asks _ (import_job _ refl refl refl refl refl refl refl)
     and asks _ (replace_job _ refl refl refl refl refl refl)
-    and asks _ (try_job _ refl refl refl refl refl refl)
+    and inr (try_job _ refl refl refl refl refl refl)
     and inr (check_job _ refl)
     and asks _ (explain_job _ refl)
     and inl refl

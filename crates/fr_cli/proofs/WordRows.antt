@@ -7,9 +7,10 @@ use Rattle.clap.specs.declared.error.kind.ErrorKind.TheVariants as kinds
 use Rattle.fr_base.proofs.QueryLemmas.{names_open}
 use Rattle.fr_base.specs.declared.query.Query.TheVariants.{Variant as OfVariant, Difference as OfTwo}
 use Rattle.fr_base.specs.declared.report.Report.TheVariants.{Schedule}
+use Rattle.fr_base.specs.declared.request.Manner.TheVariants as manner
 use Rattle.fr_cli.specs.Commands.{slotplan}
 use Rattle.fr_cli.specs.Reports.{asked_with}
-use Rattle.fr_cli.specs.Words.{AskFor, IsFaultOf, IsFileOf, LackAnObject}
+use Rattle.fr_cli.specs.Words.{AskFor, IsFaultOf, IsFileOf, LackAnObject, manner_in}
 use Rattle.fr_cli.specs.declared.text_file.TextFile.{TextFile}
 use Rattle.fr_cli.specs.declared.text_file.TextFile.TheVariants.{Config, Requests, Rows, Target, Register}
 use Rattle.fr_cli.specs.declared.words.Job.TheVariants as job
@@ -80,6 +81,17 @@ flag_is_not_set : option_map (λ found. one_of (codes "replace") found.1)
 unfolding clap_on_literals
 flag_is_not_set = refl
 
+-- what is tried as a replacement may be whole, and so may a replacement
+whole_is_taken : fault_of slotplan (codes "replace" ∷ codes "car.db" ∷ codes "supplier01" ∷ codes "v1" ∷ codes "rows.csv" ∷ codes "--whole" ∷ []) ≡ []
+unfolding clap_on_literals
+whole_is_taken = refl
+
+whole_is_tried : option_map (λ found. manner_in found.1)
+    (subcommand_of slotplan (codes "try" ∷ codes "car.db" ∷ codes "supplier01" ∷ codes "v1" ∷ codes "rows.csv" ∷ codes "--whole" ∷ codes "--replace" ∷ []))
+    ≡ Some (Some (manner.Replace true))
+unfolding clap_on_literals
+whole_is_tried = refl
+
 flag_has_no_word : fault_of slotplan (codes "try" ∷ codes "car.db" ∷ codes "supplier01" ∷ codes "v1" ∷ codes "rows.csv" ∷ codes "--replace=true" ∷ []) ≡ kinds.TooManyValues ∷ []
 unfolding clap_on_literals
 flag_has_no_word = refl
@@ -144,7 +156,12 @@ help_is_no_usage text (kind, inr (inr none), is) = let no : [] ≡ kinds.Display
 
 rows_are_lacking : LackAnObject (codes "export" ∷ codes "car.db" ∷ codes "v1" ∷ codes "nodes" ∷ [])
 unfolding clap_on_literals
-rows_are_lacking = inr (refl, refl)
+rows_are_lacking = inr (inl (refl, refl))
+
+-- a whole import is none
+replacement_is_lacking : LackAnObject (codes "try" ∷ codes "car.db" ∷ codes "supplier01" ∷ codes "v1" ∷ codes "rows.csv" ∷ codes "--whole" ∷ [])
+unfolding clap_on_literals
+replacement_is_lacking = inr (inr (refl, refl))
 
 no_file : (file : TextFile) → IsFileOf file [] → ⊥
 no_file (Config path) is = let no : None ≡ Some path.now = is.0 in cc
@@ -161,9 +178,11 @@ file_is_lacking = inl (refl, no_file)
 file_is_named : LackAnObject (codes "check" ∷ codes "car.toml" ∷ []) → ⊥
 unfolding clap_on_literals
 file_is_named (inl lacks) = lacks.1 (Config (record { ref_ptr = (0, 0); now = codes "car.toml" })) (refl, refl, refl, refl, refl)
-file_is_named (inr lacks) = let no : codes "check" ≡ codes "export" = lacks.0 in cc
+file_is_named (inr (inl lacks)) = let no : codes "check" ≡ codes "export" = lacks.0 in cc
+file_is_named (inr (inr lacks)) = let no : codes "check" ≡ codes "try" = lacks.0 in cc
 
 schedule_lacks_nothing : LackAnObject (codes "schedule" ∷ codes "car.db" ∷ codes "v1" ∷ []) → ⊥
 unfolding clap_on_literals
 schedule_lacks_nothing (inl lacks) = let no : codes "schedule" ≡ codes "check" = lacks.0 in cc
-schedule_lacks_nothing (inr lacks) = let no : codes "schedule" ≡ codes "export" = lacks.0 in cc
+schedule_lacks_nothing (inr (inl lacks)) = let no : codes "schedule" ≡ codes "export" = lacks.0 in cc
+schedule_lacks_nothing (inr (inr lacks)) = let no : codes "schedule" ≡ codes "try" = lacks.0 in cc

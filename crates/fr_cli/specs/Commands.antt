@@ -120,26 +120,21 @@ abbrev pub export : App
 export = with_rule (with_rule (with_rule (with_rule (with_rule (new_app (codes "export")) (word (codes "DB"))) (word (codes "VARIANT")))
     (word (codes "ROWS"))) part) supplier
 
+-- a word that is given or left out
+abbrev pub flag : Text → Rule
+flag name = record (new_rule name) { long = Some name; action = Some SetTrue }
+
 abbrev pub replace_words : App
-replace_words = with_rule (with_rule (with_rule (with_rule (new_app (codes "replace")) (word (codes "DB"))) (word (codes "KEY")))
-    (word (codes "VARIANT"))) (word (codes "FILE"))
+replace_words = with_rule (with_rule (with_rule (with_rule (with_rule (new_app (codes "replace")) (word (codes "DB"))) (word (codes "KEY")))
+    (word (codes "VARIANT"))) (word (codes "FILE"))) (flag (codes "whole"))
 
 abbrev pub import_words : App
 import_words = with_rule (with_rule (with_rule (with_rule (with_rule (new_app (codes "import")) (word (codes "DB"))) (word (codes "KEY")))
     (word (codes "VARIANT"))) (word (codes "LABEL"))) (word (codes "FILE"))
 
--- a word that is given or left out
-abbrev pub flag : Text → Rule
-flag name = record (new_rule name) { long = Some name; action = Some SetTrue }
-
 abbrev pub try_words : App
-try_words = with_rule (with_rule (with_rule (with_rule (with_rule (new_app (codes "try")) (word (codes "DB"))) (word (codes "KEY")))
-    (word (codes "VARIANT"))) (word (codes "FILE"))) (flag (codes "replace"))
-
--- `check`, with the texts that it may take
-abbrev pub check_texts : App
-check_texts = with_rule (with_rule (with_rule (with_rule (new_app (codes "check")) (free_word (codes "CONFIG"))) (named (codes "requests")))
-    (named (codes "rows"))) (named (codes "path"))
+try_words = with_rule (with_rule (with_rule (with_rule (with_rule (with_rule (new_app (codes "try")) (word (codes "DB"))) (word (codes "KEY")))
+    (word (codes "VARIANT"))) (word (codes "FILE"))) (flag (codes "replace"))) (flag (codes "whole"))
 
 abbrev pub check : App
 check = with_rule check_texts (named (codes "register"))

@@ -1,6 +1,7 @@
 -- Program's words: which job the words of the command line name, and which number a word is. When `clap` takes them; and
 -- why they are refused: they ask for help, have another fault, or name no job.
 use Rattle.std.specs.Prelude.{◌≡◌, ◌≢◌, ◌≤◌, ◌⊎◌, [], ℕ, Bool, true, false, if◌then◌else◌, List, None, Option, Some, codes, option_and_then, option_map, Result, Ok, MatchResult, ⊤}
+use Rattle.std.specs.Option.{option_map_or}
 use Rattle.std.specs.Str.{bytes_eq}
 use Rattle.std.specs.Borrow.{Bor}
 use Rattle.std.specs.Str.Parse.{IsNumeral, digits_value, without_leading_plus}
@@ -13,6 +14,8 @@ use Rattle.fr_base.specs.declared.import.Header.{Header}
 use Rattle.fr_base.specs.declared.import.Header.TheVariants.{Frames, Placements, Signals}
 use Rattle.fr_base.specs.declared.query.Query.{Query}
 use Rattle.fr_base.specs.declared.report.Report.TheVariants.{Export}
+use Rattle.fr_base.specs.declared.request.Manner.{Manner}
+use Rattle.fr_base.specs.declared.request.Manner.TheVariants.{Import, Replace}
 use Rattle.fr_cli.specs.Commands.{slotplan}
 use Rattle.fr_cli.specs.Reports.{Question, asked_with, of_variant, text_of_name}
 use Rattle.fr_cli.specs.declared.reports.ArgName.{ArgName}
@@ -43,10 +46,9 @@ abbrev pub IsNumberIn : Option ℕ → Text → ℕ → ℕ → List Row → Typ
 IsNumberIn (Some number) name least most rows = HasNumber name least most rows number
 IsNumberIn None name least most rows = (number : ℕ) → HasNumber name least most rows number → ⊥
 
--- The flag is the one of this name: `clap` gives it the text `true` where it is among the words, and else `false` or none.
-abbrev pub IsFlagIn : Bool → Text → List Row → Type 0
-IsFlagIn flag name rows = (one_of name rows ≡ Some (codes "true") → flag ≡ true)
-    × (one_of name rows ≡ Some (codes "false") → flag ≡ false) × (one_of name rows ≡ None → flag ≡ false)
+-- Whether the flag of this name is given: `clap` gives it the text `true` where it is among the words, and else `false`.
+abbrev pub is_given : Text → List Row → Bool
+is_given name rows = option_map_or (λ text. bytes_eq text (codes "true")) (one_of name rows) false
 
 -- the greatest number that a word may be where no other bound is named
 abbrev pub max_number : ℕ
@@ -109,17 +111,26 @@ abbrev pub IsFileIn : Option TextFile → List Row → Type 0
 IsFileIn (Some file) rows = IsFileOf file rows
 IsFileIn None rows = (file : TextFile) → IsFileOf file rows → ⊥
 
+-- how the rows of a file act that is tried: in a replacement where that is said, else in an import; a replacement alone may be whole
+abbrev pub manner_by : Bool → Bool → Option Manner
+manner_by true whole = Some (Replace whole)
+manner_by false true = None
+manner_by false false = Some Import
+
+abbrev pub manner_in : List Row → Option Manner
+manner_in rows = manner_by (is_given (codes "replace") rows) (is_given (codes "whole") rows)
+
 -- the subcommand that delivers a file of rows, or tries it
 abbrev pub word_of_delivery : DeliveryKind → Text
 word_of_delivery (ByLabel label) = codes "import"
-word_of_delivery Replacement = codes "replace"
-word_of_delivery (Trial replaces) = codes "try"
+word_of_delivery (Replacement whole) = codes "replace"
+word_of_delivery (Trial manner) = codes "try"
 
--- The label of an import is the word at its place. A file is tried as a replacement where that is said.
+-- The label of an import is the word at its place. A replacement is whole where that is said. A file is tried in the manner that is said.
 abbrev pub HasKind : DeliveryKind → List Row → Type 0
 HasKind (ByLabel label) rows = Has (codes "LABEL") rows label.now
-HasKind Replacement rows = ⊤
-HasKind (Trial replaces) rows = IsFlagIn replaces (codes "replace") rows
+HasKind (Replacement whole) rows = whole ≡ is_given (codes "whole") rows
+HasKind (Trial manner) rows = manner_in rows ≡ Some manner
 
 -- The delivery is of these words.
 abbrev pub IsDeliveryIn : List Row → Delivery → Type 0
@@ -167,9 +178,10 @@ abbrev pub AskForNone : List Text → Type 0
 AskForNone words = IsJobFound None (subcommand_of slotplan words)
 
 -- The subcommand of this name has no object with these words. `check` names no file, or several. Or `export` names rows that are neither
--- frames nor placements nor signals.
+-- frames nor placements nor signals. Or `try` is to be whole, and names no replacement that could be.
 abbrev pub HasNoObject : Text → List Row → Type 0
-HasNoObject name rows = ((name ≡ codes "check") × IsFileIn None rows) ⊎ ((name ≡ codes "export") × (header_in rows ≡ None))
+HasNoObject name rows = ((name ≡ codes "check") × IsFileIn None rows) ⊎ (((name ≡ codes "export") × (header_in rows ≡ None))
+    ⊎ ((name ≡ codes "try") × (manner_in rows ≡ None)))
 
 -- A subcommand was found, and has no object.
 abbrev pub IsFoundWithoutObject : Option (Text × List Row) → Type 0

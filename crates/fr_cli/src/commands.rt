@@ -283,7 +283,12 @@ fn replace<'a>(alloc: Global) -> Result<Command<'a>, AllocError>
         .arg(db(alloc))?
         .arg(key(alloc))?
         .arg(variant(alloc))?
-        .arg(rows(alloc))?;
+        .arg(rows(alloc))?
+        .arg(flag(
+            alloc,
+            "whole",
+            "The file is all that there is of its kind: what it does not name goes",
+        ))?;
     Ok(command)
 }
 
@@ -302,6 +307,11 @@ fn trial<'a>(alloc: Global) -> Result<Command<'a>, AllocError>
             alloc,
             "replace",
             "Tries it as replace would carry it out; without it, as import would",
+        ))?
+        .arg(flag(
+            alloc,
+            "whole",
+            "Tries it as replace --whole would carry it out; only with --replace",
         ))?;
     Ok(command)
 }
@@ -569,13 +579,15 @@ Example:
 const REPLACE_HELP: &str = "\
 The frames that the file names lose their placements, or their signals, and get those of
 the file; all others stay. All rows are carried out, or none. A file of frames adds those
-that are not there.
+that are not there. With --whole all others lose theirs too, and a file of frames takes
+out those that it does not name.
 
 Other users of the machine may see a key that stands on the command line. With - for KEY
 it is read from standard input, whose first line it is.
 
 Example:
-  slotplan replace car.db - v1 placements.csv < key.txt";
+  slotplan replace car.db - v1 placements.csv < key.txt
+  slotplan replace car.db - v1 frames.csv --whole < key.txt";
 
 const TRY_HELP: &str = "\
 A line for each row: its number (the header is 1), the number and the name of its refusal,
@@ -587,7 +599,8 @@ it is read from standard input, whose first line it is.
 
 Example:
   slotplan try car.db - v1 placements.csv < key.txt
-  slotplan try car.db - v1 placements.csv --replace < key.txt";
+  slotplan try car.db - v1 placements.csv --replace < key.txt
+  slotplan try car.db - v1 placements.csv --replace --whole < key.txt";
 
 const CHECK_HELP: &str = "\
 Of a cluster file the first fault is told, of requests and rows each fault with its line,

@@ -1,6 +1,6 @@
 //! What a supplier delivers to a register: a file of rows, as an import, in place of earlier rows, or to be tried.
 ghost use Rattle.std.specs.Prelude.{◌≡◌, IfOk};
-ghost use Rattle.fr_cli.specs.Deliveries.{manner_of, request_with};
+ghost use Rattle.fr_cli.specs.Deliveries.{request_with};
 
 use fr_base::{Body, Manner, NoMemory, Request, Text};
 use std::alloc::Global;
@@ -23,10 +23,10 @@ pub struct Delivery<'a> {
 pub enum DeliveryKind<'a> {
     /// As an import, which is kept under this label.
     Import { label: &'a str },
-    /// In place of the earlier rows of the frames that they name.
-    Replacement,
-    /// Not taken: the fate of each row is told, in a replacement if `replaces`, else in an import.
-    Trial { replaces: bool },
+    /// In place of the earlier rows of the frames that they name, or, where it is `whole`, of all the supplier's frames.
+    Replacement { whole: bool },
+    /// Not taken: the fate of each row is told that it had in this manner.
+    Trial { manner: Manner },
 }
 
 impl Delivery<'_> {
@@ -42,27 +42,16 @@ impl Delivery<'_> {
                 label: Text::copy(alloc, label)?,
                 body,
             }),
-            DeliveryKind::Replacement => Ok(Request::Replace {
+            DeliveryKind::Replacement { whole } => Ok(Request::Replace {
                 variant,
-                whole: false,
+                whole,
                 body,
             }),
-            DeliveryKind::Trial { replaces } => Ok(Request::Try {
+            DeliveryKind::Trial { manner } => Ok(Request::Try {
                 variant,
-                manner: manner_of(replaces),
+                manner,
                 body,
             }),
         }
-    }
-}
-
-// How the rows of a file act that is tried as a replacement, or else as an import.
-fn manner_of(replaces: bool) -> Manner
-    ensures { result ≡ manner_of replaces }
-{
-    if replaces {
-        Manner::Replace { whole: false }
-    } else {
-        Manner::Import
     }
 }

@@ -2,7 +2,7 @@
 ghost use Rattle.std.specs.Prelude.{◌≡◌, ◌⊎◌, codes, map, option_map, string_bytes, IfErr, IfOk, OnOk};
 ghost use Rattle.clap.specs.Walk.{first_of, rows_of};
 ghost use Rattle.clap.specs.Words.{found_of, kind_of, subcommand_rows_of};
-ghost use Rattle.fr_cli.specs.Words.{AreTaken, AskFor, HasKind, IsFaultOf, IsFileIn, IsFlagIn, IsJobFound, IsJobIn, IsJobOf, IsNumberIn, IsOfKind, IsReportJobIn, LackAnObject, MayRefuse, asked_by, header_in, records, word_of_delivery};
+ghost use Rattle.fr_cli.specs.Words.{AreTaken, AskFor, HasKind, IsFaultOf, IsFileIn, IsJobFound, IsJobIn, IsJobOf, IsNumberIn, IsOfKind, IsReportJobIn, LackAnObject, MayRefuse, asked_by, header_in, is_given, manner_in, records, word_of_delivery};
 ghost use Rattle.fr_cli.specs.declared.words.WordFault.TheVariants.{NoMemory};
 
 use crate::commands::{MAX_CONNECTIONS, MAX_PORT, MAX_SECONDS, program};
@@ -12,7 +12,7 @@ use crate::reports::{ArgName, report_command};
 use crate::text_file::TextFile;
 use clap::error::ErrorKind;
 use clap::{ArgMatches, Error};
-use fr_base::{Header, Query, QueryReader, Report};
+use fr_base::{Header, Manner, Query, QueryReader, Report};
 use std::alloc::Global;
 
 /// What is said of words of `check` that name no job, though `clap` takes them.
@@ -21,6 +21,9 @@ const NO_FILE: &str =
 
 /// What is said of words of `export` that name no job, though `clap` takes them.
 const NO_ROWS: &str = "export takes ROWS that are frames, placements or signals";
+
+/// What is said of words of `try` that name no job, though `clap` takes them.
+const NO_REPLACEMENT: &str = "try takes --whole only with --replace";
 
 /// What the program is to do.
 #[derive(Clone, Copy, PartialEq, Eq)]
@@ -89,7 +92,8 @@ pub enum WordFault {
 }
 
 /// The job that the words after the program's name ask for. Where `clap` takes the words there is one, unless memory runs
-/// out, or they lack an object: `check` names no file or several, or `export` names rows that are none of its three.
+/// out, or they lack an object: `check` names no file or several, `export` names rows that are none of its three, or `try`
+/// is to be whole and no replacement.
 pub fn read_words<'a>(alloc: Global, words: &'a [String]) -> Result<Job<'a>, WordFault>
     ensures taken { OnOk result (AreTaken (map string_bytes words.entry.now)) }
     ensures job { IfOk result (AskFor (map string_bytes words.entry.now)) }
@@ -118,11 +122,12 @@ fn read<'a>(alloc: Global, words: &'a [String]) -> Result<Job<'a>, Error>
     }
 }
 
-// What is said of words that `clap` takes and that name no job: those of `export` name no rows, or those of `check` no
-// file or several.
+// What is said of words that `clap` takes and that name no job: those of `export` name no rows, those of `try` no
+// replacement that could be whole, or those of `check` no file or several.
 fn missing_object(matches: &ArgMatches<'_>) -> &'static str {
     match matches.subcommand() {
         Some(("export", _)) => NO_ROWS,
+        Some(("try", _)) => NO_REPLACEMENT,
         _ => NO_FILE,
     }
 }
@@ -147,7 +152,7 @@ fn named_job<'a>(name: &str, found: &ArgMatches<'a>) -> Option<Job<'a>>
         "ask" => ask_job(found),
         "picture" => picture_job(found),
         "import" => import_job(found),
-        "replace" => deliver_job(found, DeliveryKind::Replacement),
+        "replace" => replace_job(found),
         "try" => try_job(found),
         "check" => check_job(found),
         "explain" => Some(explain_job(found)),
@@ -293,11 +298,32 @@ fn import_job<'a>(found: &ArgMatches<'a>) -> Option<Job<'a>>
     deliver_job(found, DeliveryKind::Import { label })
 }
 
+fn replace_job<'a>(found: &ArgMatches<'a>) -> Option<Job<'a>>
+    ensures { IsJobIn result (codes "replace") (rows_of (found_of found.now)) }
+{
+    let whole = flag(found, "whole");
+    deliver_job(found, DeliveryKind::Replacement { whole })
+}
+
 fn try_job<'a>(found: &ArgMatches<'a>) -> Option<Job<'a>>
     ensures { IsJobIn result (codes "try") (rows_of (found_of found.now)) }
 {
-    let replaces = flag(found, "replace");
-    deliver_job(found, DeliveryKind::Trial { replaces })
+    let manner = manner(found)?;
+    deliver_job(found, DeliveryKind::Trial { manner })
+}
+
+// How the rows of a file act that is tried.
+fn manner(found: &ArgMatches<'_>) -> Option<Manner>
+    ensures { result ≡ manner_in (rows_of (found_of found.now)) }
+{
+    let whole = flag(found, "whole");
+    if flag(found, "replace") {
+        Some(Manner::Replace { whole })
+    } else if whole {
+        None
+    } else {
+        Some(Manner::Import)
+    }
 }
 
 fn deliver_job<'a>(found: &ArgMatches<'a>, kind: DeliveryKind<'a>) -> Option<Job<'a>>
@@ -358,11 +384,11 @@ fn word<'a>(found: &ArgMatches<'a>, name: &str) -> Option<&'a str>
     found.get_str(name)
 }
 
-// Whether the word of this name is given.
+// Whether the flag of this name is given.
 fn flag(found: &ArgMatches<'_>, name: &str) -> bool
-    ensures { IsFlagIn result name.now (rows_of (found_of found.now)) }
+    ensures { result ≡ is_given name.now (rows_of (found_of found.now)) }
 {
-    found.get_flag(name)
+    found.get_one(name).unwrap_or(false)
 }
 
 // The number at this place, if it is `least` to `most`.

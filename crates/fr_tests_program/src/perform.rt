@@ -81,7 +81,7 @@ fn each_command_finds_what_the_others_did(rt: HostRuntime) -> Result<(), Fail> {
     granted(&rt, db)?;
     let import = delivery_of(db, DeliveryKind::Import { label: "l1" }, file);
     assert!(rt; prints(&rt, &import, "{\"ok\":\"imported\",\"rows\":1}\n"));
-    let replacement = delivery_of(db, DeliveryKind::Replacement, file);
+    let replacement = delivery_of(db, DeliveryKind::Replacement { whole: false }, file);
     assert!(rt; prints(&rt, &replacement, "{\"ok\":\"replaced\",\"rows\":1}\n"));
     assert!(rt;
         prints(

@@ -1,9 +1,6 @@
-use Rattle.std.proofs.Common.{◌∙◌}
-use Rattle.clap.proofs.WalkLemmas.{one_text-rows}
 use Rattle.clap.specs.Words.{found_of}
+use Rattle.fr_cli.proofs.FlagLaws.{flag_read}
 use Rattle.fr_cli.proofs.words.flag.Goals as goal
 
 pub returns : goal.returns
-returns c =
-    let same = one_text-rows (found_of c.args.found.now) c.args.name.now in
-    ((λ is. c.get_flag.ensures.value (same ∙ is)), (λ is. c.get_flag.ensures.other (same ∙ is)), (λ is. c.get_flag.ensures.none (same ∙ is)))
+returns c = flag_read (found_of c.args.found.now) c.args.name.now c.get_one.result c.get_one.ensures.none c.get_one.ensures.value
