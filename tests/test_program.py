@@ -43,6 +43,7 @@ REQUIRED = {
 }
 
 NO_ROWS = usage("export takes ROWS that are frames, placements or signals", "Usage: slotplan <COMMAND>", "")
+NO_REPLACEMENT = usage("try takes --whole only with --replace", "Usage: slotplan <COMMAND>", "")
 NO_FILE = usage("check takes one of these: CONFIG, --requests FILE, --rows FILE, --path PATH, --register DB", "Usage: slotplan <COMMAND>", "")
 
 
@@ -111,6 +112,10 @@ class Words(StartCase):
     def test_rows(self):
         for rows in "frame", "Frames", "variants", "":
             self.no_job(NO_ROWS, "export", "d", "v", rows)
+
+    def test_whole_imports(self):
+        for words in ("d", "k", "v", "f", "--whole"), ("--whole", "d", "-", "v", "f"):
+            self.no_job(NO_REPLACEMENT, "try", *words)
 
     def test_files_to_check(self):
         two = ("c", "--requests", "r"), ("c", "--rows", "r"), ("--requests", "q", "--rows", "r"), ("c", "--requests", "q", "--rows", "r")
