@@ -87,6 +87,7 @@ text_of_hindrance way.NoDatabase = codes "it is no SQLite database"
 text_of_hindrance way.NoRegister = codes "it is a database without a register"
 text_of_hindrance way.OtherSchema = codes "its schema is not 2: slotplan migrate takes one of schema 1"
 text_of_hindrance way.Damaged = codes "the database is damaged, or its tables and rows make no register"
+text_of_hindrance way.ReadFailed = codes "a read of it failed, or it was gone before all was looked at"
 
 -- a line for each
 abbrev pub hindrance_lines_of : List Hindrance → List ℕ

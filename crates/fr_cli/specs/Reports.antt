@@ -1,8 +1,9 @@
 -- Reports: the subcommand of each, and what is asked with it.
-use Rattle.std.specs.Prelude.{ℕ, List, [], ◌∷◌, codes, Option}
+use Rattle.std.specs.Prelude.{List, [], ◌∷◌, codes, map, Option}
 use Rattle.std.specs.Map.{lookup}
 use Rattle.std.specs.Str.{bytes_eq}
 use Rattle.clap.specs.Walk.{Text}
+use Rattle.fr_base.specs.Queries.{word_of_query}
 use Rattle.fr_base.specs.declared.query.Inventory.TheVariants.{Cluster, Variants, Nodes}
 use Rattle.fr_base.specs.declared.query.Query.{Query}
 use Rattle.fr_base.specs.declared.query.Query.TheVariants.{Register as OfRegister, Variant as OfVariant, Difference as OfTwo}
@@ -29,22 +30,26 @@ Question = Query ArgName ArgName
 abbrev pub of_variant : Report ArgName ArgName → Question
 of_variant report = OfVariant arg.Variant report
 
--- the subcommands, and what is asked with each
-abbrev pub reports : List (Text × Question)
-reports =
-    (codes "cluster", OfRegister Cluster)
-    ∷ (codes "variants", OfRegister Variants)
-    ∷ (codes "nodes", OfRegister Nodes)
-    ∷ (codes "diff", OfTwo arg.To arg.From)
-    ∷ (codes "grants", of_variant Grants)
-    ∷ (codes "frames", of_variant Frames)
-    ∷ (codes "schedule", of_variant Schedule)
-    ∷ (codes "gaps", of_variant Gaps)
-    ∷ (codes "load", of_variant Load)
-    ∷ (codes "rows", of_variant Rows)
-    ∷ (codes "layout", of_variant (Layout arg.Frame))
-    ∷ (codes "room", of_variant (Room arg.Frame arg.Repetition))
+-- what is asked with the subcommands
+abbrev pub questions : List Question
+questions =
+    OfRegister Cluster
+    ∷ OfRegister Variants
+    ∷ OfRegister Nodes
+    ∷ OfTwo arg.To arg.From
+    ∷ of_variant Grants
+    ∷ of_variant Frames
+    ∷ of_variant Schedule
+    ∷ of_variant Gaps
+    ∷ of_variant Load
+    ∷ of_variant Rows
+    ∷ of_variant (Layout arg.Frame)
+    ∷ of_variant (Room arg.Frame arg.Repetition)
     ∷ []
+
+-- the subcommands, each called by the word by which a request asks the same
+abbrev pub reports : List (Text × Question)
+reports = map (λ question. (word_of_query question, question)) questions
 
 -- a row of the code's table, without its help
 abbrev pub row_in : ReportCommand → Text × Question

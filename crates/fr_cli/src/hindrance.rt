@@ -39,6 +39,8 @@ pub enum Hindrance {
     OtherSchema,
     /// The database is damaged, or its tables and rows make no register.
     Damaged,
+    /// It could not be looked at to the end.
+    ReadFailed,
 }
 
 impl Hindrance {
@@ -67,6 +69,7 @@ impl Hindrance {
             Hindrance::OtherSchema => "its schema is not 2: slotplan migrate takes one of schema 1",
             Hindrance::Damaged =>
                 "the database is damaged, or its tables and rows make no register",
+            Hindrance::ReadFailed => "a read of it failed, or it was gone before all was looked at",
         }
     }
 }

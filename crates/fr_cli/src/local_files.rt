@@ -38,10 +38,10 @@ impl<'a> TextFiles for LocalFiles<'a> {
         match find_hindrances(self.rt, path) {
             Ok(found) => Ok(found),
             Err(error) if error.kind() == ErrorKind::OutOfMemory => Err(AllocError),
-            // A file that was there is gone, or cannot be read any more.
+            // A file that was there is gone, or cannot be read to its end.
             Err(_) => {
                 let mut found = Vec::new(self.rt.alloc());
-                found.push(Hindrance::Hidden)?;
+                found.push(Hindrance::ReadFailed)?;
                 Ok(found)
             }
         }
