@@ -40,7 +40,7 @@ found name (command ∷ others) = by (bytes_eq name command.name.now) (found nam
     by false same = same
 
 -- whether a file is delivered by the subcommand of this name
-is_delivery : Text → Bool
+abbrev is_delivery : Text → Bool
 is_delivery name = bytes_eq name (codes "import") || (bytes_eq name (codes "replace") || bytes_eq name (codes "try"))
 
 delivers : (kind : DeliveryKind) → is_delivery (word_of_delivery kind) ≡ true
@@ -105,32 +105,32 @@ module _ (rows : List Row) where
   report_unread Gaps e filled none is = cc
   report_unread Load e filled none is = cc
   report_unread Rows e filled none is = cc
-  report_unread (Layout frame) e filled (Ok f, has, no) is = cc
-  report_unread (Layout frame) e filled (Err _, none, no) (Ok f, has, is) = no_word frame f none has
-  report_unread (Layout frame) e filled (Err _, none, no) (Err _, other, is) = cc
-  report_unread (Room frame number) e filled (Ok f, has, (Ok n, counted, no)) is = cc
-  report_unread (Room frame number) e filled (Ok f, has, (Err _, none, no)) (Ok _, _, (Ok n, counted, is)) = none n counted
-  report_unread (Room frame number) e filled (Ok f, has, (Err _, none, no)) (Ok _, _, (Err _, other, is)) = cc
-  report_unread (Room frame number) e filled (Ok f, has, (Err _, none, no)) (Err _, other, is) = cc
-  report_unread (Room frame number) e filled (Err _, none, no) (Ok f, has, is) = no_word frame f none has
-  report_unread (Room frame number) e filled (Err _, none, no) (Err _, other, is) = cc
-  report_unread (Export header part) e filled (Ok n, counted, no) is = cc
-  report_unread (Export header part) e filled (Err _, none, no) (Ok n, counted, is) = none n counted
-  report_unread (Export header part) e filled (Err _, none, no) (Err _, other, is) = cc
+  report_unread (Layout one) e filled (Ok f, has, lost) is = cc
+  report_unread (Layout one) e filled (Err _, none, lost) (Ok f, has, is) = no_word one f none has
+  report_unread (Layout one) e filled (Err _, none, lost) (Err _, other, is) = cc
+  report_unread (Room one number) e filled (Ok f, has, (Ok n, counted, lost)) is = cc
+  report_unread (Room one number) e filled (Ok f, has, (Err _, none, lost)) (Ok _, _, (Ok n, counted, is)) = none n counted
+  report_unread (Room one number) e filled (Ok f, has, (Err _, none, lost)) (Ok _, _, (Err _, other, is)) = cc
+  report_unread (Room one number) e filled (Ok f, has, (Err _, none, lost)) (Err _, other, is) = cc
+  report_unread (Room one number) e filled (Err _, none, lost) (Ok f, has, is) = no_word one f none has
+  report_unread (Room one number) e filled (Err _, none, lost) (Err _, other, is) = cc
+  report_unread (Export header number) e filled (Ok n, counted, lost) is = cc
+  report_unread (Export header number) e filled (Err _, none, lost) (Ok n, counted, is) = none n counted
+  report_unread (Export header number) e filled (Err _, none, lost) (Err _, other, is) = cc
 
   pub unread : (question : Question) (e : ⊤) (filled : Query (Bor Text) ℕ)
       → IsQueryRead (IsWordAt rows) (IsNumberAt rows) question (Err e) → IsQueryRead (IsWordAt rows) (IsNumberAt rows) question (Ok filled) → ⊥
   unfolding names_open
   unread (OfRegister inventory) e filled none is = cc
-  unread (OfVariant variant report) e filled (Ok v, has, (Ok r, read, no)) is = cc
-  unread (OfVariant variant report) e filled (Ok v, has, (Err e', none, no)) (Ok _, _, (Ok r, read, is)) = report_unread report e' r none read
-  unread (OfVariant variant report) e filled (Ok v, has, (Err e', none, no)) (Ok _, _, (Err _, other, is)) = cc
-  unread (OfVariant variant report) e filled (Ok v, has, (Err e', none, no)) (Err _, other, is) = cc
-  unread (OfVariant variant report) e filled (Err _, none, no) (Ok v, has, is) = no_word variant v none has
-  unread (OfVariant variant report) e filled (Err _, none, no) (Err _, other, is) = cc
-  unread (OfTwo variant from) e filled (Ok v, has, (Ok f, other, no)) is = cc
-  unread (OfTwo variant from) e filled (Ok v, has, (Err _, none, no)) (Ok _, _, (Ok f, other, is)) = no_word from f none other
-  unread (OfTwo variant from) e filled (Ok v, has, (Err _, none, no)) (Ok _, _, (Err _, other, is)) = cc
-  unread (OfTwo variant from) e filled (Ok v, has, (Err _, none, no)) (Err _, other, is) = cc
-  unread (OfTwo variant from) e filled (Err _, none, no) (Ok v, has, is) = no_word variant v none has
-  unread (OfTwo variant from) e filled (Err _, none, no) (Err _, other, is) = cc
+  unread (OfVariant one report) e filled (Ok v, has, (Ok r, read, lost)) is = cc
+  unread (OfVariant one report) e filled (Ok v, has, (Err e', none, lost)) (Ok _, _, (Ok r, read, is)) = report_unread report e' r none read
+  unread (OfVariant one report) e filled (Ok v, has, (Err e', none, lost)) (Ok _, _, (Err _, other, is)) = cc
+  unread (OfVariant one report) e filled (Ok v, has, (Err e', none, lost)) (Err _, other, is) = cc
+  unread (OfVariant one report) e filled (Err _, none, lost) (Ok v, has, is) = no_word one v none has
+  unread (OfVariant one report) e filled (Err _, none, lost) (Err _, other, is) = cc
+  unread (OfTwo one two) e filled (Ok v, has, (Ok f, other, lost)) is = cc
+  unread (OfTwo one two) e filled (Ok v, has, (Err _, none, lost)) (Ok _, _, (Ok f, other, is)) = no_word two f none other
+  unread (OfTwo one two) e filled (Ok v, has, (Err _, none, lost)) (Ok _, _, (Err _, other, is)) = cc
+  unread (OfTwo one two) e filled (Ok v, has, (Err _, none, lost)) (Err _, other, is) = cc
+  unread (OfTwo one two) e filled (Err _, none, lost) (Ok v, has, is) = no_word one v none has
+  unread (OfTwo one two) e filled (Err _, none, lost) (Err _, other, is) = cc

@@ -1,5 +1,5 @@
 -- Words of the command line, computed: their job and their numbers, or the fault for which they are refused.
-use Rattle.std.proofs.Common.{◌≡◌, ◌∙◌, [], ◌∷◌, ap, codes, inl, inr, option_map, refl, subst, sym, Bor, Global, List, None, ℕ, Some, Ok, String}
+use Rattle.std.proofs.Common.{◌≡◌, ◌∙◌, [], ◌∷◌, ap, codes, inl, inr, option_map, refl, subst, sym, true, Bor, Global, List, None, ℕ, Some, Ok, String}
 use Rattle.clap.proofs.OnLiterals.{clap_on_literals}
 use Rattle.clap.specs.Walk.{one_of}
 use Rattle.clap.specs.Words.{IsAmong, fault_of, subcommand_of}

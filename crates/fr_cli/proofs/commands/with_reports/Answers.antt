@@ -13,7 +13,7 @@ loop-asked-init c old is = is
 pub loop-asked-preserved : goal.loop-asked-preserved
 loop-asked-preserved c old is =
     one_more old c.args.reports.now c.loop-asked.asked-index _ _ c.loop-asked-test.true
-    (with_job _ _ _ _ _ c.in_ok-subcommand.ensures (c.loop-asked.invariant old is) c.in_ok-report.ensures)
+    (with_job _ _ _ _ _ c.in_ok-grown.ensures (c.loop-asked.invariant old is) c.in_ok-report.ensures)
 
 pub returns : goal.returns
 returns c old is =

@@ -1,6 +1,7 @@
+use Rattle.std.proofs.Common.{◌∙◌}
 use Rattle.clap.specs.Words.{found_of}
 use Rattle.fr_cli.proofs.FlagLaws.{flag_read}
 use Rattle.fr_cli.proofs.words.flag.Goals as goal
 
 pub returns : goal.returns
-returns c = flag_read (found_of c.args.found.now) c.args.name.now c.get_one.result c.get_one.ensures.none c.get_one.ensures.value
+returns c = c.unwrap_or.ensures ∙ flag_read _ (found_of c.args.found.now) c.args.name.now c.get_one.result c.get_one.ensures.none c.get_one.ensures.value
