@@ -1,5 +1,5 @@
 -- The number that `get_one` reads is the one at its place.
-use Rattle.std.proofs.Common.{◌≡◌, ◌<◌, ◌^◌, ◌∙◌, ap, sym, refl, ℕ, List, Option, Some, None, Result, Ok, Err, Bor, arith, codes, false, true, inl, inr, ◌⊎◌}
+use Rattle.std.proofs.Common.{◌≡◌, ◌<◌, ◌^◌, ◌∙◌, ap, sym, refl, ℕ, List, Option, Some, None, Result, Ok, Err, arith, codes, false, true, inl, inr, ◌⊎◌}
 use Rattle.std.proofs.lemmas.Slice.Eq.{bytes_eq-Decides}
 use Rattle.std.specs.Str.{bytes_eq}
 use Rattle.std.specs.Prelude.{unwrap_or}

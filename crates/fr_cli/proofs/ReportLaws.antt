@@ -2,7 +2,7 @@
 use Rattle.std.proofs.Common.{◌≡◌, ◌∙◌, ◌||◌, sym, refl, ap, subst, cond, map, ℕ, Bool, true, false, List, [], ◌∷◌, Option, Some, None, Ok, Err, codes, Bor}
 use Rattle.std.specs.List.{find}
 use Rattle.std.specs.Map.{lookup}
-use Rattle.std.specs.Prelude.{⊤, ◌≢◌, option_copied, option_map}
+use Rattle.std.specs.Prelude.{⊤, option_copied, option_map}
 use Rattle.std.specs.Str.{bytes_eq}
 use Rattle.clap.specs.Walk.{Row, Text, first_of}
 use Rattle.fr_base.proofs.QueryLemmas.{names_open}
@@ -12,11 +12,10 @@ use Rattle.fr_base.specs.declared.query.Query.TheVariants.{Register as OfRegiste
 use Rattle.fr_base.specs.declared.report.Report.{Report}
 use Rattle.fr_base.specs.declared.report.Report.TheVariants.{Grants, Frames, Schedule, Gaps, Layout, Load, Rows, Room, Export}
 use Rattle.fr_cli.specs.Reports.{Question, asked_with, row_in, text_of_name}
-use Rattle.fr_cli.specs.Words.{HasKind, IsAnswerable, IsDeliveryIn, IsJobIn, IsJobOf, IsNumberAt, IsReportJobIn, IsWordAt, asked_by, manner_in, word_of_delivery}
+use Rattle.fr_cli.specs.Words.{HasKind, IsAnswerable, IsDeliveryIn, IsJobIn, IsJobOf, IsNumberAt, IsWordAt, asked_by, manner_in, word_of_delivery}
 use Rattle.fr_cli.specs.declared.delivery.Delivery.{Delivery}
 use Rattle.fr_cli.specs.declared.delivery.DeliveryKind.{DeliveryKind}
 use Rattle.fr_cli.specs.declared.delivery.DeliveryKind.TheVariants.{Import as ByLabel, Replacement, Trial}
-use Rattle.fr_cli.specs.declared.query.Inquiry.{Inquiry}
 use Rattle.fr_cli.specs.declared.reports.ArgName.{ArgName}
 use Rattle.fr_cli.specs.declared.reports.ReportCommand.{ReportCommand}
 use Rattle.fr_cli.specs.declared.words.Job.{Job}

@@ -6,7 +6,7 @@ use Rattle.std.specs.Str.{bytes_eq}
 use Rattle.std.proofs.lemmas.Slice.Eq.{bytes_eq-Decides}
 use Rattle.clap.specs.Faults.{level_fault}
 use Rattle.clap.specs.Simple.{Shape, built, label_of}
-use Rattle.clap.specs.Walk.{Row, Rule, Text, answers_to, first_of, nothing_held, one_of, rows_after}
+use Rattle.clap.specs.Walk.{Row, Rule, Text, answers_to, first_of, nothing_held, rows_after}
 use Rattle.fr_base.proofs.QueryLemmas.{names_open}
 use Rattle.fr_base.specs.QueryNames.{IsQueryRead, IsReportRead}
 use Rattle.fr_base.specs.declared.import.Header.{Header}

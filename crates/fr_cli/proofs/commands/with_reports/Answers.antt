@@ -1,7 +1,6 @@
-use Rattle.std.proofs.Common.{rules, map, subst, take}
+use Rattle.std.proofs.Common.{map, subst}
 use Rattle.std.proofs.lemmas.List.{take_all}
 use Rattle.std.specs.List.{fold}
-use Rattle.clap.specs.Words.{App}
 use Rattle.fr_cli.proofs.CommandLaws.{one_more, with_job}
 use Rattle.fr_cli.proofs.commands.with_reports.Goals as goal
 use Rattle.fr_cli.specs.Commands.{IsReadAs, with_report}

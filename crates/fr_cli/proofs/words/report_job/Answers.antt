@@ -1,4 +1,4 @@
-use Rattle.std.proofs.Common.{Some, subst, sym, Option}
+use Rattle.std.proofs.Common.{subst, sym, Option}
 use Rattle.clap.specs.Walk.{rows_of}
 use Rattle.clap.specs.Words.{found_of}
 use Rattle.fr_cli.specs.Reports.{Question}
