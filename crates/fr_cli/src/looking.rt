@@ -2,7 +2,6 @@
 //!
 //! No contract of the standard library says what the system tells of a file. So no clause says here which hindrances are found.
 use crate::hindrance::Hindrance;
-use fr_base::NoMemory;
 use fr_store::{MemoryFile, Store, StoreFault};
 use os::RangeLock;
 use sqlite::{Files, Options};

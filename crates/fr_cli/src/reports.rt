@@ -269,7 +269,8 @@ Example:
   slotplan load car.db v1
   slotplan load car.db v1 --supplier s1";
 
-const ROWS_ABOUT: &str = "Prints all rows of a variant: grants, frames, placements, signals and gaps";
+const ROWS_ABOUT: &str =
+    "Prints all rows of a variant: grants, frames, placements, signals and gaps";
 
 const ROWS_HELP: &str = "\
 A line for each grant, frame, placement, signal and gap, in this order. Each is that of
