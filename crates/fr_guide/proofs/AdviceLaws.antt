@@ -9,7 +9,7 @@ use Rattle.std.proofs.lemmas.List.Folds.{list_all-map}
 use Rattle.fr_guide.specs.Advice.{AdviceIsExact, AreRemarks, AreTold, IsAdvice, IsFault, Remarks, is_fine_text, lines_in, printed}
 use Rattle.fr_guide.specs.Faults.{all_lines, are_none, fault_line, is_fine}
 use Rattle.fr_guide.specs.RequestFile.{HasFault, bad_lines, is_fine_line}
-use Rattle.fr_guide.specs.Rows.{AreInOrder, fine_file, line_count, line_ends, numbers_of}
+use Rattle.fr_guide.specs.Rows.{AreInOrder, fine_file, line_count, numbers_of}
 use Rattle.fr_guide.specs.declared.advice.Subject.{Subject}
 use Rattle.fr_guide.specs.declared.advice.Subject.TheVariants.{Rows, Requests}
 use Rattle.fr_guide.specs.declared.line_faults.LineFaults.{LineFaults}
