@@ -69,10 +69,16 @@ unfolding rows
 routes_of_the_register = refl
 
 pub routes_of_rows :
-    map route_of (codes "/v1/variants/v1/load" ∷ codes "/v1/variants/v1/rows" ∷ codes "/v1/variants/v1/rows/whole" ∷ codes "/v1/variants/v1/tries/whole" ∷ codes "/v1/variants/v1/rows/whole/x" ∷ [])
-    ≡ Some (report Load) ∷ Some (Two (of_variant Rows) (Replace false)) ∷ Some (One (Replace true)) ∷ Some (One (Try (manner.Replace true))) ∷ None ∷ []
+    map route_of (codes "/v1/variants/v1/load" ∷ codes "/v1/variants/v1/rows" ∷ [])
+    ≡ Some (report Load) ∷ Some (Two (of_variant Rows) (Replace false)) ∷ []
 unfolding rows
 routes_of_rows = refl
+
+pub routes_of_wholes :
+    map route_of (codes "/v1/variants/v1/rows/whole" ∷ codes "/v1/variants/v1/tries/whole" ∷ [])
+    ≡ Some (One (Replace true)) ∷ Some (One (Try (manner.Replace true))) ∷ []
+unfolding rows
+routes_of_wholes = refl
 
 -- the planner's page stands at the first path alone, which has no other method, and a `?` behind it changes nothing
 pub route_of_the_page :
