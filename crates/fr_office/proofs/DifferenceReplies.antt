@@ -1,5 +1,5 @@
 -- In what two variants differ, as it is gathered of one after the other, is what the register shows.
-use Rattle.std.proofs.Common.{◌≡◌, ℕ, Bool, true, false, ◌||◌, List, [], ◌∷◌, ◌++◌, map, Option, Some, None, is_some, Result, Ok, Err, refl, sym, ap, ◌∙◌, inl, inr, append_assoc}
+use Rattle.std.proofs.Common.{◌≡◌, ℕ, Bool, true, false, List, [], ◌∷◌, ◌++◌, map, Option, Some, None, is_some, Result, Ok, Err, refl, sym, ap, ◌∙◌, inl, inr, append_assoc}
 use Rattle.std.specs.List.{flat_map}
 use Rattle.fr_base.specs.Book as book
 use Rattle.fr_base.specs.Book.{Book, Frame, Variant}

@@ -68,10 +68,7 @@ fn replace_rows<R: Lender>(
 }
 
 // The kind of rows of which the replacement's file is the whole, if it is one.
-fn kind_of_whole(
-    alloc: Global,
-    replacement: &Replacement<'_>,
-) -> Result<Option<Header>, Refusal>
+fn kind_of_whole(alloc: Global, replacement: &Replacement<'_>) -> Result<Option<Header>, Refusal>
     ensures { MatchResult result (λ kind. kind ≡ whole_in replacement.now)
         (λ e. e ≡ Unavailable) }
 {
