@@ -38,7 +38,7 @@ use Rattle.fr_world.proofs.RemoveLaws.{remove-none}
 
 -- ---- tables
 
-below_other : (r : Ordering) → T (is_lt r) → is_eq r ≡ false
+pub below_other : (r : Ordering) → T (is_lt r) → is_eq r ≡ false
 below_other Less h = refl
 below_other Equal h = absurd h
 below_other Greater h = refl
@@ -105,7 +105,7 @@ placements-ended s f (q ∷ qs) frames frame found is =
     ∙ placements-ended s f qs (insert frames (s, f) left) left (get-put frames (s, f) left) (remove-first frame.placements q tt (listed qs) is)
     ∙ insert-again frames (s, f) left (record frame { placements = empty })
 
-unplace-admitted : (f : Name) (page : OwnRows) (frame : Frame) (q : Placement) → get page.frames (page.supplier, f) ≡ Some frame → IsTrue (contains frame.placements q) → admits_alone page (change.Frame f (Unplace q)) ≡ Ok tt
+pub unplace-admitted : (f : Name) (page : OwnRows) (frame : Frame) (q : Placement) → get page.frames (page.supplier, f) ≡ Some frame → IsTrue (contains frame.placements q) → admits_alone page (change.Frame f (Unplace q)) ≡ Ok tt
 unfolding admits admits_frame ◌or◌ ◌>>=◌ refuse◌when◌
 unplace-admitted f page frame q found there = rw (found, there) refl
 
@@ -122,10 +122,10 @@ placements-admitted f (q ∷ qs) page frame found is =
 
 -- ---- signals
 
-abbrev Differ : SignalData → SignalData → Type 0
+abbrev pub Differ : SignalData → SignalData → Type 0
 Differ x y = x.name ≢ y.name
 
-others-stay : (x : SignalData) (xs : List SignalData) → All (Differ x) xs → without_signal x.name xs ≡ xs
+pub others-stay : (x : SignalData) (xs : List SignalData) → All (Differ x) xs → without_signal x.name xs ≡ xs
 others-stay x [] other = refl
 others-stay x (y ∷ xs) other =
     ap (λ b. cond (not b) (y ∷ without_signal x.name xs) (without_signal x.name xs)) (apart (same_text y.name x.name) refl)
@@ -135,7 +135,7 @@ others-stay x (y ∷ xs) other =
     apart true e = absurd (All-head (Differ x) y xs other (sym (same_text-is y.name x.name e)))
     apart false e = e
 
-first-dropped : (x : SignalData) (xs : List SignalData) → AllPairs Differ (x ∷ xs) → without_signal x.name (x ∷ xs) ≡ xs
+pub first-dropped : (x : SignalData) (xs : List SignalData) → AllPairs Differ (x ∷ xs) → without_signal x.name (x ∷ xs) ≡ xs
 first-dropped x xs differ =
     ap (λ b. cond (not b) (x ∷ without_signal x.name xs) (without_signal x.name xs)) (same_text-itself x.name)
     ∙ others-stay x xs (AllPairs-head Differ x xs differ)
@@ -157,7 +157,7 @@ signals-ended s f (x ∷ xs) frames frame found is differ =
     ∙ signals-ended s f xs (insert frames (s, f) left) left (get-put frames (s, f) left) (left_signals frame x xs is differ) (AllPairs-tail Differ x xs differ)
     ∙ insert-again frames (s, f) left (record frame { signals = [] })
 
-drop-admitted : (f : Name) (page : OwnRows) (frame : Frame) (name : List ℕ) → get page.frames (page.supplier, f) ≡ Some frame → IsTrue (has_signal frame.signals name) → admits_alone page (change.Frame f (DropSignal name)) ≡ Ok tt
+pub drop-admitted : (f : Name) (page : OwnRows) (frame : Frame) (name : List ℕ) → get page.frames (page.supplier, f) ≡ Some frame → IsTrue (has_signal frame.signals name) → admits_alone page (change.Frame f (DropSignal name)) ≡ Ok tt
 unfolding admits admits_frame ◌or◌ ◌>>=◌ refuse◌when◌
 drop-admitted f page frame name found there = rw (found, there) refl
 
@@ -225,7 +225,7 @@ clearing-ends s f Frames reads frames None found named = freeing-ends s f Frames
 clearing-ends s f Placements reads frames there found named = freeing-ends s f Placements frames there found named
 clearing-ends s f Signals reads frames there found named = freeing-ends s f Signals frames there found named
 
-drop_frame-admitted : (f : Name) (page : OwnRows) (frame : Frame) → get page.frames (page.supplier, f) ≡ Some frame → admits_alone page (change.Frame f Drop) ≡ Ok tt
+pub drop_frame-admitted : (f : Name) (page : OwnRows) (frame : Frame) → get page.frames (page.supplier, f) ≡ Some frame → admits_alone page (change.Frame f Drop) ≡ Ok tt
 unfolding admits admits_frame ◌or◌ ◌>>=◌ refuse◌when◌
 drop_frame-admitted f page frame found = rw found refl
 

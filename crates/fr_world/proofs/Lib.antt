@@ -47,6 +47,12 @@ pub mod ReadLaws
 pub mod FreeingLaws
 pub mod ClearingLaws
 pub mod ReplacementRows
+pub mod SignalsBeside
+pub mod FramesBeside
+pub mod PagesBetween
+pub mod LedFrames
+pub mod SameBooks
+pub mod SamePages
 pub mod TrialRows
 pub mod ReplacementsLead
 pub mod ReplacementsDecide

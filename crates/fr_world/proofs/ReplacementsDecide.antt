@@ -34,14 +34,18 @@ use Rattle.fr_base.proofs.SoundChecks.{IsFormedFrame}
 use Rattle.fr_base.proofs.SoundTables.{get-passing, get-put, insert-again, same_some}
 use Rattle.fr_world.specs.BookEdits.{applied, all_applied, changed_at}
 use Rattle.fr_world.specs.Decisions.{admits_alone}
-use Rattle.fr_world.specs.Pages.{page_in}
+use Rattle.fr_world.specs.Edits.{Leads}
+use Rattle.fr_world.specs.PageEdits.{edits_between}
+use Rattle.fr_world.specs.Pages.{PageData, own_rows_of, page_in}
 use Rattle.fr_world.specs.ReplacementDecisions.{AreAdmitted, begun, clear_all, clear_frame, clear_frames, clearing, free_row, free_rows, freeing, replace_read, replace_row, replace_rows, replacement_decision, with_changes}
 use Rattle.fr_world.specs.RowDecisions.{DraftData, draft_of, make_frame, with_change, with_frame}
 use Rattle.fr_world.specs.declared.edit.Edit.{Edit}
 use Rattle.fr_world.specs.declared.edit.Edit.TheVariants.{Rows}
 use Rattle.fr_world.proofs.FreeingLaws.{IsNamed, clearing-admitted, clearing-ends, ended, freeing-admitted, freeing-ends}
-use Rattle.fr_world.proofs.PageLaws.{rows-registers}
-use Rattle.fr_world.proofs.RowsDecide.{Draws, Like, drawn, frame-like, frame-shown, like-is, like_bind, like_when, line-like, node-shown, row-like}
+use Rattle.fr_world.proofs.PageLaws.{rows-kept, rows-registers}
+use Rattle.fr_world.proofs.ReplacementsLead.{replacement-between, replacement-led}
+use Rattle.fr_world.proofs.RowsDecide.{Draws, Like, drawn, frame-like, frame-shown, like_bind, like_when, line-like, node-shown, row-like, rows-checked}
+use Rattle.fr_world.proofs.SameBooks.{led-alike, one-applied}
 
 -- ---- the book after changes of one frame
 
@@ -49,17 +53,12 @@ module _ (s v f : Name) where
   abbrev edits_of : List FrameChange → List Edit
   edits_of whats = map (λ what. Rows (in_rows s v (change.Frame f what))) whats
 
-  one-applied : (b : Book) (x : Variant) → get b.variants v ≡ Some x → (what : FrameChange) →
-      applied b (Rows (in_rows s v (change.Frame f what))) ≡ with_variant b v (record x { frames = frames_after s (change.Frame f what) x.frames })
-  unfolding applied changed grants_after
-  one-applied b x there what = ap (changed_at b v (changed s (change.Frame f what))) there
-
   changes-applied : (whats : List FrameChange) (b : Book) (x : Variant) → get b.variants v ≡ Some x →
       all_applied b (edits_of whats) ≡ with_variant b v (record x { frames = ended s f x.frames whats })
   changes-applied [] b x there = ap (λ t. record b { variants = t }) (sym (insert-same b.variants v x there))
   changes-applied (what ∷ rest) b x there =
       let next : Variant = record x { frames = frames_after s (change.Frame f what) x.frames } in
-      ap (λ d. all_applied d (edits_of rest)) (one-applied b x there what)
+      ap (λ d. all_applied d (edits_of rest)) (one-applied s v f b x there what)
       ∙ changes-applied rest (with_variant b v next) next (get-put b.variants v next)
       ∙ ap (λ t. record b { variants = t }) (insert-again b.variants v next (record next { frames = ended s f next.frames rest }))
 
@@ -240,13 +239,36 @@ module _ (c : Cluster) (start : Book) (s v : Name) where
   replace_rows-like (read ∷ rest) b d draws forms =
       like_bind c start s v _ _ _ _ (line-like c start s v read.line _ _ (replace_read-like b d draws read.row forms.0)) (λ e g next. replace_rows-like rest e g next forms.1)
 
+-- ---- the edits between the two pages
+
+-- a book and its draft have one refusal, or the book is what these edits make of the first
+decided-is : {E : Type 0} (c : Cluster) (start : Book) (s v : Name) (edits : DraftData → List Edit) (r : Result Book E) (u : Result DraftData E) →
+    ((b : Book) (d : DraftData) → u ≡ Ok d → Draws c start s v b d → b ≡ all_applied start (edits d)) → Like c start s v r u → r ≡ ((u >>= λ d. Ok (edits d)) >>= λ made. Ok (all_applied start made))
+unfolding ◌>>=◌
+decided-is c start s v edits (Ok b) (Ok d) each like = ap Ok (each b d refl like)
+decided-is c start s v edits (Ok b) (Err e) each like = absurd like
+decided-is c start s v edits (Err e) (Ok d) each like = absurd like
+decided-is c start s v edits (Err e) (Err f) each like = ap Err like
+
 pub replacement-decides : (c : Cluster) (b : Book) (s v : Name) (x : Variant) (whole : Option Header) (body : List ℕ) → IsSound c b → get b.variants v ≡ Some x → x.released ≡ false → IsTrue (contains b.suppliers s) →
     step.replace_rows c.params (with_freed b s v x whole (rows_of_body c.params body)) s v (rows_of_body c.params body)
     ≡ (replacement_decision (page_in c.params b s v x) whole (rows_of_body c.params body) >>= λ edits. Ok (all_applied b edits))
 unfolding replacement_decision
 replacement-decides c b s v x whole body sound there unreleased known =
     let reads : List RowRead = rows_of_body c.params body in
-    let draws : Draws c b s v b (draft_of (page_in c.params b s v x)) =
-    record { x = x; there = there; unreleased = unreleased; known = known; sound = sound; variant = refl; page = rows-registers c b s v x; edits = refl } in
-    like-is c b s v _ _ (replace_rows-like c b s v reads (with_freed b s v x whole reads) (begun (draft_of (page_in c.params b s v x)) whole reads)
-    (begun-drawn c b s v whole reads b (draft_of (page_in c.params b s v x)) draws) (body-form c.params body))
+    let page : PageData = page_in c.params b s v x in
+    let kept = rows-kept c b s v x sound there in
+    let checked = rows-checked c.params body in
+    let shows : own_rows_of page ≡ own_rows c.params b s x = rows-registers c b s v x in
+    let draws : Draws c b s v b (draft_of page) =
+    record { x = x; there = there; unreleased = unreleased; known = known; sound = sound; variant = refl; page = shows; edits = refl } in
+    decided-is c b s v (λ d. edits_between v (own_rows_of page) d.page) _ (replace_rows (begun (draft_of page) whole reads) reads)
+    (λ made d is drawn.
+    let led = replacement-led page sound.cluster.params kept whole reads checked d is in
+    let between = replacement-between page sound.cluster.params kept whole reads checked d led in
+    drawn.edits
+    ∙ led-alike c.params s v b x d.edits (edits_between v (own_rows_of page) d.page) d.page there
+    led.frames (subst (λ rows. Leads v rows d.edits d.page) shows led.leads)
+    between.frames (subst (λ rows. Leads v rows (edits_between v (own_rows_of page) d.page) d.page) shows between.leads))
+    (replace_rows-like c b s v reads (with_freed b s v x whole reads) (begun (draft_of page) whole reads)
+    (begun-drawn c b s v whole reads b (draft_of page) draws) (body-form c.params body))

@@ -18,12 +18,14 @@ use Rattle.fr_base.proofs.SoundRefusing.{gives_bind, gives_unless}
 use Rattle.fr_base.proofs.SoundImports.{at_line-gives}
 use Rattle.fr_world.specs.Decisions.{IsChecked}
 use Rattle.fr_world.specs.Edits.{Leads, all_edited}
+use Rattle.fr_world.specs.PageEdits.{edits_between}
 use Rattle.fr_world.specs.Pages.{IsKept, PageData, own_rows_of}
 use Rattle.fr_world.specs.ReplacementDecisions.{AreAdmitted, begun, clear_all, clear_frame, clear_frames, clearing, free_row, free_rows, freeing, replace_read, replace_row, replace_rows, replacement_decision, with_changes}
 use Rattle.fr_world.specs.RowDecisions.{AreChecked, DraftData, IsCheckedRow, draft_of, make_frame}
 use Rattle.fr_world.specs.declared.edit.Edit.{Edit}
 use Rattle.fr_world.proofs.DraftSteps.{make-ok}
 use Rattle.fr_world.proofs.FreeingLaws.{clearing-admitted, freeing-admitted, page-named}
+use Rattle.fr_world.proofs.LedFrames.{AreLeading, led-between, page-own}
 use Rattle.fr_world.proofs.RowsLead.{IsLed, IsOfFrame, frame-led, leads-last, make-led, row-led}
 
 module _ (v : Name) (frozen : Bool) (start : OwnRows) (words : start.params.payload_words ≤ 127) where
@@ -96,11 +98,18 @@ module _ (rows : PageData) (params : check_params rows.params ≡ Ok rows.params
   pub replacement-led : (d : DraftData) → replace_rows (begun (draft_of rows) whole reads) reads ≡ Ok d → IsLed rows.variant rows.released page words d
   replacement-led d e = subst (λ r. IfOk r (IsLed rows.variant rows.released page words)) e drafted
 
+  -- so the edits between the page and what they make of it lead too
+  pub replacement-between : (d : DraftData) → IsLed rows.variant rows.released page words d → AreLeading rows.variant rows.released page words kept.page (page-own rows) (edits_between rows.variant page d.page) d.page
+  replacement-between d led = led-between rows.variant rows.released page words kept.page (page-own rows) d led
+
   decided : IfOk (replacement_decision rows whole reads) AreLed
   unfolding replacement_decision
   decided =
       gives_bind _ (IsLed rows.variant rows.released page words) (replace_rows (begun (draft_of rows) whole reads) reads) _ drafted
-      (λ d led. (subst (Leads rows.variant page d.edits) (leads-last rows.variant page d.page d.edits led.leads) led.leads, led.frames))
+      (λ d led.
+      let between = replacement-between d led in
+      let edits : List Edit = edits_between rows.variant page d.page in
+      (subst (Leads rows.variant page edits) (leads-last rows.variant page d.page edits between.leads) between.leads, between.frames))
 
   pub replacement-leads : (edits : List Edit) → replacement_decision rows whole reads ≡ Ok edits → AreLed edits
   replacement-leads edits e = subst (λ r. IfOk r AreLed) e decided

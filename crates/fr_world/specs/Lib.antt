@@ -9,6 +9,7 @@ pub mod Decisions
 pub mod Rooms
 pub mod Edits
 pub mod RowDecisions
+pub mod PageEdits
 pub mod ReplacementDecisions
 pub mod Trials
 pub mod Drafts

@@ -1,6 +1,6 @@
 -- Decision on a replacement: the edits that its rows are decided to on a page, or the first refused
 -- row. First each frame that a row names is freed, or all where the file is whole. Then the rows act
--- in turn.
+-- in turn. The edits are those between the page and what becomes of it.
 use Rattle.std.specs.Prelude.{◌≡◌, if◌then◌else◌, List, [], ◌∷◌, map, Option, Some, None, Result, Ok, Err, ⊤}
 use Rattle.std.specs.List.{list_any}
 use Rattle.fr_base.specs.Refusing.{◌>>=◌}
@@ -20,7 +20,8 @@ use Rattle.fr_base.specs.declared.request.FrameChange.{FrameChange}
 use Rattle.fr_base.specs.declared.request.FrameChange.TheVariants.{Drop, Unplace, DropSignal}
 use Rattle.fr_world.specs.Decisions.{IsChecked, admits_alone}
 use Rattle.fr_world.specs.Edits.{rows_after}
-use Rattle.fr_world.specs.Pages.{PageData}
+use Rattle.fr_world.specs.PageEdits.{edits_between}
+use Rattle.fr_world.specs.Pages.{PageData, own_rows_of}
 use Rattle.fr_world.specs.RowDecisions.{DraftData, draft_of, make_frame, make_row, with_change}
 use Rattle.fr_world.specs.declared.edit.Edit.{Edit}
 
@@ -100,4 +101,4 @@ replace_rows d (read ∷ rest) = do
 unfoldable pub replacement_decision : PageData → Option Header → List RowRead → Result (List Edit) RefusedAt
 replacement_decision rows whole reads = do
   last ← replace_rows (begun (draft_of rows) whole reads) reads
-  Ok last.edits
+  Ok (edits_between rows.variant (own_rows_of rows) last.page)

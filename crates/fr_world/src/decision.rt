@@ -11,6 +11,7 @@ mod frames;
 mod freeing;
 mod grants;
 mod import_rows;
+mod page_edits;
 mod placements;
 mod replacement;
 pub(crate) mod rows;

@@ -159,7 +159,7 @@ fn by_frame(supplier: Name, frame: Name, other_supplier: Name, other_frame: Name
     supplier.cmp(&other_supplier).then(frame.cmp(&other_frame))
 }
 
-fn is_same_signal(signal: &Signal, other: &Signal) -> bool
+pub(crate) fn is_same_signal(signal: &Signal, other: &Signal) -> bool
     ensures { result ≡ same_signal signal.now other.now }
 {
     signal.name() == other.name()

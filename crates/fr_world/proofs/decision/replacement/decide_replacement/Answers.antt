@@ -1,85 +1,94 @@
-use Rattle.std.proofs.Common.{◌≡◌, ◌∙◌, ◌+◌, ◌∷◌, [], Ok, Err, IfErr, IfOk, drop, sym, ap, subst, rules, arith}
-use Rattle.std.proofs.lemmas.List.{drop_more, drop_all}
+use Rattle.std.proofs.Common.{◌≡◌, ◌∙◌, Ok, Err, IfErr, sym, ap, subst, rules, false}
+use Rattle.std.specs.List.{list_any}
 use Rattle.fr_base.specs.Refusing.{◌>>=◌}
 use Rattle.fr_base.specs.Parameters.{check_params}
-use Rattle.fr_base.specs.declared.import.RowRead.{RowRead}
 use Rattle.fr_world.specs.Drafts.{draft_data}
+use Rattle.fr_world.specs.Edits.{Leads, releases}
+use Rattle.fr_world.specs.PageEdits.{edits_between}
+use Rattle.fr_world.specs.Pages.{own_rows_of}
 use Rattle.fr_world.specs.ReplacementDecisions.{begun, replace_rows, replacement_decision}
-use Rattle.fr_world.specs.RowDecisions.{IsCheckedRow, draft_of}
+use Rattle.fr_world.specs.RowDecisions.{draft_of}
 use Rattle.fr_world.specs.RowFaults.{IsFault}
 use Rattle.fr_world.proofs.DraftRows.{fault-on}
-use Rattle.fr_world.proofs.ReplacementRows.{begun-params, replaced-params, replace-fault, replace-next}
-use Rattle.fr_world.proofs.ReplacementsLead.{replacement-led}
+use Rattle.fr_world.proofs.ReplacementsLead.{replacement-between, replacement-led}
 use Rattle.fr_world.proofs.RowsLead.{none-releases}
+use Rattle.fr_world.proofs.SamePages.{between-itself}
 use Rattle.fr_world.proofs.decision.replacement.decide_replacement.Goals as goal
 
-pub loop-read-init : goal.loop-read-init
-loop-read-init c =
-    let rows = c.args.rows.now in
-    let is : draft_data c.in_ok-draft.draft ≡ begun (draft_of c.args.page) c.args.whole rows = search rules in
-    (ap (λ d. replace_rows d rows) (sym is), ap (λ d. d.page.params) is ∙ begun-params c.args.whole rows (draft_of c.args.page))
-
-pub replace_read-requires : goal.replace_read-requires
-replace_read-requires c = record {
-  checked = subst (λ p. IfOk c.read-item.result.row (IsCheckedRow p)) (sym c.loop-read.invariant.1)
-      (subst (λ (r : RowRead). IfOk r.row (IsCheckedRow c.args.page.params)) (sym c.read-item.is) (c.requires.checked c.loop-read.read-index c.read-item.result c.loop-read-test.true));
-}
-
-pub returns-in_err-replace_read-clause-fault : goal.returns-in_err-replace_read-clause-fault
+pub returns-in_err-draft-clause-fault : goal.returns-in_err-draft-clause-fault
 unfolding replacement_decision
-returns-in_err-replace_read-clause-fault c =
+returns-in_err-draft-clause-fault c =
+    let page = c.args.page.now in
     let rows = c.args.rows.now in
-    let i = c.loop-read.read-index in
-    let e = c.in_err-replace_read.field-0.0 in
-    let next : drop i rows ≡ c.read-item.result ∷ drop (i + 1) rows = drop_more rows i c.read-item.result c.loop-read-test.true ∙ ap (λ r. r ∷ drop (i + 1) rows) (sym c.read-item.is) in
-    let same : c.from_residual-in_err-replace_read.result ≡ Err e = search rules in
-    subst (λ r. IfErr r (IsFault (replacement_decision c.args.page c.args.whole rows))) (sym same)
-    (fault-on (replace_rows (begun (draft_of c.args.page) c.args.whole rows) rows) _ e
-    (subst (λ r. IsFault r e) (sym (c.loop-read.invariant.0 ∙ ap (replace_rows (draft_data c.loop-read.draft)) next))
-    (replace-fault (draft_data c.loop-read.draft) c.read-item.result (drop (i + 1) rows) e c.in_err-replace_read.ensures.fault)))
+    let e = c.in_err-draft.field-0.0 in
+    let same : c.in_ok-copy.copy ≡ page = search rules in
+    let told : c.from_residual-in_err-draft.result ≡ Err e = search rules in
+    subst (λ r. IfErr r (IsFault (replacement_decision page c.args.whole rows))) (sym told)
+    (fault-on (replace_rows (begun (draft_of page) c.args.whole rows) rows) _ e
+    (subst (λ p. IsFault (replace_rows (begun (draft_of p) c.args.whole rows) rows) e) same c.in_err-draft.ensures.fault))
 
-pub loop-read-preserved : goal.loop-read-preserved
-loop-read-preserved c =
+pub edits_between-requires : goal.edits_between-requires
+edits_between-requires c =
+    let page = c.args.page.now in
     let rows = c.args.rows.now in
-    let i = c.loop-read.read-index in
-    let d = draft_data c.loop-read.draft in
-    let m = draft_data c.replace_read.new.draft in
-    let next : drop i rows ≡ c.read-item.result ∷ drop (i + 1) rows = drop_more rows i c.read-item.result c.loop-read-test.true ∙ ap (λ r. r ∷ drop (i + 1) rows) (sym c.read-item.is) in
-    let made = c.in_ok-replace_read.ensures.ok in (
-      c.loop-read.invariant.0 ∙ ap (replace_rows d) next ∙ replace-next d m c.read-item.result (drop (i + 1) rows) made,
-      replaced-params d m c.read-item.result made ∙ c.loop-read.invariant.1,
-    )
+    let draft = c.in_ok-draft.draft in
+    let same : c.in_ok-copy.copy ≡ page = search rules in
+    let made : replace_rows (begun (draft_of page) c.args.whole rows) rows ≡ Ok (draft_data draft) = ap (λ p. replace_rows (begun (draft_of p) c.args.whole rows) rows) (sym same) ∙ c.in_ok-draft.ensures.ok in
+    let params = subst (λ p. check_params p ≡ Ok p) c.params.ensures c.raw-raw.ensures.checked in
+    let led = replacement-led page params c.frames-frames.ensures.kept c.args.whole rows c.requires.checked (draft_data draft) made in
+    record { same = record { supplier = led.supplier; variant = led.variant; released = led.released } }
 
 pub returns-clause-edits : goal.returns-clause-edits
-unfolding replacement_decision replace_rows ◌>>=◌
+unfolding replacement_decision ◌>>=◌
 returns-clause-edits c =
-    let d = draft_data c.loop-read.draft in
-    let over = c.loop-read-test.false in
-    let none : drop c.loop-read.read-index c.args.rows.now ≡ [] = drop_all c.loop-read.read-index c.args.rows.now (omega (arith, over)) in
-    ap (λ r. r >>= λ last. Ok last.edits) (c.loop-read.invariant.0 ∙ ap (replace_rows d) none)
+    let page = c.args.page.now in
+    let rows = c.args.rows.now in
+    let draft = c.in_ok-draft.draft in
+    let same : c.in_ok-copy.copy ≡ page = search rules in
+    let made : replace_rows (begun (draft_of page) c.args.whole rows) rows ≡ Ok (draft_data draft) = ap (λ p. replace_rows (begun (draft_of p) c.args.whole rows) rows) (sym same) ∙ c.in_ok-draft.ensures.ok in
+    let is : c.in_ok-draft-2.field-0.items ≡ edits_between page.variant (own_rows_of page) (own_rows_of draft.page) = search rules in
+    ap (λ r. r >>= λ last. Ok (edits_between page.variant (own_rows_of page) last.page)) made ∙ ap Ok (sym is)
 
 pub returns-clause-leads : goal.returns-clause-leads
-unfolding replace_rows
 returns-clause-leads c =
-    let d = draft_data c.loop-read.draft in
-    let over = c.loop-read-test.false in
-    let none : drop c.loop-read.read-index c.args.rows.now ≡ [] = drop_all c.loop-read.read-index c.args.rows.now (omega (arith, over)) in
-    (replacement-led c.args.page (subst (λ p. check_params p ≡ Ok p) c.params.ensures c.raw-raw.ensures.checked) c.frames-frames.ensures.kept c.args.whole c.args.rows.now c.requires.checked d (c.loop-read.invariant.0 ∙ ap (replace_rows d) none)).leads
+    let page = c.args.page.now in
+    let rows = c.args.rows.now in
+    let draft = c.in_ok-draft.draft in
+    let same : c.in_ok-copy.copy ≡ page = search rules in
+    let made : replace_rows (begun (draft_of page) c.args.whole rows) rows ≡ Ok (draft_data draft) = ap (λ p. replace_rows (begun (draft_of p) c.args.whole rows) rows) (sym same) ∙ c.in_ok-draft.ensures.ok in
+    let params = subst (λ p. check_params p ≡ Ok p) c.params.ensures c.raw-raw.ensures.checked in
+    let led = replacement-led page params c.frames-frames.ensures.kept c.args.whole rows c.requires.checked (draft_data draft) made in
+    let between = replacement-between page params c.frames-frames.ensures.kept c.args.whole rows c.requires.checked (draft_data draft) led in
+    let is : c.in_ok-draft-2.field-0.items ≡ edits_between page.variant (own_rows_of page) (own_rows_of draft.page) = search rules in
+    subst (λ edits. Leads page.variant (own_rows_of page) edits (own_rows_of draft.page)) (sym is) between.leads
+
+pub returns-clause-none : goal.returns-clause-none
+returns-clause-none c alike =
+    let page = c.args.page.now in
+    let draft = c.in_ok-draft.draft in
+    let is : c.in_ok-draft-2.field-0.items ≡ edits_between page.variant (own_rows_of page) (own_rows_of draft.page) = search rules in
+    is ∙ ap (edits_between page.variant (own_rows_of page)) alike ∙ between-itself page.variant (own_rows_of page)
 
 pub returns-clause-page : goal.returns-clause-page
-unfolding replace_rows
 returns-clause-page c =
-    let d = draft_data c.loop-read.draft in
-    let over = c.loop-read-test.false in
-    let none : drop c.loop-read.read-index c.args.rows.now ≡ [] = drop_all c.loop-read.read-index c.args.rows.now (omega (arith, over)) in
-    let led = replacement-led c.args.page (subst (λ p. check_params p ≡ Ok p) c.params.ensures c.raw-raw.ensures.checked) c.frames-frames.ensures.kept c.args.whole c.args.rows.now c.requires.checked d (c.loop-read.invariant.0 ∙ ap (replace_rows d) none) in
+    let page = c.args.page.now in
+    let rows = c.args.rows.now in
+    let draft = c.in_ok-draft.draft in
+    let same : c.in_ok-copy.copy ≡ page = search rules in
+    let made : replace_rows (begun (draft_of page) c.args.whole rows) rows ≡ Ok (draft_data draft) = ap (λ p. replace_rows (begun (draft_of p) c.args.whole rows) rows) (sym same) ∙ c.in_ok-draft.ensures.ok in
+    let params = subst (λ p. check_params p ≡ Ok p) c.params.ensures c.raw-raw.ensures.checked in
+    let led = replacement-led page params c.frames-frames.ensures.kept c.args.whole rows c.requires.checked (draft_data draft) made in
     record { supplier = led.supplier; variant = led.variant; released = led.released }
 
 pub returns-clause-still : goal.returns-clause-still
-unfolding replace_rows
 returns-clause-still c =
-    let d = draft_data c.loop-read.draft in
-    let over = c.loop-read-test.false in
-    let none : drop c.loop-read.read-index c.args.rows.now ≡ [] = drop_all c.loop-read.read-index c.args.rows.now (omega (arith, over)) in
-    let led = replacement-led c.args.page (subst (λ p. check_params p ≡ Ok p) c.params.ensures c.raw-raw.ensures.checked) c.frames-frames.ensures.kept c.args.whole c.args.rows.now c.requires.checked d (c.loop-read.invariant.0 ∙ ap (replace_rows d) none) in
-    none-releases c.args.page.params d.edits led.frames
+    let page = c.args.page.now in
+    let rows = c.args.rows.now in
+    let draft = c.in_ok-draft.draft in
+    let same : c.in_ok-copy.copy ≡ page = search rules in
+    let made : replace_rows (begun (draft_of page) c.args.whole rows) rows ≡ Ok (draft_data draft) = ap (λ p. replace_rows (begun (draft_of p) c.args.whole rows) rows) (sym same) ∙ c.in_ok-draft.ensures.ok in
+    let params = subst (λ p. check_params p ≡ Ok p) c.params.ensures c.raw-raw.ensures.checked in
+    let led = replacement-led page params c.frames-frames.ensures.kept c.args.whole rows c.requires.checked (draft_data draft) made in
+    let between = replacement-between page params c.frames-frames.ensures.kept c.args.whole rows c.requires.checked (draft_data draft) led in
+    let is : c.in_ok-draft-2.field-0.items ≡ edits_between page.variant (own_rows_of page) (own_rows_of draft.page) = search rules in
+    subst (λ edits. list_any releases edits ≡ false) (sym is) (none-releases page.params (edits_between page.variant (own_rows_of page) (own_rows_of draft.page)) between.frames)
