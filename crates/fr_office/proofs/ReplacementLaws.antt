@@ -23,6 +23,7 @@ use Rattle.fr_world.specs.Drafts.{IsOfSame}
 use Rattle.fr_world.specs.Edits.{Leads, releases}
 use Rattle.fr_world.specs.Fits.{AllFit}
 use Rattle.fr_world.specs.Held.{Applies, Standing}
+use Rattle.fr_world.specs.PageEdits.{edits_between}
 use Rattle.fr_world.specs.Pages.{PageData, own_rows_of, page_in}
 use Rattle.fr_world.specs.ReplacementDecisions.{begun, replace_read, replace_row, replace_rows, replacement_decision}
 use Rattle.fr_world.specs.RowDecisions.{DraftData, draft_of}
@@ -96,7 +97,7 @@ pub few_replaced : (page : PageData) (whole : Option Header) (body : List ℕ) (
 unfolding replacement_decision ◌>>=◌
 few_replaced page whole body reads edits is decided =
     let start : DraftData = begun (draft_of page) whole reads in
-    let read : AllByRecursion IsRead reads = elim (replace_rows start reads) as (λ r. replace_rows start reads ≡ r → (r >>= λ last. Ok last.edits) ≡ Ok edits → AllByRecursion IsRead reads) [
+    let read : AllByRecursion IsRead reads = elim (replace_rows start reads) as (λ r. replace_rows start reads ≡ r → (r >>= λ last. Ok (edits_between page.variant (own_rows_of page) last.page)) ≡ Ok edits → AllByRecursion IsRead reads) [
       | Ok last ↦ λ made h. all_read reads start last made
       | Err e ↦ λ made h. cc
     ] refl decided in

@@ -39,8 +39,8 @@ fn admit_file(replacement: &Replacement<'_>) -> Result<(), Refusal>
 }
 
 // Carries out the rows of the replacement's file, or tells the first row that is refused. The rows
-// are decided on a copy of the page that is lent. Once they are carried out, the page that they
-// left is the one that is lent.
+// are decided on the page that is lent, and those that stay are not written. Once they are carried
+// out, the page that they left is the one that is lent.
 fn replace_rows<R: Lender>(
     alloc: Global,
     records: &mut R,
@@ -55,7 +55,7 @@ fn replace_rows<R: Lender>(
     let whole = kind_of_whole(alloc, replacement)?;
     let rows = read_import(alloc, &page.params(), replacement.body.as_slice())?;
     rows_are_checked();
-    match decide_replacement(alloc, page.clone()?, whole, rows.as_slice()) {
+    match decide_replacement(alloc, page, whole, rows.as_slice()) {
         Ok(draft) => {
             // A file of which no row is refused has at most 512.
             let count = rows.len() as u32;

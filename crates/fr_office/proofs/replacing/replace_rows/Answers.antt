@@ -18,10 +18,8 @@ pub change_to_draft-requires : goal.change_to_draft-requires
 change_to_draft-requires g c =
     let lent = g.R.Lender.lent c.args.records.now in
     let page = c.lent-page.result.now in
-    let copy = c.in_ok-clone.field-0 in
-    let same : copy ≡ page = search rules in
     let draft = c.in-Ok.draft in
-    let leads = subst (λ page. LeadsTo page draft.edits.items draft.page) same (replaced_leads copy draft.page draft.edits.items c.in-Ok.ensures.leads c.in-Ok.ensures.page c.in-Ok.ensures.still) in
+    let leads = replaced_leads page draft.page draft.edits.items c.in-Ok.ensures.leads c.in-Ok.ensures.page c.in-Ok.ensures.still in
     record { lent = c.requires.lent; leads = has_some (λ page. LeadsTo page draft.edits.items draft.page) lent page c.lent-page.ensures leads }
 
 pub returns-in-Ok : goal.returns-in-Ok
