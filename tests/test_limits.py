@@ -235,8 +235,8 @@ class AtTheLimits(RegisterCase):
         super().setUp()
         register(self.folder / "car.db")
 
-    def replies(self, what, data, wanted):
-        got = sent(self.port, data)
+    def replies(self, what, data, wanted, **how):
+        got = sent(self.port, data, **how)
         other = [pair for pair in zip_longest(wanted.split(b"\n"), got.split(b"\n")) if pair[0] != pair[1]]
         self.see(what, [], other[:2])
 
@@ -282,9 +282,9 @@ class AtTheLimits(RegisterCase):
         self.reads(KEYS["s2"], f"variants/{TOP_LEVEL}/rows", report(seen(), "s2"))
 
     def opens_flat(self):
-        """The variant is released, and another one opened flat from it: nothing differs between the two."""
+        """The variant is released, and another one opened flat from it, which takes half a minute of a processor: nothing differs between the two."""
         for line in f'{{"do":"release","variant":"{TOP_LEVEL}"}}', f'{{"do":"open_variant","variant":"flat","from":"{TOP_LEVEL}","flat":true}}':
-            self.replies(line, command("integrator1", line.encode()), json(b'{"ok":"done"}'))
+            self.replies(line, command("integrator1", line.encode()), json(b'{"ok":"done"}'), seconds=600)
         self.reads("integrator1", f"variants/flat/since/{TOP_LEVEL}", "")
         self.reads(KEYS["s2"], "variants/flat/rows", report(seen(), "s2"))
 

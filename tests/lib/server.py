@@ -89,9 +89,9 @@ def listens_on(port):
     return f"listening on {HERE}:{port}\n".encode()
 
 
-def sent(port, data, end=False):
-    """What the server replies to these bytes."""
-    with socket.create_connection((HERE, port), SECONDS) as stream:
+def sent(port, data, end=False, seconds=SECONDS):
+    """What the server replies to these bytes, within so many seconds."""
+    with socket.create_connection((HERE, port), seconds) as stream:
         stream.sendall(data)
         if end:
             stream.shutdown(socket.SHUT_WR)
