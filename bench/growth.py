@@ -194,7 +194,7 @@ def changes(plan):
     yield "open_variant and release", lambda nth: [
         integrator("open_variant", variant=f"more{nth}", **{"from": "v1"}), integrator("release", variant=f"more{nth}")
     ]
-    yield "open_variant, flat", lambda nth: [integrator("open_variant", variant=f"flat{nth}", **{"from": "v1"}, flat=True)]
+    yield "open_variant, flat", lambda nth: [integrator("open_variant", variant=f"flat{nth}", **{"from": f"v{plan.depth - 1}"}, flat=True)]
 
 
 # ---- what it takes
