@@ -136,6 +136,11 @@ abbrev pub try_words : App
 try_words = with_rule (with_rule (with_rule (with_rule (with_rule (with_rule (new_app (codes "try")) (word (codes "DB"))) (word (codes "KEY")))
     (word (codes "VARIANT"))) (word (codes "FILE"))) (flag (codes "replace"))) (flag (codes "whole"))
 
+-- `check`, with the texts that it may take
+abbrev pub check_texts : App
+check_texts = with_rule (with_rule (with_rule (with_rule (new_app (codes "check")) (free_word (codes "CONFIG"))) (named (codes "requests")))
+    (named (codes "rows"))) (named (codes "path"))
+
 abbrev pub check : App
 check = with_rule check_texts (named (codes "register"))
 
