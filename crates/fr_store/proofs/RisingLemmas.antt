@@ -1,7 +1,7 @@
 -- Trees that files recover to are in order, whatever their schema is.
-use Rattle.std.proofs.Common.{◌≡◌, ◌∙◌, ℕ, List, [], ◌∷◌, inl, inr, refl, sym, ap, subst}
+use Rattle.std.proofs.Common.{◌≡◌, ◌∙◌, ℕ, List, [], ◌∷◌, inl, inr, sym, ap, subst}
 use Rattle.std.proofs.Math.Logic.{∥∥₁_elim}
-use Rattle.std.specs.List.{AllByRecursion, AllZip}
+use Rattle.std.specs.List.{AllZip}
 use Rattle.sqlite.specs.Table.{Table}
 use Rattle.sqlite.specs.Schema.{Schema}
 use Rattle.sqlite.specs.Tree.{Trees}
@@ -21,7 +21,7 @@ use Rattle.sqlite_store.specs.Listing.{all_shapes, all_reals, listed_from}
 use Rattle.sqlite_store.specs.Listed.{catalog_rows, is_listed}
 use Rattle.sqlite_store.proofs.ListingLemmas.{all_ordered}
 use Rattle.sqlite.specs.Effect.{Database, IsDatabase}
-use Rattle.fr_tables.specs.Schema.{register_schema, old_schema, layout_of, stats_at, IsOurs, IsOld}
+use Rattle.fr_tables.specs.Schema.{register_schema, layout_of, stats_at, IsOurs, IsOld}
 use Rattle.fr_tables.specs.Tables.{AreRising, AreOrdered, AreOrderedBefore}
 use Rattle.fr_tables.proofs.LayoutLemmas.{ours_there}
 use Rattle.fr_tables.proofs.TypedLemmas.{ours_rise, eleven_rise}

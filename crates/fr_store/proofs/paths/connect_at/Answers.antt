@@ -1,16 +1,14 @@
-use Rattle.std.proofs.Common.{rules, ap, IfSome, Some, ◌≡◌, ◌∙◌, arith, false, true, inl, refl, sym, subst}
-use Rattle.sqlite.specs.State.{HasCleanDisk}
+use Rattle.std.proofs.Common.{rules, ap, IfSome, Some, ◌≡◌, ◌∙◌, false, true, inl, refl, sym, subst}
 use Rattle.sqlite.specs.Effect.{Database}
 use Rattle.sqlite.specs.Files.{AreFoundIn, file_state}
 use Rattle.fr_store.proofs.RisingLemmas.{found_ordered, found_ordered_before}
 use Rattle.sqlite_wal.specs.Files.{image_at}
 use Rattle.sqlite.specs.declared.error.Error.TheVariants.{SqliteFailure}
 use Rattle.sqlite.specs.declared.error.ErrorCode.TheVariants.{NotADatabase}
-use Rattle.sqlite_trees.proofs.Doubt.{no_doubt}
 use Rattle.fr_store.specs.Refused.{IsSpared, IsUnopened}
 use Rattle.fr_store.specs.declared.fault.StoreFault.TheVariants.{Unavailable}
 use Rattle.fr_store.proofs.FileLemmas.{found_opened}
-use Rattle.fr_store.proofs.LeftLemmas.{IsLeftOf, IsSettled, left_no_database, left_store, left_unavailable, settled_left}
+use Rattle.fr_store.proofs.LeftLemmas.{IsLeftOf, IsSettled, left_no_database, left_unavailable, settled_left}
 use Rattle.fr_store.proofs.paths.connect_at.Goals as goal
 
 pub returns-in-Ok-clause-connected : goal.returns-in-Ok-clause-connected
