@@ -296,6 +296,40 @@ class Commands(WholeCase):
         self.turned_down(["replace", "car.db", KEY, "v1", "frames.csv", "--whole"], refused_bytes(11, "Released"))
 
 
+class RowsThatStay(WholeCase):
+    """A row that is there and comes again is not written anew: another SQLite finds it under the number that it had."""
+
+    TEXTS = {"frames": "name || ',' || node", "placements": "frame || ',' || slot || channels || base", "signals": "frame || ',' || name || start"}
+
+    def numbered(self):
+        """Of each table the supplier's rows, by their numbers."""
+        return {table: dict(self.rows(f"SELECT rowid, {row} FROM {table} WHERE supplier = 's1'")) for table, row in self.TEXTS.items()}
+
+    def sends(self, kind, records, **flags):
+        line = request(KEY, "replace", **IN_V1, body=file_of(kind, records), **flags)
+        self.ask(line.encode(), b'{"ok":"replaced","rows":%d}\n' % len(records))
+
+    def test_what_is_there(self):
+        """What is there already leaves the file as it is, byte by byte."""
+        before = (self.folder / "car.db").read_bytes()
+        for (kind, records), flags in product(THERE.items(), ({}, {"whole": True})):
+            self.sends(kind, records[::-1], **flags)
+            self.see(f"whether the file stays behind {kind} {flags}", True, before == (self.folder / "car.db").read_bytes())
+
+    def test_one_that_changes(self):
+        """The rows of f1 go, and another comes, behind those that stay, in another order."""
+        for kind, new in ("frames", "f4,n1"), ("placements", "f1,n1,2,A,0,2"), ("signals", "f1,y,0,8,little"):
+            before = self.numbered()
+            self.sends(kind, [*THERE[kind][:0:-1], new], whole=True)
+            after = self.numbered()
+            for table, rows in before.items():
+                stay = {number: row for number, row in rows.items() if not row.startswith("f1,") or kind not in (table, "frames")}
+                self.see(f"{table} that stay behind {kind}", stay, {number: row for number, row in after[table].items() if number in stay})
+            for whole_file in THERE.items():
+                self.sends(*whole_file, whole=True)
+            self.exports_are()
+
+
 ROWS, TRIES = "/v1/variants/v1/rows/whole", "/v1/variants/v1/tries/whole"
 
 
