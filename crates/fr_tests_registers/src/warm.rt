@@ -11,9 +11,9 @@ use std::alloc::Global;
 use std::collections::{BTreeMap, BTreeSet};
 use std::test::Fail;
 
-/// Records in which `s1` has a node that holds a slot in each variant, and of other rows there is none. They count how often
-/// a page is read, and how often imports are counted. Each supplier keeps as many imports as they are told. Of what they
-/// stand for nothing is said: they are never clean.
+/// Records in which each variant is there. In each `s1` has a node that holds a slot, and of other rows there is none. They
+/// count how often a page is read, and how often imports are counted. Each supplier keeps as many imports as they are told.
+/// Of what they stand for nothing is said: they are never clean.
 #[derive(Drop)]
 pub(crate) struct Counted {
     config: Config,
@@ -39,8 +39,8 @@ impl Records for Counted {
         &self.config
     }
 
-    fn has_variant(&mut self, variant: Name) -> Result<bool, Refusal> {
-        Ok(variant.as_str() == "v1")
+    fn has_variant(&mut self, _variant: Name) -> Result<bool, Refusal> {
+        Ok(true)
     }
 
     fn page(
