@@ -82,7 +82,7 @@ class Words(StartCase):
 
     def test_too_many(self):
         for more in "run", "x":
-            self.no_job(usage(f"unexpected argument '{more}' found", "Usage: slotplan run", ""), "run", more)
+            self.no_job(usage(f"unexpected argument '{more}' found", "Usage: slotplan run [OPTIONS]", ""), "run", more)
 
     @each(*REQUIRED)
     def test_too_few(self, name):

@@ -1,5 +1,5 @@
 -- What a job did with the register of a file leads from what the file held to what it holds next.
-use Rattle.std.proofs.Common.{◌≡◌, ◌⊎◌, ◌∙◌, inl, inr, ℕ, List, [], append-nil, length, Some, None, Ok, Err, Result, Option, refl, subst, sym, ap}
+use Rattle.std.proofs.Common.{◌≡◌, ◌⊎◌, ◌∙◌, inl, inr, ℕ, Bool, List, [], append-nil, length, Some, None, Ok, Err, Result, Option, refl, subst, sym, ap}
 use Rattle.std.specs.Borrow.{Bor}
 use Rattle.std.specs.Global.{Vec}
 use Rattle.std.specs.Prelude.{IfSome, OnOk, ⊤}
@@ -33,14 +33,13 @@ use Rattle.fr_cli.specs.Endings.{NamesFault, Tells, status_of}
 use Rattle.fr_cli.specs.Faults.{IsNotDelivered, IsNotOpened, IsNotReported, fault_word}
 use Rattle.fr_cli.specs.Incoming.{AreFirstOf, HasAnswered, IsAsked}
 use Rattle.fr_cli.specs.Jobs.{Ends, IsPerformed, Serves, Shows, Streams}
-use Rattle.fr_cli.specs.Outcomes.{line_of}
+use Rattle.fr_cli.specs.Numbered.{numbered_lines, without_numbers}
 use Rattle.fr_cli.specs.Outlets.{held_before, held_behind}
 use Rattle.fr_cli.specs.Performing.{Says, of_script}
 use Rattle.fr_cli.specs.Picturing.{plans_for}
 use Rattle.fr_cli.specs.Queries.{reader_named}
 use Rattle.fr_cli.specs.Reading.{PrintsRead}
 use Rattle.fr_cli.specs.RegisterFiles.{IsAnswerOfFile, IsDeliveryToFile, IsReadOfFile, LeadsInFile, StaysInFile}
-use Rattle.fr_text.specs.Script.{request_lines}
 use Rattle.fr_cli.specs.ScriptRun.{AreAnswered, Replied, asks_in, with_ask}
 use Rattle.fr_cli.specs.Series.{AsksRegister, Follows, IsNextOf, LeadsBy, WasNotOpened, end_of}
 use Rattle.fr_cli.specs.Serving.{IsServed, ServesAll}
@@ -55,6 +54,7 @@ use Rattle.fr_cli.specs.declared.query.Inquiry.{Inquiry}
 use Rattle.fr_cli.specs.declared.script_fault.ScriptFault.{ScriptFault}
 use Rattle.fr_cli.specs.declared.words.Job.{Job}
 use Rattle.fr_cli.specs.declared.words.Job.TheVariants as job
+use Rattle.fr_cli.proofs.AnsweringLaws.{Asked as Numbered, none_missing}
 use Rattle.fr_cli.proofs.HoldingLaws.{holds_on}
 
 -- ---- streams
@@ -64,8 +64,8 @@ some_map P Q None follows p = tt
 some_map P Q (Some bytes) follows p = follows bytes p
 
 -- all of them are the first of them
-all_first : (lines : List (List ℕ)) (bytes : List ℕ) → lines ≡ request_lines bytes → AreFirstOf lines bytes
-all_first lines bytes all = ([], sym all ∙ sym (append-nil lines))
+all_first : (l : Numbered) (bytes : List ℕ) → l ≡ numbered_lines 1 bytes → AreFirstOf l bytes
+all_first l bytes all = ([], sym all ∙ sym (append-nil l))
 
 -- a job that failed has not the status of one that was done
 not_done : (status : ℕ) → status ≡ 1 → status ≡ 0 → ⊥
@@ -241,25 +241,29 @@ module _ {D R : Type 0} {g : Ghosts D} (desk : Desk.Ghosts R) (held : Image) (re
     deliver db delivery (Err (failure.Fault fault)) none shown may = not_delivered db delivery fault none shown may
 
     -- lines that were answered, whatever is said of them
-    pub answered_lines : {account : Account} (asked : Result ⊤ ScriptFault) → status ≡ status_of (of_script asked)
-        → HasAnswered account s.input.old s.input.new (held_before s.out) (held_behind s.out) asked
-        → (lines : List (List ℕ)) × (answers : List Answer) × WereLines s status lines answers × account.all lines answers
-    answered_lines (Ok x) ends has =
-        let (lines, written, whole, short, appended, told) = has.all in
-        let were : WereLines s status lines told.answers = record {
-          first = some_map _ _ s.input.old (λ bytes so. all_first lines bytes so.0) whole;
+    pub answered_lines : {account : Account} (nr : Bool) (asked : Result ⊤ ScriptFault) → status ≡ status_of (of_script asked)
+        → HasAnswered nr account s.input.old s.input.new (held_before s.out) (held_behind s.out) asked
+        → (lines : List (List ℕ)) × (answers : List Answer) × WereLines nr s status lines answers × account.all lines answers
+    answered_lines nr (Ok x) ends has =
+        let (l, written, whole, short, appended, told) = has.all in
+        let were : WereLines nr s status (without_numbers l) told.answers = record {
+          asked = l;
+          these = refl;
+          first = some_map _ _ s.input.old (λ bytes so. all_first l bytes so.0) whole;
           each = told.each;
           written = written;
           missing = [];
           appended = appended;
-          one = (line_of answer.Done, answer.Done, sym (append-nil (line_of answer.Done)));
+          one = none_missing nr;
           bytes = append-nil written ∙ told.bytes;
           all = λ done. (refl, some_map _ _ s.input.old (λ bytes so. so.0) whole);
         } in
-        (lines, told.answers, were, told.answered)
-    answered_lines (Err fault) ends has =
+        (without_numbers l, told.answers, were, told.answered)
+    answered_lines nr (Err fault) ends has =
         let cut = has.early in
-        let were : WereLines s status cut.lines cut.answered.answers = record {
+        let were : WereLines nr s status (without_numbers cut.lines) cut.answered.answers = record {
+          asked = cut.lines;
+          these = refl;
           first = cut.done;
           each = cut.answered.each;
           written = cut.written;
@@ -269,7 +273,7 @@ module _ {D R : Type 0} {g : Ghosts D} (desk : Desk.Ghosts R) (held : Image) (re
           bytes = cut.answered.bytes;
           all = λ done. absurd (not_done status ends done);
         } in
-        (cut.lines, cut.answered.answers, were, cut.answered.answered)
+        (without_numbers cut.lines, cut.answered.answers, were, cut.answered.answered)
 
     -- where the file was not opened, to answer lines
     pub not_asked : (done : Result ⊤ Fault) (fault : Fault) → comings.none → done ≡ Err fault → IsNotOpened held rest fault → s.out.new ≡ s.out.old → Ends done s status
@@ -277,13 +281,13 @@ module _ {D R : Type 0} {g : Ghosts D} (desk : Desk.Ghosts R) (held : Image) (re
     not_asked done fault none failed not silent ends =
         let (ended, told) = subst (λ (d : Result ⊤ Fault). Ends d s status) failed ends in not_opened fault (inr not) (ended, silent, told) none
 
-    ask : (db : Bor (List ℕ)) (done : Result ⊤ Fault) → comings.none → IsAsked desk held rest s.input.old s.input.new s.out done → Ends done s status
-        → Leading (job.Ask db)
+    ask : (db : Bor (List ℕ)) (nr : Bool) (done : Result ⊤ Fault) → comings.none → IsAsked nr desk held rest s.input.old s.input.new s.out done → Ends done s status
+        → Leading (job.Ask db nr)
     unfolding IsAsked
-    ask db done none (inl (fault, failed, not, kept, silent)) ends = inl (not_asked done fault none failed not silent ends)
-    ask db done none (inr (asked, last, old, new, over, same, at_end, stops, has)) ends =
-        let (lines, answers, were, all) = answered_lines asked (ends.0 ∙ ap status_of same) has in
-        led (job.Ask db) (Lines lines answers) were (lines_lead last over.left.0 lines answers all.0)
+    ask db nr done none (inl (fault, failed, not, kept, silent)) ends = inl (not_asked done fault none failed not silent ends)
+    ask db nr done none (inr (asked, last, old, new, over, same, at_end, stops, has)) ends =
+        let (lines, answers, were, all) = answered_lines nr asked (ends.0 ∙ ap status_of same) has in
+        led (job.Ask db nr) (Lines lines answers) were (lines_lead last over.left.0 lines answers all.0)
 
     -- as many connections as were to be, where all were served
     pub all_served : (count : ℕ) (visits : List Visit) (done : Result ⊤ Fault) → status ≡ status_of done → OnOk done (length visits ≡ count) → status ≡ 0 → length visits ≡ count
@@ -307,11 +311,11 @@ module _ {D R : Type 0} {g : Ghosts D} (desk : Desk.Ghosts R) (held : Image) (re
     -- so a job that asks the register of a file
     pub job_leads : (j : Job) → IsPerformed desk held rest read comings j s status → AsksRegister j → Leading j
     unfolding IsPerformed
-    job_leads job.Run did asks = absurd asks
+    job_leads (job.Run nr) did asks = absurd asks
     job_leads (job.Create db config) did asks = absurd asks
     job_leads (job.Migrate db) did asks = absurd asks
     job_leads (job.Serve db port count seconds) (did, none, kept) asks = serve db port count seconds did
-    job_leads (job.Ask db) (done, did, ends, none, quiet) asks = ask db done quiet did ends
+    job_leads (job.Ask db nr) (done, did, ends, none, quiet) asks = ask db nr done quiet did ends
     job_leads (job.Report db query) (done, shown, says, none, quiet) asks = report db query done quiet.1 shown says
     job_leads (job.Picture db variant since supplier) (done, shown, says, none, quiet) asks = picture db variant since supplier done quiet.1 shown says
     job_leads (job.Deliver db delivery) (done, shown, says, kept, quiet) asks = deliver db delivery done quiet shown says

@@ -1,12 +1,10 @@
 -- Bytes that end with a line feed: their lines come first, and then those of what follows.
 use Rattle.std.proofs.Common.{◌≡◌, ℕ, ◌<◌, List, [], ◌∷◌, ◌++◌, length, map, refl, sym, ap, ◌∙◌, arith, inl, inr, append_assoc, append-nil}
-use Rattle.std.specs.Prelude.{nat_lt, ◌==◌}
-use Rattle.std.specs.List.{slice_split, onto_first, filter}
+use Rattle.std.specs.Prelude.{◌==◌}
+use Rattle.std.specs.List.{slice_split, onto_first}
 use Rattle.std.specs.Str.Lines.{lines, lines_of_parts, strip_carriage_return}
 use Rattle.std.proofs.lemmas.Bool.{cases_Bool}
 use Rattle.std.proofs.lemmas.List.Splits.{length-slice_split}
-use Rattle.std.proofs.lemmas.List.Elements.{filter-append}
-use Rattle.fr_text.specs.Script.{request_lines}
 
 onto_first-append : (b : ℕ) (xs ys : List (List ℕ)) → 0 < length xs → onto_first b (xs ++ ys) ≡ onto_first b xs ++ ys
 onto_first-append b [] ys h = absurd (omega (arith, h))
@@ -35,10 +33,6 @@ lines-ended x more = ap lines_of_parts (split-append x more) ∙ parts-append (s
 lines-append : (x more : List ℕ) → lines (x ++ 10 ∷ more) ≡ lines (x ++ 10 ∷ []) ++ lines more
 lines-append x more = lines-ended x more ∙ ap (λ l. l ++ lines more) (sym (lines-ended x [] ∙ append-nil (map strip_carriage_return (slice_split (λ b. b == 10) x))))
 
--- and its own requests
-pub requests-append : (x more : List ℕ) → request_lines ((x ++ 10 ∷ []) ++ more) ≡ request_lines (x ++ 10 ∷ []) ++ request_lines more
-unfolding request_lines
-requests-append x more =
-    ap (λ l. filter (λ line. nat_lt 0 (length line)) (lines l)) (append_assoc x (10 ∷ []) more)
-    ∙ ap (filter (λ line. nat_lt 0 (length line))) (lines-append x more)
-    ∙ filter-append (λ line. nat_lt 0 (length line)) (lines (x ++ 10 ∷ [])) (lines more)
+-- so also what follows bytes that end with one
+pub ended-append : (x more : List ℕ) → lines ((x ++ 10 ∷ []) ++ more) ≡ lines (x ++ 10 ∷ []) ++ lines more
+ended-append x more = ap lines (append_assoc x (10 ∷ []) more) ∙ lines-append x more

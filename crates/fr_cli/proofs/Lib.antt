@@ -1,5 +1,7 @@
 mod ShortLines
 mod EndedLines
+pub mod NumberedLaws
+pub mod ScriptLines
 pub mod ErrandLaws
 pub mod IncomingLaws
 mod CommandLaws

@@ -1,18 +1,23 @@
 -- How the run of a script ends where its register was made.
-use Rattle.std.proofs.Common.{◌≡◌, ◌≤◌, ℕ, List, [], ◌∷◌, ◌++◌, length, Option, Some, None, Result, Ok, Err, IfSome, sym, ap, ◌∙◌, subst, inl, inr, append-nil}
+use Rattle.std.proofs.Common.{◌≡◌, ◌≤◌, ◌+◌, ℕ, Bool, true, false, List, [], ◌∷◌, ◌++◌, length, Option, Some, None, Result, Ok, Err, IfSome, refl, sym, ap, ◌∙◌, subst, inl, inr, append-nil}
 use Rattle.std.specs.Prelude.{⊤}
 use Rattle.std.specs.Io.KnownBytes.{Appends, IsAtEnd}
 use Rattle.std.specs.Option.{option_map}
+use Rattle.std.specs.Str.Lines.{lines}
+use Rattle.std.proofs.lemmas.List.{map-append}
 use Rattle.fr_base.specs.Book.{opening}
 use Rattle.fr_base.specs.Cluster.{ClusterFile, IsWellFormed}
 use Rattle.fr_text.specs.ClusterFile.{config_of}
 use Rattle.fr_world.specs.Held.{Standing}
 use Rattle.fr_base.specs.declared.desk.Desk as Desk
-use Rattle.fr_cli.specs.Answering.{Account, Anything, WasWritten, account_by, account_of}
-use Rattle.fr_cli.specs.Output.{IsAnsweredTo, IsCutShort, IsOutputTo, LacksMemory}
+use Rattle.fr_cli.specs.Answering.{Account, AnswersAll, AnswersLines, Anything, WasWritten, account_by, account_of}
+use Rattle.fr_cli.specs.Numbered.{numbered_lines, numbered_text, without_numbers}
+use Rattle.fr_cli.specs.NumberedOutput.{IsCutShort, IsWrittenTo, LacksMemory}
+use Rattle.fr_cli.specs.Output.{IsAnsweredTo, IsOutputTo, text_of_answers}
 use Rattle.fr_cli.specs.Runs.{IsRunOf}
 use Rattle.fr_text.specs.Script.{max_script, parts_of, request_lines}
-use Rattle.fr_cli.proofs.AnsweringLaws.{Tells, cut_told, each_told, lines_as}
+use Rattle.fr_cli.proofs.AnsweringLaws.{Asked, Tells, cut_told, each_told, lines_as}
+use Rattle.fr_cli.proofs.NumberedLaws.{numbered-requests, text-behind}
 use Rattle.fr_cli.proofs.OutputLaws.{answered_to}
 use Rattle.fr_cli.specs.declared.script_fault.ScriptFault.{ScriptFault}
 use Rattle.fr_cli.specs.declared.script_fault.ScriptFault.TheVariants.{NoMemory, WriteFailed}
@@ -23,21 +28,21 @@ on_script P None bytes whole so = tt
 on_script P (Some s) bytes whole so = subst P whole so
 
 -- something else is said of the lines
-written_told : (A B : Account) (lines : List (List ℕ)) (a b : Option (List ℕ)) (done : Result ⊤ ScriptFault) → Tells A B → WasWritten A lines a b done → WasWritten B lines a b done
-written_told A B lines a b (Ok x) so was = record {
-  all = (was.all.0, was.all.1, lines_as A.all B.all lines was.all.0 (so.all lines) was.all.2);
+written_told : (nr : Bool) (A B : Account) (l : Asked) (a b : Option (List ℕ)) (done : Result ⊤ ScriptFault) → Tells A B → WasWritten nr A l a b done → WasWritten nr B l a b done
+written_told nr A B l a b (Ok x) so was = record {
+  all = (was.all.0, was.all.1, lines_as nr A.all B.all l was.all.0 (so.all (without_numbers l)) was.all.2);
   early = tt;
   faults = tt;
 }
-written_told A B lines a b (Err fault) so was = record { all = tt; early = cut_told A B _ _ a b fault so was.early; faults = was.faults }
+written_told nr A B l a b (Err fault) so was = record { all = tt; early = cut_told nr A B _ _ a b fault so was.early; faults = was.faults }
 
 -- what was written to a writer was written to the same one
-pub written_at : {W D : Type 0} (contents : W → Option (List ℕ)) (desk : Desk.Ghosts D) (old new : D) (lines : List (List ℕ)) (held same : W) (now : Option (List ℕ)) (done : Result ⊤ ScriptFault)
-    → held ≡ same → WasWritten (account_by desk old new) lines (contents held) now done
-    → WasWritten (account_of (desk.clean new) (desk.stands old) (desk.stands new)) lines (contents same) now done
-written_at contents desk old new lines held same now done is was =
+pub written_at : {W D : Type 0} (contents : W → Option (List ℕ)) (desk : Desk.Ghosts D) (nr : Bool) (old new : D) (l : Asked) (held same : W) (now : Option (List ℕ)) (done : Result ⊤ ScriptFault)
+    → held ≡ same → WasWritten nr (account_by desk old new) l (contents held) now done
+    → WasWritten nr (account_of (desk.clean new) (desk.stands old) (desk.stands new)) l (contents same) now done
+written_at contents desk nr old new l held same now done is was =
     let account = account_of (desk.clean new) (desk.stands old) (desk.stands new) in
-    subst (λ w. WasWritten account lines (contents w) now done) is (written_told (account_by desk old new) account lines (contents held) now done (each_told desk old new) was)
+    subst (λ w. WasWritten nr account l (contents w) now done) is (written_told nr (account_by desk old new) account l (contents held) now done (each_told desk old new) was)
 
 -- A script of these parts, whose cluster file is read so.
 pub record HasParts (script : List ℕ) (f : ClusterFile) (requests : List ℕ) : Type 0 where
@@ -47,21 +52,56 @@ pub record HasParts (script : List ℕ) (f : ClusterFile) (requests : List ℕ) 
   pub file : config_of cluster ≡ Ok f
   pub formed : IsWellFormed f
 
+-- an output of these answers
 output_to : (script requests : List ℕ) (f : ClusterFile) (left : List (List ℕ)) (written : List ℕ) → HasParts script f requests
-    → IsAnsweredTo f (request_lines requests) left written → IsOutputTo script left written
-output_to script requests f left written has answered = record {
-  size = has.size;
-  config = f;
-  formed = has.formed;
-  lines = request_lines requests;
-  file = ap (option_map (λ parts. config_of parts.0)) has.split ∙ ap Some has.file;
-  requests = ap (option_map (λ parts. request_lines parts.1)) has.split;
-  answered = answered;
-}
+    → (answered : IsAnsweredTo f (request_lines requests) left written) → (o : IsOutputTo script left written) × (o.answered.answered.answers ≡ answered.answered.answers)
+output_to script requests f left written has answered = (
+  record {
+    size = has.size;
+    config = f;
+    formed = has.formed;
+    lines = request_lines requests;
+    file = ap (option_map (λ parts. config_of parts.0)) has.split ∙ ap Some has.file;
+    requests = ap (option_map (λ parts. request_lines parts.1)) has.split;
+    answered = answered;
+  },
+  refl,
+)
+
+-- the number of the first line behind the separator
+abbrev pub first_number : List ℕ → ℕ
+first_number cluster = length (lines cluster) + 2
+
+module _ (clean : Type 0) (old new : Standing) (script requests : List ℕ) (f : ClusterFile) (front left : Asked) (is : clean) (has : HasParts script f requests)
+    (stands : old f.cluster (opening f)) (split : numbered_lines (first_number has.cluster) requests ≡ front ++ left) where
+  -- the lines without their numbers
+  split-lines : request_lines requests ≡ without_numbers front ++ without_numbers left
+  split-lines =
+      sym (numbered-requests (first_number has.cluster) requests) ∙ ap without_numbers split ∙ map-append (λ (one : ℕ × List ℕ). one.1) front left
+
+  -- an output of answers to the first lines, with numbers or without
+  written_to : (nr : Bool) (written : List ℕ) → AnswersLines nr (AnswersAll clean old new) front written → IsWrittenTo nr script (without_numbers left) written
+  written_to false written so =
+      let (answered, same) = answered_to clean old new f (request_lines requests) (without_numbers front) (without_numbers left) so.answers written is has.formed stands
+      split-lines so.answered so.bytes in
+      (output_to script requests f (without_numbers left) written has answered).0
+  written_to true written so =
+      let plain = text_of_answers so.answers in
+      let (answered, same) = answered_to clean old new f (request_lines requests) (without_numbers front) (without_numbers left) so.answers plain is has.formed stands
+      split-lines so.answered refl in
+      let (output, these) = output_to script requests f (without_numbers left) plain has answered in
+      record {
+        plain = plain;
+        output = output;
+        asked = numbered_lines (first_number has.cluster) requests;
+        numbers = ap (option_map (λ parts. numbered_lines (first_number parts.0) parts.1)) has.split;
+        bytes = so.bytes ∙ sym (text-behind front left so.answers so.each) ∙ ap (λ l. numbered_text l so.answers) (sym split)
+            ∙ ap (numbered_text (numbered_lines (first_number has.cluster) requests)) (sym (these ∙ same));
+      }
 
 -- Where memory was wanting, and where a write failed, no more is to be said.
-lacked : (script left a b : Option (List ℕ)) → IfSome script (λ s. (written : List ℕ) × Appends a b written × LacksMemory s written) → IsRunOf script left a b (Err NoMemory)
-lacked script left a b so = record {
+lacked : (nr : Bool) (script left a b : Option (List ℕ)) → IfSome script (λ s. (written : List ℕ) × Appends a b written × LacksMemory nr s written) → IsRunOf nr script left a b (Err NoMemory)
+lacked nr script left a b so = record {
   output = tt;
   whole_script = tt;
   too_long = λ e. absurd cc;
@@ -74,8 +114,8 @@ lacked script left a b so = record {
   unavailable = λ e. absurd cc;
 }
 
-failed : (script left a b : Option (List ℕ)) → IfSome script (λ s. (written : List ℕ) × Appends a b written × IsCutShort s written) → IsRunOf script left a b (Err WriteFailed)
-failed script left a b so = record {
+failed : (nr : Bool) (script left a b : Option (List ℕ)) → IfSome script (λ s. (written : List ℕ) × Appends a b written × IsCutShort nr s written) → IsRunOf nr script left a b (Err WriteFailed)
+failed nr script left a b so = record {
   output = tt;
   whole_script = tt;
   too_long = λ e. absurd cc;
@@ -91,17 +131,17 @@ failed script left a b so = record {
 no_write_failed : NoMemory ≡ WriteFailed → ⊥
 no_write_failed e = absurd cc
 
-pub run_of : (clean : Type 0) (old new : Standing) (script left a b : Option (List ℕ)) (bytes requests : List ℕ) (f : ClusterFile) (done : Result ⊤ ScriptFault)
-    → clean → IfSome script (λ all. bytes ≡ all) → IsAtEnd left → HasParts bytes f requests → old f.cluster (opening f)
-    → WasWritten (account_of clean old new) (request_lines requests) a b done → IsRunOf script left a b done
-run_of clean old new script left a b bytes requests f (Ok x) is whole end has stands w = record {
+pub run_of : (nr : Bool) (clean : Type 0) (old new : Standing) (script left a b : Option (List ℕ)) (bytes requests : List ℕ) (f : ClusterFile) (done : Result ⊤ ScriptFault)
+    → clean → IfSome script (λ all. bytes ≡ all) → IsAtEnd left → (has : HasParts bytes f requests) → old f.cluster (opening f)
+    → WasWritten nr (account_of clean old new) (numbered_lines (first_number has.cluster) requests) a b done → IsRunOf nr script left a b done
+run_of nr clean old new script left a b bytes requests f (Ok x) is whole end has stands w = record {
   output =
       let (written, appended, answered) = w.all in
+      let l = numbered_lines (first_number has.cluster) requests in
       on_script _ script bytes whole (
         written,
         appended,
-        output_to bytes requests f [] written has
-            (answered_to clean old new f (request_lines requests) (request_lines requests) [] written is has.formed stands (sym (append-nil (request_lines requests))) answered),
+        written_to clean old new bytes requests f l [] is has stands (sym (append-nil l)) nr written answered,
       );
   whole_script = end;
   too_long = λ e. absurd cc;
@@ -113,36 +153,34 @@ run_of clean old new script left a b bytes requests f (Ok x) is whole end has st
   write_failed = λ e. absurd cc;
   unavailable = λ e. absurd cc;
 }
-run_of clean old new script left a b bytes requests f (Err fault) is whole end has stands w =
+run_of nr clean old new script left a b bytes requests f (Err fault) is whole end has stands w =
     let c = w.early in
     elim w.faults [
       | inl lacks ↦ elim c.whole [
         | inl other ↦ absurd (no_write_failed (sym lacks ∙ other))
         | inr so ↦
             let (line, rest, split) = so.1 in
-            subst (λ e. IsRunOf script left a b (Err e)) (sym lacks)
-            (lacked script left a b (on_script _ script bytes whole (
+            subst (λ e. IsRunOf nr script left a b (Err e)) (sym lacks)
+            (lacked nr script left a b (on_script _ script bytes whole (
               c.written,
               c.appended,
               (
-                line,
-                rest,
-                output_to bytes requests f (line ∷ rest) c.written has
-                    (answered_to clean old Anything f (request_lines requests) so.0 (line ∷ rest) c.written is has.formed stands split so.2),
+                line.1,
+                without_numbers rest,
+                written_to clean old Anything bytes requests f so.0 (line ∷ rest) is has stands split nr c.written so.2,
               ),
             )))
       ]
       | inr fails ↦
           let (rest, split) = c.done in
-          subst (λ e. IsRunOf script left a b (Err e)) (sym fails)
-          (failed script left a b (on_script _ script bytes whole (
+          subst (λ e. IsRunOf nr script left a b (Err e)) (sym fails)
+          (failed nr script left a b (on_script _ script bytes whole (
             c.written,
             c.appended,
             (
-              rest,
+              without_numbers rest,
               c.missing,
-              output_to bytes requests f rest (c.written ++ c.missing) has
-                  (answered_to clean old new f (request_lines requests) c.lines rest (c.written ++ c.missing) is has.formed stands split c.answered),
+              written_to clean old new bytes requests f c.lines rest is has stands split nr (c.written ++ c.missing) c.answered,
             ),
           )))
     ]

@@ -149,6 +149,11 @@ module _ (s : Shape) (once : s.args_override_self ≡ false) (rest : List Text) 
       let delivery : Delivery = record { key = lent by.text; variant = lent of.text; kind = kind; file = lent from.text } in
       (job.Deliver (lent at.text) delivery, (named, at.first, (by.first, of.first, has, from.first)))
 
+run_job : (s : Shape) → s.name ≡ codes "run" → AlwaysHasJob s
+run_job s named rest fine =
+    let said = one_of (codes "lines") (rows_after s.rules [] rest) in
+    (job.Run (flag_of said), (named, flag_is (codes "lines") (rows_after s.rules [] rest) said refl))
+
 create_job : (s : Shape) → s.args_override_self ≡ false → s.name ≡ codes "create" → has_word s.rules (codes "DB") ≡ true
     → has_word s.rules (codes "CONFIG") ≡ true
     → AlwaysHasJob s
@@ -161,7 +166,10 @@ migrate_job : (s : Shape) → s.args_override_self ≡ false → s.name ≡ code
 migrate_job s once named db rest fine = let at = there s once rest fine (codes "DB") db in (job.Migrate (lent at.text), (named, at.first))
 
 ask_job : (s : Shape) → s.args_override_self ≡ false → s.name ≡ codes "ask" → has_word s.rules (codes "DB") ≡ true → AlwaysHasJob s
-ask_job s once named db rest fine = let at = there s once rest fine (codes "DB") db in (job.Ask (lent at.text), (named, at.first))
+ask_job s once named db rest fine =
+    let at = there s once rest fine (codes "DB") db in
+    let said = one_of (codes "lines") (rows_after s.rules [] rest) in
+    (job.Ask (lent at.text) (flag_of said), (named, at.first, flag_is (codes "lines") (rows_after s.rules [] rest) said refl))
 
 serve_job : (s : Shape) → s.args_override_self ≡ false → s.name ≡ codes "serve" → has_word s.rules (codes "DB") ≡ true
     → has_word s.rules (codes "PORT") ≡ true
@@ -251,7 +259,7 @@ data EachAsks : List Shape → Type 0 where
 all_ask : EachAsks (built slotplan).subs
 unfolding asked_with
 all_ask =
-    asks _ (λ rest fine. (job.Run, refl))
+    asks _ (run_job _ refl)
     and asks _ (create_job _ refl refl refl refl)
     and asks _ (migrate_job _ refl refl refl)
     and asks _ (serve_job _ refl refl refl refl refl refl refl refl refl)

@@ -1,7 +1,7 @@
--- Answered lines: the bytes are the lines' answers, a line for each, and the lines a run from the sound book for which
--- the register stood; it now stands for the book after them, and so it did behind each line. How they are cut short by a fault: the first lines were
--- carried out, and but for the end of one answer all is written.
-use Rattle.std.specs.Prelude.{◌≡◌, ◌⊎◌, ℕ, List, [], ◌∷◌, ◌++◌, length, Option, Result, Err, OnOk, IfErr, IfOk, ⊤}
+-- Answered lines: the bytes are the lines' answers, a line for each, which begins with the number of the line that it answers where lines are
+-- numbered. The lines are a run from the sound book for which the register stood; it now stands for the book after them, and so it did behind each
+-- line. How they are cut short by a fault: the first lines were carried out, and but for the end of one answer all is written.
+use Rattle.std.specs.Prelude.{◌≡◌, ◌⊎◌, ℕ, Bool, List, [], ◌∷◌, ◌++◌, length, Option, Result, Err, OnOk, IfErr, IfOk, ⊤}
 use Rattle.std.specs.Io.KnownBytes.{Appends}
 use Rattle.fr_base.specs.Book.{Book}
 use Rattle.fr_base.specs.Cluster.{Cluster}
@@ -12,10 +12,9 @@ use Rattle.fr_base.specs.declared.refusal.Refusal.{Refusal}
 use Rattle.fr_base.specs.declared.refusal.Refusal.TheVariants.{Unavailable}
 use Rattle.fr_base.specs.declared.request.Ask.{Ask}
 use Rattle.fr_cli.specs.Asked.{ask_in}
+use Rattle.fr_cli.specs.Numbered.{answers_text, front_of, numbered_lines, without_numbers}
 use Rattle.fr_cli.specs.Outcomes.{line_of}
 use Rattle.fr_cli.specs.Outlets.{StopsSo}
-use Rattle.fr_cli.specs.Output.{text_of_answers}
-use Rattle.fr_text.specs.Script.{request_lines}
 use Rattle.fr_cli.specs.ScriptRun.{AreAnswered, Replied}
 use Rattle.fr_cli.specs.Visits.{SinkGhosts}
 use Rattle.fr_cli.specs.declared.script_fault.ScriptFault.{ScriptFault}
@@ -82,47 +81,47 @@ both one other = record {
   first = λ lines answers. one.first lines answers × other.first lines answers;
 }
 
--- These bytes are the lines' answers, a line for each. This is said of them.
-pub record AnswersLines (Are : List (List ℕ) → List Answer → Type 0) (lines : List (List ℕ)) (written : List ℕ) : Type 0 where
+-- These bytes are the answers to lines that have these numbers, a line for each. This is said of them.
+pub record AnswersLines (numbered : Bool) (Are : List (List ℕ) → List Answer → Type 0) (lines : List (ℕ × List ℕ)) (written : List ℕ) : Type 0 where
   pub answers : List Answer
   pub each : length answers ≡ length lines
-  pub bytes : written ≡ text_of_answers answers
-  pub answered : Are lines answers
+  pub bytes : written ≡ answers_text numbered lines answers
+  pub answered : Are (without_numbers lines) answers
 
 -- These bytes are the end of one answer's line, or none.
-abbrev pub EndsAnswer : List ℕ → Type 0
-EndsAnswer missing = (kept : List ℕ) × (answer : Answer) × (line_of answer ≡ kept ++ missing)
+abbrev pub EndsAnswer : Bool → List ℕ → Type 0
+EndsAnswer numbered missing = (kept : List ℕ) × (number : ℕ) × (answer : Answer) × (front_of numbered number ++ line_of answer ≡ kept ++ missing)
 
 -- A fault came, and lines were answered before it. The register carried out some of which this is so; the end of one answer at most was
 -- not written. Unless it was the write that failed, all that was written are whole answers, to lines of which that is so.
-pub record WasCutShort (account : Account) (Done Told : List (List ℕ) → Type 0) (a b : Option (List ℕ)) (fault : ScriptFault) : Type 0 where
-  pub lines : List (List ℕ)
+pub record WasCutShort (numbered : Bool) (account : Account) (Done Told : List (ℕ × List ℕ) → Type 0) (a b : Option (List ℕ)) (fault : ScriptFault) : Type 0 where
+  pub lines : List (ℕ × List ℕ)
   pub done : Done lines
   pub written : List ℕ
   pub missing : List ℕ
   pub appended : Appends a b written
-  pub one : EndsAnswer missing
-  pub answered : AnswersLines account.all lines (written ++ missing)
-  pub whole : (fault ≡ WriteFailed) ⊎ ((told : List (List ℕ)) × Told told × AnswersLines account.first told written)
+  pub one : EndsAnswer numbered missing
+  pub answered : AnswersLines numbered account.all lines (written ++ missing)
+  pub whole : (fault ≡ WriteFailed) ⊎ ((told : List (ℕ × List ℕ)) × Told told × AnswersLines numbered account.first told written)
 
 -- The lines begin with these.
-abbrev pub BeginWith : List (List ℕ) → List (List ℕ) → Type 0
-BeginWith lines front = (left : List (List ℕ)) × (lines ≡ front ++ left)
+abbrev pub BeginWith : {A : Type 0} → List A → List A → Type 0
+BeginWith {A} lines front = (left : List A) × (lines ≡ front ++ left)
 
 -- The lines begin with these, and there is one more.
-abbrev pub GoOnBehind : List (List ℕ) → List (List ℕ) → Type 0
-GoOnBehind lines front = (line : List ℕ) × (left : List (List ℕ)) × (lines ≡ front ++ line ∷ left)
+abbrev pub GoOnBehind : {A : Type 0} → List A → List A → Type 0
+GoOnBehind {A} lines front = (line : A) × (left : List A) × (lines ≡ front ++ line ∷ left)
 
 -- What was written of the lines' answers, by how that ended: all; or, where there was no memory for a line or a write failed, those before.
-pub record WasWritten (account : Account) (lines : List (List ℕ)) (a b : Option (List ℕ)) (done : Result ⊤ ScriptFault) : Type 0 where
-  pub all : OnOk done ((written : List ℕ) × Appends a b written × AnswersLines account.all lines written)
-  pub early : IfErr done (WasCutShort account (BeginWith lines) (GoOnBehind lines) a b)
+pub record WasWritten (numbered : Bool) (account : Account) (lines : List (ℕ × List ℕ)) (a b : Option (List ℕ)) (done : Result ⊤ ScriptFault) : Type 0 where
+  pub all : OnOk done ((written : List ℕ) × Appends a b written × AnswersLines numbered account.all lines written)
+  pub early : IfErr done (WasCutShort numbered account (BeginWith lines) (GoOnBehind lines) a b)
   pub faults : IfErr done (λ fault. (fault ≡ NoMemory) ⊎ (fault ≡ WriteFailed))
 
--- A register was asked what these lines ask, and the answers were written so to an output. The register was clean before if it is now, and
--- the output has the same writer still. A fault of writing came only where the last call on it failed.
-pub record HasWritten {D W : Type 0} (desk : Desk.Ghosts D) (writer : SinkGhosts W) (lines : List ℕ) (old new : D) (held now : Output W) (done : Result ⊤ ScriptFault) : Type 0 where
-  pub written : WasWritten (account_by desk old new) (request_lines lines) (writer.contents held.writer.now) (writer.contents now.writer.now) done
+-- A register was asked what these lines ask, of which the first has this number, and the answers were written so to an output. The register was
+-- clean before if it is now, and the output has the same writer still. A fault of writing came only where the last call on it failed.
+pub record HasWritten {D W : Type 0} (desk : Desk.Ghosts D) (writer : SinkGhosts W) (numbered : Bool) (number : ℕ) (lines : List ℕ) (old new : D) (held now : Output W) (done : Result ⊤ ScriptFault) : Type 0 where
+  pub written : WasWritten numbered (account_by desk old new) (numbered_lines number lines) (writer.contents held.writer.now) (writer.contents now.writer.now) done
   pub falls : desk.clean new → desk.clean old
   pub same_writer : now.writer.ghost_name ≡ held.writer.ghost_name
   pub stops : StopsSo writer now.writer.now done

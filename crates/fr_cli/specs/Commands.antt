@@ -45,8 +45,12 @@ seconds = record (new_rule (codes "seconds")) {
 abbrev pub free_word : Text → Rule
 free_word name = record (new_rule name) { action = Some Set }
 
+-- a word that is given or left out
+abbrev pub flag : Text → Rule
+flag name = record (new_rule name) { long = Some name; action = Some SetTrue }
+
 abbrev pub run : App
-run = new_app (codes "run")
+run = with_rule (new_app (codes "run")) (flag (codes "lines"))
 
 abbrev pub create : App
 create = with_rule (with_rule (new_app (codes "create")) (word (codes "DB"))) (word (codes "CONFIG"))
@@ -58,7 +62,7 @@ abbrev pub serve : App
 serve = with_rule (with_rule (with_rule (with_rule (new_app (codes "serve")) (word (codes "DB"))) port) count) seconds
 
 abbrev pub ask : App
-ask = with_rule (new_app (codes "ask")) (word (codes "DB"))
+ask = with_rule (with_rule (new_app (codes "ask")) (word (codes "DB"))) (flag (codes "lines"))
 
 -- the supplier as which a report is read
 abbrev pub supplier : Rule

@@ -1,6 +1,6 @@
 -- Deed: what a job did with the register of a file that it opened. From which book it leads to which, by which requests with
 -- which answers. Which deed a job did, by what it read and what it printed or told of an answer.
-use Rattle.std.specs.Prelude.{◌≡◌, ◌⊎◌, ℕ, List, [], ◌∷◌, ◌++◌, length, map, Option, Some, None, Result, Err, IfSome}
+use Rattle.std.specs.Prelude.{◌≡◌, ◌⊎◌, ℕ, Bool, List, [], ◌∷◌, ◌++◌, length, map, Option, Some, None, Result, Err, IfSome}
 use Rattle.std.specs.Global.{Vec}
 use Rattle.std.specs.Io.KnownBytes.{Appends}
 use Rattle.fr_base.specs.Book.{Book}
@@ -21,12 +21,11 @@ use Rattle.fr_cli.specs.Incoming.{AreFirstOf}
 use Rattle.fr_cli.specs.Jobs.{Shows, Streams}
 use Rattle.fr_cli.specs.Outlets.{held_before, held_behind}
 use Rattle.fr_cli.specs.Keys.{IsKeyGiven}
-use Rattle.fr_cli.specs.Output.{text_of_answers}
+use Rattle.fr_cli.specs.Numbered.{answers_text, numbered_lines, without_numbers}
 use Rattle.fr_cli.specs.Performing.{Says}
 use Rattle.fr_cli.specs.Picturing.{plans_for}
 use Rattle.fr_cli.specs.Queries.{reader_named}
 use Rattle.fr_cli.specs.Reading.{PrintsRead}
-use Rattle.fr_text.specs.Script.{request_lines}
 use Rattle.fr_cli.specs.ScriptRun.{AreAnswered, Replied, asks_in, with_ask}
 use Rattle.fr_cli.specs.Texts.{Readings, max_rows}
 use Rattle.fr_cli.specs.Visits.{Comings, SinkGhosts, Visit, visit_of}
@@ -81,16 +80,19 @@ Did c b (Drawn reader variant since None) done last = WasLeft b done last
 -- ---- which deed a job did
 
 -- These are the requests of the input, where that is known: all of them where the job was done, else the first of them. Their answers were
--- written, a line for each; where the job was not done, the end of one answer may lack, or all of it.
-pub record WereLines {O E : Type 0} {printed : SinkGhosts O} {told : SinkGhosts E} (s : Streams printed told) (status : ℕ) (lines : List (List ℕ)) (answers : List Answer) : Type 0 where
-  pub first : IfSome s.input.old (AreFirstOf lines)
-  pub each : length answers ≡ length lines
+-- written, a line for each, with the numbers of their lines in the input where these are wanted; where the job was not done, the end of one answer
+-- may lack, or all of it.
+pub record WereLines {O E : Type 0} {printed : SinkGhosts O} {told : SinkGhosts E} (numbered : Bool) (s : Streams printed told) (status : ℕ) (lines : List (List ℕ)) (answers : List Answer) : Type 0 where
+  pub asked : List (ℕ × List ℕ)
+  pub these : lines ≡ without_numbers asked
+  pub first : IfSome s.input.old (AreFirstOf asked)
+  pub each : length answers ≡ length asked
   pub written : List ℕ
   pub missing : List ℕ
   pub appended : Appends (held_before s.out) (held_behind s.out) written
-  pub one : EndsAnswer missing
-  pub bytes : written ++ missing ≡ text_of_answers answers
-  pub all : status ≡ 0 → (missing ≡ []) × IfSome s.input.old (λ input. lines ≡ request_lines input)
+  pub one : EndsAnswer numbered missing
+  pub bytes : written ++ missing ≡ answers_text numbered asked answers
+  pub all : status ≡ 0 → (missing ≡ []) × IfSome s.input.old (λ input. asked ≡ numbered_lines 1 input)
 
 -- This answer was printed or told, by its outcome; or a front of it, where no more could be written.
 abbrev pub IsShown : {O E : Type 0} {printed : SinkGhosts O} {told : SinkGhosts E} → Streams printed told → ℕ → Answer → Type 0
@@ -111,7 +113,7 @@ IsAskedOf read delivery s asks = (body key : List ℕ) × read.front max_rows de
 
 -- The job did this, by what was read of text files, the connections that came in, its streams and its status.
 abbrev pub IsDeedOf : {O E : Type 0} {printed : SinkGhosts O} {told : SinkGhosts E} → Readings → Comings → Streams printed told → ℕ → Job → Deed → Type 0
-IsDeedOf read comings s status (job.Ask db) (Lines lines answers) = WereLines s status lines answers
+IsDeedOf read comings s status (job.Ask db numbered) (Lines lines answers) = WereLines numbered s status lines answers
 IsDeedOf read comings s status (job.Serve db port count seconds) (Visits visits) = comings.at port seconds visits × (status ≡ 0 → length visits ≡ count)
 IsDeedOf read comings s status (job.Report db query) (Asked asks (Some answer)) = (asks ≡ query_of query) × IsShown s status (for_reader answer)
 IsDeedOf read comings s status (job.Report db query) (Asked asks None) = (asks ≡ query_of query) × LacksAnswer s status

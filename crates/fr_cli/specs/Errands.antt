@@ -1,5 +1,5 @@
 -- Errands: what is done with a register whose file is opened for it, and closed behind it.
-use Rattle.std.specs.Prelude.{◌≡◌, ◌⊎◌, ℕ, List, Option, Result, Err, OnOk, ⊤}
+use Rattle.std.specs.Prelude.{◌≡◌, ◌⊎◌, ℕ, Bool, List, Option, Result, Err, OnOk, ⊤}
 use Rattle.std.specs.Global.{Vec}
 use Rattle.std.specs.Io.KnownBytes.{IsAtEnd}
 use Rattle.sqlite.specs.declared.file.Leftover.{Leftover}
@@ -45,9 +45,9 @@ tells (telling.Answer key delivery body) R desk old new done =
     Prints (IsAnswer asks (desk.clean new) (desk.stands old) (desk.stands new)) done × Leads (desk.clean new) (desk.stands old) (desk.stands new) asks
 
 -- The requests of an input are answered. There is a register behind each line.
-abbrev pub AnswersInput : {O : Type 0} {printed : SinkGhosts O} → Option (List ℕ) → Option (List ℕ) → Outlet printed → Doing ⊤ Fault
-AnswersInput {printed = printed} input left out R desk old new done = (asked : Result ⊤ ScriptFault) × (done ≡ of_script asked) × OnOk asked (IsAtEnd left)
-    × StopsSo printed out.new asked × HasAnswered (account_by desk old new) input left (held_before out) (held_behind out) asked
+abbrev pub AnswersInput : {O : Type 0} {printed : SinkGhosts O} → Bool → Option (List ℕ) → Option (List ℕ) → Outlet printed → Doing ⊤ Fault
+AnswersInput {printed = printed} numbered input left out R desk old new done = (asked : Result ⊤ ScriptFault) × (done ≡ of_script asked) × OnOk asked (IsAtEnd left)
+    × StopsSo printed out.new asked × HasAnswered numbered (account_by desk old new) input left (held_before out) (held_behind out) asked
 
 -- Connections that come in are served. There is a register behind each. The line of a server that listens is printed, and the ends of those that
 -- failed are told.

@@ -76,13 +76,13 @@ module _ {D R O E : Type 0} {g : Ghosts D} {printed : SinkGhosts O} {told : Sink
 
   -- What the job does.
   unfoldable pub IsPerformed : Job → Streams printed told → ℕ → Type 0
-  IsPerformed job.Run s status = (done : Result ⊤ ScriptFault) × IsRunOf s.input.old s.input.new (held_before s.out) (held_behind s.out) done
+  IsPerformed (job.Run numbered) s status = (done : Result ⊤ ScriptFault) × IsRunOf numbered s.input.old s.input.new (held_before s.out) (held_behind s.out) done
       × StopsSo printed s.out.new done
       × Ends (of_script done) s status × read.none × comings.none × (rest ≡ None)
   IsPerformed (job.Create db config) s status = Creates config.now s status × Quiet s
   IsPerformed (job.Migrate db) s status = Migrates s status × read.none × Quiet s
   IsPerformed (job.Serve db port count seconds) s status = Serves port count seconds s status × read.none × Keeps s.input.old s.input.new
-  IsPerformed (job.Ask db) s status = (done : Result ⊤ Fault) × IsAsked desk held rest s.input.old s.input.new s.out done
+  IsPerformed (job.Ask db numbered) s status = (done : Result ⊤ Fault) × IsAsked numbered desk held rest s.input.old s.input.new s.out done
       × Ends done s status × read.none × comings.none
   IsPerformed (job.Report db query) s status = (done : Result (Vec ℕ) Failure) × Shows done s status
       × Says (IsNotReported held rest) (IsForReader (IsAnswerOfFile held rest (query_of query))) done × read.none × Quiet s

@@ -2,6 +2,8 @@ pub mod ScriptFault
 pub mod Asked
 pub mod ScriptRun
 pub mod Output
+pub mod Numbered
+pub mod NumberedOutput
 pub mod OutputLaws
 pub mod Answering
 pub mod Laws

@@ -59,11 +59,3 @@ pub record IsOutputTo (script : List ℕ) (left : List (List ℕ)) (written : Li
 -- The bytes are the output of the script.
 abbrev pub IsOutput : List ℕ → List ℕ → Type 0
 IsOutput script written = IsOutputTo script [] written
-
--- The bytes answer the script's requests up to one for which there was no memory.
-abbrev pub LacksMemory : List ℕ → List ℕ → Type 0
-LacksMemory script written = (line : List ℕ) × (left : List (List ℕ)) × IsOutputTo script (line ∷ left) written
-
--- The bytes are the front of some requests' answers.
-abbrev pub IsCutShort : List ℕ → List ℕ → Type 0
-IsCutShort script written = (left : List (List ℕ)) × (missing : List ℕ) × IsOutputTo script left (written ++ missing)

@@ -1,10 +1,13 @@
 -- Laws of outputs: the same lines from one book come to one end, and a script has one output, but for where `Unavailable`
--- comes.
-use Rattle.std.specs.Prelude.{◌≡◌, ℕ, List, map}
+-- comes. Requests that have numbers are the requests, and the lines of a script are those of its parts.
+use Rattle.std.specs.Prelude.{◌≡◌, ℕ, List, ◌∷◌, ◌++◌, Some, codes, map}
+use Rattle.std.specs.Str.Lines.{lines as lines_in}
 use Rattle.fr_base.specs.Alone.{is_unavailable}
 use Rattle.fr_base.specs.Book.{Book}
 use Rattle.fr_base.specs.Cluster.{Cluster}
 use Rattle.fr_base.specs.declared.answer.Answer.{Answer}
+use Rattle.fr_text.specs.Script.{parts_of, request_lines}
+use Rattle.fr_cli.specs.Numbered.{numbered_lines, without_numbers}
 use Rattle.fr_cli.specs.Output.{IsOutput}
 use Rattle.fr_cli.specs.ScriptRun.{AreAnswered}
 
@@ -22,3 +25,12 @@ answers_in output = output.answered.answered.answers
 abbrev pub OutputIsOne : Type 0
 OutputIsOne = (script one other : List ℕ) (here : IsOutput script one) (there : IsOutput script other) →
     map is_unavailable (answers_in here) ≡ map is_unavailable (answers_in there) → one ≡ other
+
+-- Without their numbers the requests of a text that have them are its requests.
+abbrev pub NumberedAreRequests : Type 0
+NumberedAreRequests = (number : ℕ) (text : List ℕ) → without_numbers (numbered_lines number text) ≡ request_lines text
+
+-- The lines of a script are those of its cluster file, the separator, and those behind it.
+abbrev pub ScriptLinesAreParts : Type 0
+ScriptLinesAreParts = (script cluster requests : List ℕ) → parts_of script ≡ Some (cluster, requests) →
+    lines_in script ≡ lines_in cluster ++ codes "---" ∷ lines_in requests

@@ -39,7 +39,7 @@ IsJoined _ _ _ = ⊥
 -- The job answers lines, or serves connections.
 abbrev pub AnswersOn : Job → Type 0
 AnswersOn (job.Serve db port count seconds) = ⊤
-AnswersOn (job.Ask db) = ⊤
+AnswersOn (job.Ask db numbered) = ⊤
 AnswersOn _ = ⊥
 
 module _ {D K : Type 0} (g : Ghosts D) (desk : Desk.Ghosts K) (leaves : K → Leaving) where

@@ -1,30 +1,40 @@
 //! Answers lines of requests by a desk, one after another.
-ghost use Rattle.std.specs.Prelude.{◌≡◌, IfErr};
+ghost use Rattle.std.specs.Prelude.{◌≡◌, ◌<◌, ◌^◌, IfErr};
 ghost use Rattle.fr_base.specs.Actors.{actor_of};
 ghost use Rattle.fr_http.specs.Connection.{InSound};
 ghost use Rattle.fr_picture.specs.Reports.{AsksDesk};
 ghost use Rattle.fr_cli.specs.Answering.{GivesAnswer, HasWritten, Reads};
 
-use crate::lines_out::line_of;
+use crate::lines_out::numbered_line;
+use crate::numbered::next_request;
 use crate::script_fault::ScriptFault;
 use fr_base::{Actor, Answer, Ask, Desk, Refusal};
-use fr_text::{Output, RequestLines, Sink, key_and_text, read_command};
+use fr_text::{Output, Sink, key_and_text, read_command};
 use std::alloc::Global;
 use std::str;
 
 /// Writes the answer to each request, before the next one is read. Behind each there is a desk that stands for the book after it.
+/// Where lines are numbered, an answer has the number of its request's line before it. The first line's is `first`.
 pub fn write_answers<D: Desk, W: Sink>(
     alloc: Global,
     desk: &mut D,
     lines: &[u8],
+    first: u64,
+    numbered: bool,
     output: &mut Output<'_, W>,
 ) -> Result<(), ScriptFault>
-    ensures { HasWritten D.Desk W.Sink lines.now desk.old desk.new output.old output.new result }
+    requires room { first < 2 ^ 63 }
+    ensures { HasWritten D.Desk W.Sink numbered first lines.now desk.old desk.new output.old
+        output.new result }
 {
-    for line in RequestLines::new(lines) {
-        let answer = answer_line(alloc, desk, line)?;
-        let text = line_of(alloc, &answer)?;
+    let mut rest = lines;
+    let mut number = first;
+    while let Some(next) = next_request(rest, number) {
+        let answer = answer_line(alloc, desk, next.line)?;
+        let text = numbered_line(alloc, numbered, next.number, &answer)?;
         output.write_all(&text)?;
+        number = next.number + 1;
+        rest = next.rest;
     }
     Ok(output.flush()?)
 }

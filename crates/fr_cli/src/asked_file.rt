@@ -16,12 +16,13 @@ use fr_world::Records;
 use sqlite::Start;
 use std::io::Read;
 
-/// The requests on an input, and the output on which they are answered. Where another file stands in the place of the
+/// The requests on an input, and the output on which they are answered, with the numbers of their lines or without. Where another file stands in the place of the
 /// register's, a request is answered `Unavailable`, and the run ends with that fault.
 #[derive(Drop)]
 pub(crate) struct Asking<'a, I, O> {
     pub input: &'a mut I,
     pub out: &'a mut O,
+    pub numbered: bool,
 }
 
 impl<I: Read, O: Sink> Errand for Asking<'_, I, O> {
@@ -34,7 +35,7 @@ impl<I: Read, O: Sink> Errand for Asking<'_, I, O> {
     type Fault = Fault;
 
     ghost does = { λ it then desks desk old new done.
-        AnswersInput (I.remaining it.input.now) (I.remaining then.input.now)
+        AnswersInput it.numbered (I.remaining it.input.now) (I.remaining then.input.now)
         (outlet O.Sink it.out.now then.out.now) desks desk old new done
         × ((then.input.ghost_name ≡ it.input.ghost_name)
         × (then.out.ghost_name ≡ it.out.ghost_name)) };
@@ -47,7 +48,13 @@ impl<I: Read, O: Sink> Errand for Asking<'_, I, O> {
     ) -> (Result<(), Fault>, Office<R>) {
         match Guarded::new(rt, db, office) {
             Ok(mut guarded) => {
-                let asked = answer_input(rt.alloc(), &mut guarded, self.input, self.out);
+                let asked = answer_input(
+                    rt.alloc(),
+                    &mut guarded,
+                    self.input,
+                    self.out,
+                    self.numbered,
+                );
                 (of_script(asked), guarded.into_office())
             }
             Err((fault, office)) => (of_script(Err(ScriptFault::from(fault))), office),
@@ -63,10 +70,15 @@ pub(crate) fn ask<S: Start, I: Read, O: Sink>(
     start: S,
     input: &mut I,
     out: &mut O,
+    numbered: bool,
 ) -> (Result<(), Fault>, Left<S>)
-    ensures { IsAsked ⟦<FileDesk<S> as Desk>⟧ (image_at S.Start) result.1 (I.remaining input.old)
+    ensures { IsAsked numbered ⟦<FileDesk<S> as Desk>⟧ (image_at S.Start) result.1 (I.remaining input.old)
         (I.remaining input.new) (outlet O.Sink out.old out.new) result.0 }
 {
-    let mut asking = Asking { input, out };
+    let mut asking = Asking {
+        input,
+        out,
+        numbered,
+    };
     over_file(rt, db, start, &mut asking)
 }

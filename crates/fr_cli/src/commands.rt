@@ -25,7 +25,7 @@ pub fn program<'a>(alloc: Global) -> Result<Command<'a>, AllocError>
     ensures { IfOk result (IsReadAs app.slotplan) }
 {
     let program = settings(Command::new(alloc, "slotplan").bin_name("slotplan")?)
-        .subcommand(run(alloc))?
+        .subcommand(run(alloc)?)?
         .subcommand(create(alloc)?)?
         .subcommand(migrate(alloc)?)?
         .subcommand(serve(alloc)?)?
@@ -55,12 +55,14 @@ fn settings<'a>(command: Command<'a>) -> Command<'a>
         .arg_required_else_help(true)
 }
 
-fn run<'a>(alloc: Global) -> Command<'a>
-    ensures { IsReadAs app.run result }
+fn run<'a>(alloc: Global) -> Result<Command<'a>, AllocError>
+    ensures { IfOk result (IsReadAs app.run) }
 {
-    Command::new(alloc, "run")
+    let command = Command::new(alloc, "run")
         .about("Answers a script on standard input, over a register in memory")
         .after_help(RUN_HELP)
+        .arg(lines(alloc))?;
+    Ok(command)
 }
 
 fn create<'a>(alloc: Global) -> Result<Command<'a>, AllocError>
@@ -140,8 +142,20 @@ fn ask<'a>(alloc: Global) -> Result<Command<'a>, AllocError>
     let command = Command::new(alloc, "ask")
         .about("Answers requests on standard input, a line each, over a register file")
         .after_help(ASK_HELP)
-        .arg(db(alloc))?;
+        .arg(db(alloc))?
+        .arg(lines(alloc))?;
     Ok(command)
+}
+
+// Whether each answer has the number of its line before it.
+fn lines<'a>(alloc: Global) -> Arg<'a>
+    ensures { (rule_of result ≡ app.flag (codes "lines")) × (result.global ≡ false) }
+{
+    flag(
+        alloc,
+        "lines",
+        "Puts the number of its line and a space before each answer",
+    )
 }
 
 // The program with a subcommand for each of these reports.
@@ -521,10 +535,12 @@ Example: a register file, the figures of its cluster, and a server
 
 const RUN_HELP: &str = "\
 A script is a cluster file, the line ---, and a request on each line after it:
-a key, a space and the request's JSON.
+a key, a space and the request's JSON. With --lines an answer begins with the
+number of its request's line in the script, all lines of the script counted.
 
 Example:
-  slotplan run < first.script";
+  slotplan run < first.script
+  slotplan run --lines < first.script";
 
 const CREATE_HELP: &str = "\
 Example:
@@ -545,10 +561,13 @@ Example:
 
 const ASK_HELP: &str = "\
 A line is a key, a space and the request's JSON. It is answered with a line on
-standard output, once the file has what it changes. Empty lines are skipped.
+standard output, once the file has what it changes. Empty lines are skipped. With
+--lines an answer begins with the number of its line, empty lines counted, as
+check --requests counts them.
 
 Example:
-  slotplan ask car.db < changes.txt";
+  slotplan ask car.db < changes.txt
+  slotplan ask car.db --lines < changes.txt";
 
 const EXPORT_HELP: &str = "\
 A header, and a line for each row. Behind the last part there is the header alone. For

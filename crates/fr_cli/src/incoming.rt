@@ -1,5 +1,5 @@
 //! Requests that come in on a reader, each answered before the next one is awaited.
-ghost use Rattle.std.specs.Prelude.{◌≡◌, ◌⊎◌, ◌≤◌, ◌++◌, vec_len, IfErr, OnOk};
+ghost use Rattle.std.specs.Prelude.{◌≡◌, ◌⊎◌, ◌<◌, ◌≤◌, ◌+◌, ◌^◌, ◌++◌, length, vec_len, IfErr, OnOk};
 ghost use Rattle.std.specs.Io.KnownBytes.{IsAtEnd};
 ghost use Rattle.fr_cli.specs.Answering.{account_by};
 ghost use Rattle.fr_cli.specs.Incoming.{EndsAsking, HasAnswered, HasAsked, HasHeard};
@@ -20,7 +20,8 @@ use std::io::Read;
 /// script, [`SCRIPT_BYTES`] bytes and [`SCRIPT_READS`] reads, and [`LINE_BYTES`] for each line. A line that has no end
 /// when the bounds are met or a read fails is not answered.
 ///
-/// Behind each line that is answered there is a desk that stands for the book after it.
+/// Behind each line that is answered there is a desk that stands for the book after it. Where lines are numbered, an answer has
+/// the number of its line in the input before it, from 1 on.
 ///
 /// The answer to a line is written before more than what came with it is read. No clause speaks of that order, nor says when
 /// a read fails or the reads are too many.
@@ -29,16 +30,17 @@ pub fn answer_input<D: Lasting, R: Read, W: Sink>(
     desk: &mut D,
     reader: &mut R,
     writer: &mut W,
+    numbered: bool,
 ) -> Result<(), ScriptFault>
     ensures falls { D.clean desk.new → D.clean desk.old }
-    ensures answered { HasAnswered (account_by D.Desk desk.old desk.new)
+    ensures answered { HasAnswered numbered (account_by D.Desk desk.old desk.new)
         (R.remaining reader.old) (R.remaining reader.new) (W.contents writer.old)
         (W.contents writer.new) result }
     ensures end { OnOk result (IsAtEnd (R.remaining reader.new)) }
     ensures stops { StopsSo W.Sink writer.new result }
 {
     let mut output = Output::new(writer);
-    answer_pieces(alloc, desk, reader, &mut output)
+    answer_pieces(alloc, desk, reader, numbered, &mut output)
 }
 
 // Answers what the reader gives, piece by piece.
@@ -46,10 +48,11 @@ fn answer_pieces<D: Lasting, R: Read, W: Sink>(
     alloc: Global,
     desk: &mut D,
     reader: &mut R,
+    numbered: bool,
     output: &mut Output<'_, W>,
 ) -> Result<(), ScriptFault>
     ensures falls { D.clean desk.new → D.clean desk.old }
-    ensures answered { HasAnswered (account_by D.Desk desk.old desk.new)
+    ensures answered { HasAnswered numbered (account_by D.Desk desk.old desk.new)
         (R.remaining reader.old) (R.remaining reader.new) (W.contents output.old.writer.now)
         (W.contents output.new.writer.now) result }
     ensures end { OnOk result (IsAtEnd (R.remaining reader.new)) }
@@ -57,14 +60,23 @@ fn answer_pieces<D: Lasting, R: Read, W: Sink>(
     ensures same { output.new.writer.ghost_name ≡ output.old.writer.ghost_name }
 {
     let mut begun = Vec::new(alloc);
+    let mut number = 1;
     let mut room = SCRIPT_BYTES;
     let mut piece = [0u8; PIECE_BYTES];
     for _ in 0..SCRIPT_READS {
         match reader.read(&mut piece) {
-            Ok(0) => return answer_requests(alloc, desk, &begun, output),
+            Ok(0) => return answer_requests(alloc, desk, &begun, number, numbered, output),
             Ok(n) => {
                 room = room.checked_sub(n).ok_or(ScriptFault::TooLong)?;
-                answer_piece(alloc, desk, &mut begun, &piece[..n], output)?;
+                answer_piece(
+                    alloc,
+                    desk,
+                    &mut begun,
+                    &mut number,
+                    &piece[..n],
+                    numbered,
+                    output,
+                )?;
             }
             Err(error) => try_again(&error, InputFault::ReadFailed)?,
         }
@@ -72,20 +84,23 @@ fn answer_pieces<D: Lasting, R: Read, W: Sink>(
     Err(ScriptFault::TooManyReads)
 }
 
-// Answers each line that ends in the piece; the first of them begins with `begun`. What follows the last of them is begun
-// then. No line ends in `begun`, before and after.
+// Answers each line that ends in the piece; the first of them begins with `begun`, and has this number. What follows the last
+// of them is begun then, and has the number that is left. No line ends in `begun`, before and after.
 fn answer_piece<D: Lasting, W: Sink>(
     alloc: Global,
     desk: &mut D,
     begun: &mut Vec<u8>,
+    number: &mut u64,
     piece: &[u8],
+    numbered: bool,
     output: &mut Output<'_, W>,
 ) -> Result<(), ScriptFault>
     requires open_ended { HasNo 10 begun.old.items }
     requires short { vec_len begun.old ≤ LINE_BYTES }
+    requires room { number.old + length piece.now < 2 ^ 63 }
     ensures short { OnOk result (vec_len begun.new ≤ LINE_BYTES) }
     ensures falls { D.clean desk.new → D.clean desk.old }
-    ensures heard { HasHeard (account_by D.Desk desk.old desk.new)
+    ensures heard { HasHeard numbered (account_by D.Desk desk.old desk.new) number.old number.new
         (begun.old.items ++ piece.now) begun.new.items (W.contents output.old.writer.now)
         (W.contents output.new.writer.now) result }
     ensures faults { IfErr result (λ fault. (fault ≡ ScriptFault.TooLong) ⊎ EndsAsking fault) }
@@ -96,23 +111,29 @@ fn answer_piece<D: Lasting, W: Sink>(
     while let Some((line, after)) = split_once(rest, b'\n') {
         append(begun, line, LINE_BYTES)?;
         begun.extend_from_slice(b"\n")?;
-        answer_requests(alloc, desk, begun, output)?;
+        answer_requests(alloc, desk, begun, *number, numbered, output)?;
         begun.clear();
+        *number += 1;
         rest = after;
     }
     Ok(append(begun, rest, LINE_BYTES)?)
 }
 
-// Answers the requests. If there were any, and the register cannot be asked any more, the fault is `Unavailable`.
+// Answers the requests; the first line has this number. If there were any, and the register cannot be asked any more, the fault
+// is `Unavailable`.
 fn answer_requests<D: Lasting, W: Sink>(
     alloc: Global,
     desk: &mut D,
     requests: &[u8],
+    number: u64,
+    numbered: bool,
     output: &mut Output<'_, W>,
 ) -> Result<(), ScriptFault>
-    ensures { HasAsked D.Desk W.Sink requests.now desk.old desk.new output.old output.new result }
+    requires room { number < 2 ^ 63 }
+    ensures { HasAsked D.Desk W.Sink numbered number requests.now desk.old desk.new output.old
+        output.new result }
 {
-    write_answers(alloc, desk, requests, output)?;
+    write_answers(alloc, desk, requests, number, numbered, output)?;
     if RequestLines::new(requests).next().is_none() {
         return Ok(());
     }

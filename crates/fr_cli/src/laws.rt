@@ -2,7 +2,7 @@
 //! register, and come to one end; each fault's word is explained; what jobs ask, one after another at one register's file, is a
 //! run of the register too, whatever stops come between them.
 ghost use Rattle.fr_cli.specs.Laws.{AnsweredLinesAreARun, AvailableAnswersAreSteps, EachFaultIsExplained};
-ghost use Rattle.fr_cli.specs.OutputLaws.{AnsweredLinesAreOne, OutputIsOne};
+ghost use Rattle.fr_cli.specs.OutputLaws.{AnsweredLinesAreOne, NumberedAreRequests, OutputIsOne, ScriptLinesAreParts};
 ghost use Rattle.fr_cli.specs.Series.{AllJobsAreKept, JobLeads, JobsAreKept, MadeIsHeld};
 ghost use Rattle.fr_cli.specs.Stops.{JobStops};
 ghost use Rattle.fr_office.specs.Crashed.{leaves_of};
@@ -36,6 +36,17 @@ pub fn answered_lines_are_one()
 /// Two outputs of a script, `Unavailable` at the same places or nowhere, are the same bytes.
 pub fn output_is_one()
     ensures { OutputIsOne }
+{}
+
+/// The requests of a text that have the numbers of their lines are its requests.
+pub fn numbered_are_requests()
+    ensures { NumberedAreRequests }
+{}
+
+/// The lines of a script are those of its cluster file, the separator, and those behind it. So the number of a request's line
+/// counts all lines above it.
+pub fn script_lines_are_parts()
+    ensures { ScriptLinesAreParts }
 {}
 
 /// Each word of a fault that ends a job or a connection is explained.

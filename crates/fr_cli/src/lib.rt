@@ -25,6 +25,7 @@ mod listener;
 mod local_files;
 mod local_listener;
 mod looking;
+mod numbered;
 mod outcome;
 mod over_file;
 pub mod perform;
@@ -48,7 +49,7 @@ pub use incoming::answer_input;
 pub use lasting::Lasting;
 pub use laws::{
     answered_lines_are_a_run, answered_lines_are_one, available_answers_are_steps,
-    each_fault_is_explained, output_is_one,
+    each_fault_is_explained, numbered_are_requests, output_is_one, script_lines_are_parts,
 };
 pub use listener::Listener;
 pub use local_files::LocalFiles;

@@ -58,7 +58,7 @@ pub fn perform<S: Start, F: TextFiles, R: Read, O: Sink, E: Sink, L: Listener>(
         } result.0 }
 {
     match *job {
-        Job::Run => (end_script(rt.alloc(), input, out, err), None),
+        Job::Run { numbered } => (end_script(rt.alloc(), input, out, err, numbered), None),
         Job::Create { db, config } => ended(create(rt, db, config, start, files), err),
         Job::Migrate { db } => ended(migrate_file(rt, db, start), err),
         Job::Serve {
@@ -74,7 +74,7 @@ pub fn perform<S: Start, F: TextFiles, R: Read, O: Sink, E: Sink, L: Listener>(
             };
             ended(serve(rt, db, start, service, listener, out, err), err)
         }
-        Job::Ask { db } => ended(ask(rt, db, start, input, out), err),
+        Job::Ask { db, numbered } => ended(ask(rt, db, start, input, out, numbered), err),
         Job::Report { db, query } => {
             let mut report = Telling::Report(query);
             told(over_file(rt, db, start, &mut report), out, err)
@@ -154,13 +154,14 @@ fn end_script<R: Read, O: Sink, E: Sink>(
     input: &mut R,
     out: &mut O,
     err: &mut E,
+    numbered: bool,
 ) -> u8
     ensures run { (done : Result ⊤ Early) × (result ≡ status_of (of_script done))
         × Tells E.Sink err.old err.new (of_script done)
-        × IsRunOf (R.remaining input.old) (R.remaining input.new) (O.contents out.old)
+        × IsRunOf numbered (R.remaining input.old) (R.remaining input.new) (O.contents out.old)
         (O.contents out.new) done × StopsSo O.Sink out.new done }
 {
-    end(of_script(run_script(alloc, input, out)), err)
+    end(of_script(run_script(alloc, input, out, numbered)), err)
 }
 
 // Migrates the register in a file.

@@ -4,14 +4,15 @@ ghost use Rattle.fr_cli.specs.Runs.{IsRunOf};
 
 use crate::answering::write_answers;
 use crate::input::read_all;
+use crate::numbered::line_count;
 use crate::script_fault::ScriptFault;
 use fr_desks::MemoryDesk;
 use fr_text::{Output, Sink, read_config, split_script};
 use std::alloc::Global;
 use std::io::Read;
 
-/// Reads a whole script, and answers its requests in order, each on a line of its own. What it
-/// writes is the output of the script. A fault of reading, a missing separator, a fault of the
+/// Reads a whole script, and answers its requests in order, each on a line of its own, behind the number of
+/// the request's line in the script where lines are numbered. What it writes is the output of the script. A fault of reading, a missing separator, a fault of the
 /// cluster file and a register that could not be made come before anything is written; want of
 /// memory for a request comes after whole answers to all before it, and a failed write may cut an
 /// answer short.
@@ -26,8 +27,9 @@ pub fn run_script<R: Read, W: Sink>(
     alloc: Global,
     reader: &mut R,
     writer: &mut W,
+    numbered: bool,
 ) -> Result<(), ScriptFault>
-    ensures run { IsRunOf (R.remaining reader.old) (R.remaining reader.new) (W.contents writer.old)
+    ensures run { IsRunOf numbered (R.remaining reader.old) (R.remaining reader.new) (W.contents writer.old)
         (W.contents writer.new) result }
     ensures stops { StopsSo W.Sink writer.new result }
 {
@@ -39,5 +41,7 @@ pub fn run_script<R: Read, W: Sink>(
     };
     // All that is written shares the retries of one output.
     let mut output = Output::new(writer);
-    write_answers(alloc, &mut desk, requests, &mut output)
+    // The cluster file and the separator stand above the first request's line.
+    let first = line_count(cluster) + 2;
+    write_answers(alloc, &mut desk, requests, first, numbered, &mut output)
 }

@@ -28,8 +28,11 @@ const NO_REPLACEMENT: &str = "try takes --whole only with --replace";
 /// What the program is to do.
 #[derive(Clone, Copy, PartialEq, Eq)]
 pub enum Job<'a> {
-    /// Answer the script on standard input.
-    Run,
+    /// Answer the script on standard input; each answer with the number of its request's line in the script, where lines
+    /// are numbered.
+    Run {
+        numbered: bool,
+    },
     /// Make a register file of a cluster file.
     Create {
         db: &'a str,
@@ -47,9 +50,11 @@ pub enum Job<'a> {
         count: u32,
         seconds: u32,
     },
-    /// Answer the requests on standard input over a register file.
+    /// Answer the requests on standard input over a register file; each answer with the number of its request's line in the
+    /// input, where lines are numbered.
     Ask {
         db: &'a str,
+        numbered: bool,
     },
     /// Print a report.
     Report {
@@ -145,7 +150,7 @@ fn named_job<'a>(name: &str, found: &ArgMatches<'a>) -> Option<Job<'a>>
     ensures { IsJobIn result name.now (rows_of (found_of found.now)) }
 {
     match name {
-        "run" => Some(Job::Run),
+        "run" => Some(run_job(found)),
         "create" => create_job(found),
         "migrate" => migrate_job(found),
         "serve" => serve_job(found),
@@ -157,6 +162,14 @@ fn named_job<'a>(name: &str, found: &ArgMatches<'a>) -> Option<Job<'a>>
         "check" => check_job(found),
         "explain" => Some(explain_job(found)),
         _ => report_job(name, found),
+    }
+}
+
+fn run_job<'a>(found: &ArgMatches<'a>) -> Job<'a>
+    ensures { IsJobOf result (codes "run") (rows_of (found_of found.now)) }
+{
+    Job::Run {
+        numbered: flag(found, "lines"),
     }
 }
 
@@ -194,6 +207,7 @@ fn ask_job<'a>(found: &ArgMatches<'a>) -> Option<Job<'a>>
 {
     Some(Job::Ask {
         db: word(found, "DB")?,
+        numbered: flag(found, "lines"),
     })
 }
 

@@ -154,7 +154,7 @@ impl Write for Sink {
 #[test]
 fn office_succeeds_where_memory_is_ample(rt: HostRuntime) {
     let mut writer = Sink::new(rt.alloc());
-    let done = run_script(rt.alloc(), &mut Source::new(None), &mut writer);
+    let done = run_script(rt.alloc(), &mut Source::new(None), &mut writer, false);
     assert_eq!(rt; done, Ok(()));
     assert_eq!(rt; writer.taken.as_slice(), ANSWERS);
 }
@@ -163,11 +163,11 @@ fn office_succeeds_where_memory_is_ample(rt: HostRuntime) {
 fn only_an_interrupted_read_is_tried_again(rt: HostRuntime) {
     let mut writer = Sink::new(rt.alloc());
     let mut reader = Source::new(Some(ErrorKind::Interrupted));
-    assert_eq!(rt; run_script(rt.alloc(), &mut reader, &mut writer), Ok(()));
+    assert_eq!(rt; run_script(rt.alloc(), &mut reader, &mut writer, false), Ok(()));
     assert_eq!(rt; writer.taken.as_slice(), ANSWERS);
     for kind in FAILURES {
         let mut writer = Sink::new(rt.alloc());
-        let done = run_script(rt.alloc(), &mut Source::new(Some(kind)), &mut writer);
+        let done = run_script(rt.alloc(), &mut Source::new(Some(kind)), &mut writer, false);
         assert_eq!(rt; done, Err(ScriptFault::ReadFailed), "{kind:?}");
         assert!(rt; writer.taken.is_empty());
     }
@@ -181,7 +181,7 @@ fn a_script_takes_at_most_twenty_million_reads(rt: HostRuntime) {
     ];
     for (end, fault) in cases {
         let mut reader = Feeds { reads: 0, end };
-        let done = run_script(rt.alloc(), &mut reader, &mut Sink::new(rt.alloc()));
+        let done = run_script(rt.alloc(), &mut reader, &mut Sink::new(rt.alloc()), false);
         assert_eq!(rt; done, Err(fault));
         assert_eq!(rt; reader.reads, 20_000_000);
     }
@@ -191,19 +191,19 @@ fn a_script_takes_at_most_twenty_million_reads(rt: HostRuntime) {
 fn only_an_interrupted_write_is_tried_again(rt: HostRuntime) {
     let mut writer = Sink::new(rt.alloc());
     writer.error = Some(ErrorKind::Interrupted);
-    let done = run_script(rt.alloc(), &mut Source::new(None), &mut writer);
+    let done = run_script(rt.alloc(), &mut Source::new(None), &mut writer, false);
     assert_eq!(rt; done, Ok(()));
     assert_eq!(rt; writer.taken.as_slice(), ANSWERS);
     for kind in FAILURES.iter().chain([ErrorKind::WriteZero].iter()) {
         let mut writer = Sink::new(rt.alloc());
         writer.error = Some(*kind);
-        let done = run_script(rt.alloc(), &mut Source::new(None), &mut writer);
+        let done = run_script(rt.alloc(), &mut Source::new(None), &mut writer, false);
         assert_eq!(rt; done, Err(ScriptFault::WriteFailed), "{kind:?}");
         assert!(rt; writer.taken.len() < ANSWERS.len());
     }
     let mut writer = Sink::new(rt.alloc());
     writer.flush_error = Some(ErrorKind::StorageFull);
-    let done = run_script(rt.alloc(), &mut Source::new(None), &mut writer);
+    let done = run_script(rt.alloc(), &mut Source::new(None), &mut writer, false);
     assert_eq!(rt; done, Err(ScriptFault::WriteFailed));
 }
 
@@ -219,7 +219,7 @@ fn the_retries_of_a_run_are_a_thousand(rt: HostRuntime) {
     for (interruptions, ending, written) in cases {
         let mut writer = Sink::new(rt.alloc());
         (writer.interruptions, writer.waits) = (interruptions, interruptions);
-        let done = run_script(rt.alloc(), &mut Source::new(None), &mut writer);
+        let done = run_script(rt.alloc(), &mut Source::new(None), &mut writer, false);
         assert_eq!(rt; done, ending);
         assert_eq!(rt; writer.taken.as_slice(), &ANSWERS[..written]);
     }

@@ -7,5 +7,5 @@ pub returns : goal.returns
 returns g c =
     let it = c.over_file.new.errand in
     let input = g.I.Read.remaining in
-    asked_over (sink g.O.Write g.O.Sink) {input = input c.args.input.now} {left = input it.input.now} {a = c.args.out.now} {b = it.out.now} (search rules) (search rules)
+    asked_over c.args.numbered (sink g.O.Write g.O.Sink) {input = input c.args.input.now} {left = input it.input.now} {a = c.args.out.now} {b = it.out.now} (search rules) (search rules)
     (λ same. (ap (λ e. input e.input.now) same, ap (λ e. e.out.now) same)) c.over_file.ensures

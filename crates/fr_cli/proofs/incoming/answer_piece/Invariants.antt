@@ -1,8 +1,11 @@
--- The bytes so far are whole lines, which were answered by what was written, and what is begun and left. What is begun has no line's end.
-use Rattle.std.proofs.Common.{◌≡◌, ◌≤◌, ◌++◌, ℕ, List, length}
+-- The bytes so far are whole lines, which were answered by what was written, and what is begun and left. What is begun has no line's end, and the number
+-- of the line behind those.
+use Rattle.std.proofs.Common.{◌≡◌, ◌≤◌, ◌+◌, ◌++◌, ℕ, List, length}
+use Rattle.std.specs.Str.Lines.{lines}
 use Rattle.std.specs.Io.KnownBytes.{Appends}
 use Rattle.fr_cli.specs.Answering.{AnswersEach, AnswersLines}
 use Rattle.fr_cli.specs.Incoming.{AreShort, EndsLines}
+use Rattle.fr_cli.specs.Numbered.{numbered_lines}
 use Rattle.fr_text.specs.Script.{HasNo, max_line, request_lines}
 use Rattle.fr_cli.proofs.incoming.answer_piece.Given as goal
 
@@ -13,12 +16,14 @@ invariant-loop-line g l = record {
   front : List ℕ;
   split : l.fn.begun.items ++ l.fn.piece ≡ front ++ (l.begun.items ++ l.rest);
   ends : EndsLines front;
+  count : l.number ≡ l.fn.number + length (lines front);
+  room : l.number + length l.rest ≤ l.fn.number + length l.fn.piece;
   open_ended : HasNo 10 l.begun.items;
   fits : length l.begun.items ≤ max_line;
   short : AreShort (request_lines front);
   written : List ℕ;
   appended : Appends (g.W.Write.contents l.fn.output.writer.now) (g.W.Write.contents l.output.writer.now) written;
-  answered : AnswersLines (AnswersEach g.D.Desk.clean g.D.Desk.stands l.fn.desk l.desk) (request_lines front) written;
+  answered : AnswersLines l.fn.numbered (AnswersEach g.D.Desk.clean g.D.Desk.stands l.fn.desk l.desk) (numbered_lines l.fn.number front) written;
 }
 
 abbrev pub decreases-loop-line : goal.decreases-loop-line

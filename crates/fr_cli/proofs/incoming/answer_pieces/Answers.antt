@@ -1,15 +1,19 @@
-use Rattle.std.proofs.Common.{◌≡◌, ◌⊎◌, ◌++◌, ◌+◌, ◌<◌, ◌≤◌, [], ℕ, List, Err, length, refl, sym, ap, ◌∙◌, subst, append_assoc, append-nil, take, arith, rules, length-append, inl, inr}
+use Rattle.std.proofs.Common.{◌≡◌, ap₂, ◌⊎◌, ◌++◌, ◌+◌, ◌<◌, ◌≤◌, [], ℕ, List, Err, length, refl, sym, ap, ◌∙◌, subst, append_assoc, append-nil, take, arith, rules, length-append, inl, inr}
 use Rattle.std.specs.Io.KnownBytes.{Consumes, IsAtEnd}
 use Rattle.std.proofs.KnownBytes.{Appends-nil, Appends-trans, Consumes-nil, Consumes-trans}
-use Rattle.fr_cli.specs.Answering.{AnswersEach, AnswersLines, account_by}
-use Rattle.fr_cli.specs.Incoming.{AreShort, HasAnswered, WasAsked, HasLongLine}
+use Rattle.std.specs.Str.Lines.{lines}
+use Rattle.fr_cli.specs.Answering.{AnswersEach, AnswersLines, WasCutShort, account_by}
+use Rattle.fr_cli.specs.Numbered.{numbered_lines}
+use Rattle.fr_cli.specs.Incoming.{AreFirstOfAll, AreShort, HasAnswered, WasAsked, HasLongLine}
 use Rattle.fr_text.specs.Script.{HasNo, max_line, max_script, request_lines}
 use Rattle.fr_cli.specs.declared.input.InputFault.TheVariants.{ReadFailed, TooLong, TooManyReads}
 use Rattle.fr_cli.specs.declared.script_fault.ScriptFault.TheVariants as fault
 use Rattle.fr_cli.proofs.AnsweringLaws.{no_lines}
-use Rattle.fr_cli.proofs.IncomingLaws.{at_end, cut_between, cut_within, ends-none, ends-then, heard_more, on_input, short-then, split_then}
+use Rattle.fr_cli.proofs.IncomingLaws.{at_end, count-then, cut_between, cut_within, ends-none, ends-then, heard_more, on_input, short-then, split_then}
 use Rattle.fr_cli.specs.Outlets.{StopsSo}
 use Rattle.fr_text.proofs.LineLemmas.{request_lines-none}
+use Rattle.fr_guide.proofs.RequestFileLaws.{lines-most}
+use Rattle.fr_cli.proofs.NumberedLaws.{numbered-none}
 use Rattle.fr_cli.proofs.ShortLines.{short_open}
 use Rattle.fr_cli.proofs.VisitLaws.{sink}
 use Rattle.fr_cli.proofs.incoming.answer_pieces.Goals as goal
@@ -29,8 +33,21 @@ loop-init g c =
       short = subst AreShort (sym (request_lines-none [] refl)) tt;
       written = [];
       appended = Appends-nil (g.W.Write.contents c.args.output.now.writer.now);
-      answered = subst (λ l. AnswersLines (AnswersEach g.D.Desk.clean g.D.Desk.stands c.args.desk.now c.args.desk.now) l []) (sym (request_lines-none [] refl)) (no_lines g.D.Desk c.args.desk.now);
+      count = omega arith;
+      answered = subst (λ l. AnswersLines c.args.numbered (AnswersEach g.D.Desk.clean g.D.Desk.stands c.args.desk.now c.args.desk.now) l []) (sym (numbered-none 1 [] refl))
+          (no_lines g.D.Desk c.args.numbered c.args.desk.now);
     }
+
+pub answer_requests-requires : goal.answer_requests-requires
+answer_requests-requires g c =
+    let l = c.loop.invariant in
+    omega (arith, l.count, l.room, lines-most l.front, length-append l.front c.loop.begun.items)
+
+pub answer_piece-requires-clause-room : goal.answer_piece-requires-clause-room
+answer_piece-requires-clause-room g c =
+    let l = c.loop.invariant in
+    let piece : length (take c.in-Ok.n c.read.new.buf) ≤ 8192 = search rules in
+    omega (arith, l.count, l.room, piece, lines-most l.front, length-append l.front c.loop.begun.items)
 
 pub returns-in-Ok-eq0-clause-answered : goal.returns-in-Ok-eq0-clause-answered
 returns-in-Ok-eq0-clause-answered g c =
@@ -41,14 +58,15 @@ returns-in-Ok-eq0-clause-answered g c =
     let none : take c.in-Ok-eq0.field-0 c.read.new.buf ≡ [] = search rules in
     let taken : Consumes (remaining c.args.reader.now) (remaining c.read.new.self) (l.front ++ c.loop.begun.items) =
     subst (Consumes _ _) (ap (λ r. (l.front ++ c.loop.begun.items) ++ r) none ∙ append-nil (l.front ++ c.loop.begun.items)) (Consumes-trans _ _ _ _ _ l.taken c.in-Ok-eq0.ensures.bytes.0) in
-    let has : WasAsked (account_by g.D.Desk c.loop.desk c.answer_requests.new.desk) (request_lines c.loop.begun.items)
+    let has : WasAsked c.args.numbered (account_by g.D.Desk c.loop.desk c.answer_requests.new.desk) (numbered_lines (1 + length (lines l.front)) c.loop.begun.items)
     (contents c.loop.output.writer.now) (contents c.answer_requests.new.output.writer.now) c.answer_requests.result =
-    subst (λ b. WasAsked (account_by g.D.Desk c.loop.desk c.answer_requests.new.desk) (request_lines b)
-    (contents c.loop.output.writer.now) (contents c.answer_requests.new.output.writer.now) c.answer_requests.result) c.deref.ensures.value c.answer_requests.ensures.asked in
+    subst (λ b. WasAsked c.args.numbered (account_by g.D.Desk c.loop.desk c.answer_requests.new.desk) b
+    (contents c.loop.output.writer.now) (contents c.answer_requests.new.output.writer.now) c.answer_requests.result) (ap₂ numbered_lines l.count c.deref.ensures.value)
+    c.answer_requests.ensures.asked in
     let short : AreShort (request_lines (l.front ++ c.loop.begun.items)) =
     short-then l.front c.loop.begun.items l.ends l.short (short_open c.loop.begun.items l.open_ended (subst (λ (n : ℕ). n ≤ max_line) c.loop.begun.ok.0 l.fits)) in
     let fits : length (l.front ++ c.loop.begun.items) ≤ max_script = omega (arith, l.room) in
-    at_end g.D.Desk c.args.desk.now c.loop.desk c.answer_requests.new.desk
+    at_end g.D.Desk c.args.numbered c.args.desk.now c.loop.desk c.answer_requests.new.desk
     (remaining c.args.reader.now) (remaining c.read.new.self)
     (contents c.args.output.now.writer.now) (contents c.loop.output.writer.now) (contents c.answer_requests.new.output.writer.now)
     l.front c.loop.begun.items l.written c.answer_requests.result taken end fits l.ends l.appended l.answered short has
@@ -65,9 +83,9 @@ returns-in_err-room-in-Ok-clause-answered g c =
     Consumes-trans _ _ _ _ _ l.taken c.in-Ok.ensures.bytes.0 in
     let long : max_script < length ((l.front ++ c.loop.begun.items) ++ piece) =
     omega (arith, less, size, l.room, length-append (l.front ++ c.loop.begun.items) piece) in
-    subst (HasAnswered (account_by g.D.Desk c.args.desk.now c.loop.desk) (remaining c.args.reader.now) (remaining c.read.new.self)
+    subst (HasAnswered c.args.numbered (account_by g.D.Desk c.args.desk.now c.loop.desk) (remaining c.args.reader.now) (remaining c.read.new.self)
     (g.W.Write.contents c.args.output.now.writer.now) (g.W.Write.contents c.loop.output.writer.now)) (sym is)
-    (cut_between g.D.Desk c.args.desk.now c.loop.desk (remaining c.args.reader.now) (remaining c.read.new.self)
+    (cut_between g.D.Desk c.args.numbered c.args.desk.now c.loop.desk (remaining c.args.reader.now) (remaining c.read.new.self)
     (g.W.Write.contents c.args.output.now.writer.now) (g.W.Write.contents c.loop.output.writer.now) l.front (c.loop.begun.items ++ piece) l.written fault.TooLong TooLong refl
     (subst (Consumes _ _) (append_assoc l.front c.loop.begun.items piece) taken) l.ends l.appended l.answered
     (λ is. on_input (λ bytes. (max_script < length bytes) ⊎ HasLongLine bytes) (remaining c.args.reader.now) (remaining c.read.new.self) ((l.front ++ c.loop.begun.items) ++ piece) taken
@@ -84,15 +102,17 @@ returns-in_err-answer_piece-in-Ok-clause-answered g c =
     let remaining = g.R.Read.remaining in
     let bytes = c.loop.begun.items ++ take c.in-Ok.n c.read.new.buf in
     let is : c.from_residual-in_err-answer_piece-in-Ok.result ≡ Err c.in_err-answer_piece-in-Ok.field-0.0 = search rules in
+    let early = subst (λ (n : ℕ). WasCutShort c.args.numbered (account_by g.D.Desk c.loop.desk c.answer_piece.new.desk) (AreFirstOfAll n bytes) (AreFirstOfAll n bytes)
+    (contents c.loop.output.writer.now) (contents c.answer_piece.new.output.writer.now) c.in_err-answer_piece-in-Ok.field-0.0) l.count c.in_err-answer_piece-in-Ok.ensures.heard.early in
     let taken : Consumes (remaining c.args.reader.now) (remaining c.read.new.self) (l.front ++ bytes) =
     subst (Consumes _ _) (append_assoc l.front c.loop.begun.items (take c.in-Ok.n c.read.new.buf)) (Consumes-trans _ _ _ _ _ l.taken c.in-Ok.ensures.bytes.0) in
-    subst (HasAnswered (account_by g.D.Desk c.args.desk.now c.answer_piece.new.desk) (remaining c.args.reader.now) (remaining c.read.new.self)
+    subst (HasAnswered c.args.numbered (account_by g.D.Desk c.args.desk.now c.answer_piece.new.desk) (remaining c.args.reader.now) (remaining c.read.new.self)
     (contents c.args.output.now.writer.now) (contents c.answer_piece.new.output.writer.now)) (sym is)
-    (cut_within g.D.Desk c.args.desk.now c.loop.desk c.answer_piece.new.desk
+    (cut_within g.D.Desk c.args.numbered c.args.desk.now c.loop.desk c.answer_piece.new.desk
     (remaining c.args.reader.now) (remaining c.read.new.self)
     (contents c.args.output.now.writer.now) (contents c.loop.output.writer.now) (contents c.answer_piece.new.output.writer.now)
     l.front bytes l.written c.in_err-answer_piece-in-Ok.field-0.0 taken l.ends l.appended l.answered
-    c.in_err-answer_piece-in-Ok.ensures.heard.early (λ is. c.in_err-answer_piece-in-Ok.ensures.heard.too_long cc) c.in_err-answer_piece-in-Ok.ensures.faults)
+    early (λ is. c.in_err-answer_piece-in-Ok.ensures.heard.too_long cc) c.in_err-answer_piece-in-Ok.ensures.faults)
 
 pub returns-in_err-try_again-in-Err-clause-answered : goal.returns-in_err-try_again-in-Err-clause-answered
 returns-in_err-try_again-in-Err-clause-answered g c =
@@ -100,9 +120,9 @@ returns-in_err-try_again-in-Err-clause-answered g c =
     let remaining = g.R.Read.remaining in
     let is : c.from_residual-in_err-try_again-in-Err.result ≡ Err fault.ReadFailed = search rules in
     let taken : Consumes (remaining c.args.reader.now) (remaining c.read.new.self) (l.front ++ c.loop.begun.items) = search rules in
-    subst (HasAnswered (account_by g.D.Desk c.args.desk.now c.loop.desk) (remaining c.args.reader.now) (remaining c.read.new.self)
+    subst (HasAnswered c.args.numbered (account_by g.D.Desk c.args.desk.now c.loop.desk) (remaining c.args.reader.now) (remaining c.read.new.self)
     (g.W.Write.contents c.args.output.now.writer.now) (g.W.Write.contents c.loop.output.writer.now)) (sym is)
-    (cut_between g.D.Desk c.args.desk.now c.loop.desk (remaining c.args.reader.now) (remaining c.read.new.self)
+    (cut_between g.D.Desk c.args.numbered c.args.desk.now c.loop.desk (remaining c.args.reader.now) (remaining c.read.new.self)
     (g.W.Write.contents c.args.output.now.writer.now) (g.W.Write.contents c.loop.output.writer.now) l.front c.loop.begun.items l.written fault.ReadFailed ReadFailed refl
     taken l.ends l.appended l.answered (λ is. absurd cc) (λ is. l.open_ended))
 
@@ -113,47 +133,51 @@ loop-preserved g c =
     elim c.match-read.branch [
       | in-Ok+in_ok-room-in-Ok+in_ok-answer_piece-in-Ok w ↦
           let piece = take w.in-Ok.n c.read.new.buf in
-          let (more, written, split, ends, open_ended, short, appended, answered) = w.in_ok-answer_piece-in-Ok.ensures.heard.heard in
+          let (more, written, split, ends, count, open_ended, short, appended, answers) = w.in_ok-answer_piece-in-Ok.ensures.heard.heard in
           let begun = w.answer_piece.new.begun.items in
           let all : (l.front ++ c.loop.begun.items) ++ piece ≡ (l.front ++ more) ++ begun = split_then l.front c.loop.begun.items piece more begun split in
           let size : length piece ≡ w.in-Ok.n = search rules in
           let less : w.in_ok-room-in-Ok.room + w.in-Ok.n ≡ c.loop.room = search rules in
-          rw w.desk-is (rw w.output-is (rw w.begun-is (rw w.room-is (record {
+          let answered = subst (λ (n : ℕ). AnswersLines c.args.numbered (AnswersEach g.D.Desk.clean g.D.Desk.stands c.loop.desk w.answer_piece.new.desk) (numbered_lines n more) written)
+          l.count answers in
+          rw w.desk-is (rw w.output-is (rw w.begun-is (rw w.number-is (rw w.room-is (record {
             same = w.answer_piece.ensures.same ∙ l.same;
             falls = λ clean. l.falls (w.answer_piece.ensures.falls clean);
             front = l.front ++ more;
             taken = subst (Consumes (remaining c.args.reader.now) (remaining c.read.new.self)) all (Consumes-trans _ _ _ _ _ l.taken w.in-Ok.ensures.bytes.0);
             room = omega (arith, less, size, l.room, length-append (l.front ++ c.loop.begun.items) piece, ap (λ (bytes : List ℕ). length bytes) all);
             ends = ends-then l.front more l.ends ends;
+            count = omega (arith, count, l.count, count-then 1 l.front more l.ends);
             open_ended = open_ended;
             fits = w.in_ok-answer_piece-in-Ok.ensures.short;
             short = short-then l.front more l.ends l.short short;
             written = l.written ++ written;
             appended = Appends-trans _ _ _ l.written written l.appended appended;
-            answered = heard_more g.D.Desk _ _ _ l.front more l.written written l.ends l.answered answered;
-          }))))
+            answered = heard_more g.D.Desk _ 1 _ _ _ l.front more l.written written l.ends l.answered answered;
+          })))))
       | in-Err+in_ok-try_again-in-Err w ↦
           let taken : Consumes (remaining c.args.reader.now) (remaining c.read.new.self) (l.front ++ c.loop.begun.items) = search rules in
-          rw w.desk-is (rw w.output-is (rw w.begun-is (rw w.room-is (record {
+          rw w.desk-is (rw w.output-is (rw w.begun-is (rw w.number-is (rw w.room-is (record {
             same = l.same;
             falls = l.falls;
             front = l.front;
             taken = taken;
             room = l.room;
             ends = l.ends;
+            count = l.count;
             open_ended = l.open_ended;
             fits = l.fits;
             short = l.short;
             written = l.written;
             appended = l.appended;
             answered = l.answered;
-          }))))
+          })))))
     ]
 
 pub returns-clause-answered : goal.returns-clause-answered
 returns-clause-answered g c =
     let l = c.loop.invariant in
-    cut_between g.D.Desk c.args.desk.now c.loop.desk (g.R.Read.remaining c.args.reader.now) (g.R.Read.remaining c.loop.reader)
+    cut_between g.D.Desk c.args.numbered c.args.desk.now c.loop.desk (g.R.Read.remaining c.args.reader.now) (g.R.Read.remaining c.loop.reader)
     (g.W.Write.contents c.args.output.now.writer.now) (g.W.Write.contents c.loop.output.writer.now) l.front c.loop.begun.items l.written fault.TooManyReads TooManyReads refl
     l.taken l.ends l.appended l.answered (λ is. absurd cc) (λ is. l.open_ended)
 

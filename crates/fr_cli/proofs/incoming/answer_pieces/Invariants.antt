@@ -1,8 +1,10 @@
 -- Of what was taken from the reader whole lines were answered, and the others are begun. What is begun has no line's end.
 use Rattle.std.proofs.Common.{◌≡◌, ◌≤◌, ◌+◌, ◌++◌, ℕ, List, length, vec_len}
 use Rattle.std.specs.Io.KnownBytes.{Appends, Consumes}
+use Rattle.std.specs.Str.Lines.{lines}
 use Rattle.fr_cli.specs.Answering.{AnswersEach, AnswersLines}
 use Rattle.fr_cli.specs.Incoming.{AreShort, EndsLines}
+use Rattle.fr_cli.specs.Numbered.{numbered_lines}
 use Rattle.fr_text.specs.Script.{HasNo, max_line, max_script, request_lines}
 use Rattle.fr_cli.proofs.incoming.answer_pieces.Given as goal
 
@@ -14,10 +16,11 @@ invariant-loop g l = record {
   taken : Consumes (g.R.Read.remaining l.initial.reader) (g.R.Read.remaining l.reader) (front ++ l.begun.items);
   room : l.room + length (front ++ l.begun.items) ≡ max_script;
   ends : EndsLines front;
+  count : l.number ≡ 1 + length (lines front);
   open_ended : HasNo 10 l.begun.items;
   fits : vec_len l.begun ≤ max_line;
   short : AreShort (request_lines front);
   written : List ℕ;
   appended : Appends (g.W.Write.contents l.fn.output.writer.now) (g.W.Write.contents l.output.writer.now) written;
-  answered : AnswersLines (AnswersEach g.D.Desk.clean g.D.Desk.stands l.fn.desk l.desk) (request_lines front) written;
+  answered : AnswersLines l.fn.numbered (AnswersEach g.D.Desk.clean g.D.Desk.stands l.fn.desk l.desk) (numbered_lines 1 front) written;
 }

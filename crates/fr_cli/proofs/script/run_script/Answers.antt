@@ -17,11 +17,12 @@ returns-clause-run g c =
     let split : parts_of bytes ≡ Some (c.in_ok-cluster.cluster.now, requests) = search rules in
     let file : config_of c.in_ok-cluster.cluster.now ≡ Ok config = search rules in
     let formed : IsWellFormed config = search rules in
-    let run : IsRunOf (remaining c.args.reader.now) (remaining c.read_all.new.reader) (contents c.args.writer.now) (contents c.write_answers.new.output.writer.now) c.write_answers.result =
-    run_of _ _ _ (remaining c.args.reader.now) (remaining c.read_all.new.reader)
+    let has : HasParts bytes config requests = record { size = size; cluster = c.in_ok-cluster.cluster.now; split = split; file = file; formed = formed } in
+    let written = subst (λ (n : ℕ). WasWritten c.args.numbered (account_by _ _ _) (numbered_lines n requests) _ _ c.write_answers.result) (ap (λ (n : ℕ). n + 2) c.line_count.ensures) c.write_answers.ensures.written in
+    let run : IsRunOf c.args.numbered (remaining c.args.reader.now) (remaining c.read_all.new.reader) (contents c.args.writer.now) (contents c.write_answers.new.output.writer.now) c.write_answers.result =
+    run_of c.args.numbered _ _ _ (remaining c.args.reader.now) (remaining c.read_all.new.reader)
     (contents c.args.writer.now) (contents c.write_answers.new.output.writer.now) bytes requests config c.write_answers.result
-    tt c.in_ok-script.ensures.whole c.in_ok-script.ensures.end
-    (record { size = size; cluster = c.in_ok-cluster.cluster.now; split = split; file = file; formed = formed })
+    tt c.in_ok-script.ensures.whole c.in_ok-script.ensures.end has
     c.in-Ok.ensures.stands
-    (written_at contents _ _ _ (request_lines requests) _ _ _ c.write_answers.result c.new-output.ensures.holds c.write_answers.ensures.written) in
+    (written_at contents _ c.args.numbered _ _ (numbered_lines (first_number has.cluster) requests) _ _ _ c.write_answers.result c.new-output.ensures.holds written) in
     search (rules, run)
