@@ -63,10 +63,10 @@ pub numbers_of : (rows : List Row) (job : Job) → IsJobOf job (codes "serve") r
     × ((seconds : ℕ) × HasNumber (codes "seconds") 1 3600 rows seconds)
 unfolding asked_with
 numbers_of rows (Serve db port count seconds) is = ((port, is.2), (count, is.3), (seconds, is.4))
-numbers_of rows Run is = apart _ _ refl is
+numbers_of rows (Run numbered) is = apart _ _ refl is.0
 numbers_of rows (Create db config) is = apart _ _ refl is.0
 numbers_of rows (Migrate db) is = apart _ _ refl is.0
-numbers_of rows (Ask db) is = apart _ _ refl is.0
+numbers_of rows (Ask db numbered) is = apart _ _ refl is.0
 numbers_of rows (ReportOn db query) is = absurd is.1
 numbers_of rows (Picture db variant since supplier) is = apart _ _ refl is.0
 numbers_of rows (Deliver db delivery) is = delivered delivery.kind is.0

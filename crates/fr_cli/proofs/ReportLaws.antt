@@ -65,11 +65,11 @@ undelivered kind rows (Some job) none lacks = cc
 undelivered kind rows None none lacks = go
   where
     go : (job : Job) → IsJobOf job (word_of_delivery kind) rows → ⊥
-    go Run is = no_delivery kind (codes "run") refl is
+    go (Run numbered) is = no_delivery kind (codes "run") refl is.0
     go (Create db config) is = no_delivery kind (codes "create") refl is.0
     go (Migrate db) is = no_delivery kind (codes "migrate") refl is.0
     go (Serve db port count seconds) is = no_delivery kind (codes "serve") refl is.0
-    go (Ask db) is = no_delivery kind (codes "ask") refl is.0
+    go (Ask db numbered) is = no_delivery kind (codes "ask") refl is.0
     go (ReportOn db query) is = subst (λ (o : Option Question). IsAnswerable o rows query.query) (no_question kind rows) is.1
     go (Picture db variant since supplier) is = no_delivery kind (codes "picture") refl is.0
     go (Deliver db delivery) is = lacks delivery is.0 is.2

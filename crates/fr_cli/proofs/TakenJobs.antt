@@ -150,9 +150,7 @@ module _ (s : Shape) (once : s.args_override_self ≡ false) (rest : List Text) 
       (job.Deliver (lent at.text) delivery, (named, at.first, (by.first, of.first, has, from.first)))
 
 run_job : (s : Shape) → s.name ≡ codes "run" → AlwaysHasJob s
-run_job s named rest fine =
-    let said = one_of (codes "lines") (rows_after s.rules [] rest) in
-    (job.Run (flag_of said), (named, flag_is (codes "lines") (rows_after s.rules [] rest) said refl))
+run_job s named rest fine = (job.Run (is_given (codes "lines") (rows_after s.rules [] rest)), (named, refl))
 
 create_job : (s : Shape) → s.args_override_self ≡ false → s.name ≡ codes "create" → has_word s.rules (codes "DB") ≡ true
     → has_word s.rules (codes "CONFIG") ≡ true
@@ -168,8 +166,7 @@ migrate_job s once named db rest fine = let at = there s once rest fine (codes "
 ask_job : (s : Shape) → s.args_override_self ≡ false → s.name ≡ codes "ask" → has_word s.rules (codes "DB") ≡ true → AlwaysHasJob s
 ask_job s once named db rest fine =
     let at = there s once rest fine (codes "DB") db in
-    let said = one_of (codes "lines") (rows_after s.rules [] rest) in
-    (job.Ask (lent at.text) (flag_of said), (named, at.first, flag_is (codes "lines") (rows_after s.rules [] rest) said refl))
+    (job.Ask (lent at.text) (is_given (codes "lines") (rows_after s.rules [] rest)), (named, at.first, refl))
 
 serve_job : (s : Shape) → s.args_override_self ≡ false → s.name ≡ codes "serve" → has_word s.rules (codes "DB") ≡ true
     → has_word s.rules (codes "PORT") ≡ true

@@ -124,10 +124,6 @@ abbrev pub export : App
 export = with_rule (with_rule (with_rule (with_rule (with_rule (new_app (codes "export")) (word (codes "DB"))) (word (codes "VARIANT")))
     (word (codes "ROWS"))) part) supplier
 
--- a word that is given or left out
-abbrev pub flag : Text → Rule
-flag name = record (new_rule name) { long = Some name; action = Some SetTrue }
-
 abbrev pub replace_words : App
 replace_words = with_rule (with_rule (with_rule (with_rule (with_rule (new_app (codes "replace")) (word (codes "DB"))) (word (codes "KEY")))
     (word (codes "VARIANT"))) (word (codes "FILE"))) (flag (codes "whole"))

@@ -139,13 +139,13 @@ IsDeliveryIn rows delivery = Has (codes "KEY") rows delivery.key.now × Has (cod
 
 -- The job is the subcommand's of this name, with the words that stand at its places.
 abbrev pub IsJobOf : Job → Text → List Row → Type 0
-IsJobOf (Run numbered) name rows = (name ≡ codes "run") × IsFlagIn numbered (codes "lines") rows
+IsJobOf (Run numbered) name rows = (name ≡ codes "run") × (numbered ≡ is_given (codes "lines") rows)
 IsJobOf (Create db config) name rows = (name ≡ codes "create") × Has (codes "DB") rows db.now × Has (codes "CONFIG") rows config.now
 IsJobOf (Migrate db) name rows = (name ≡ codes "migrate") × Has (codes "DB") rows db.now
 IsJobOf (Serve db port count seconds) name rows = (name ≡ codes "serve") × Has (codes "DB") rows db.now
     × HasNumber (codes "PORT") 1 65535 rows port × HasNumber (codes "count") 1 1000000 rows count
     × HasNumber (codes "seconds") 1 3600 rows seconds
-IsJobOf (Ask db numbered) name rows = (name ≡ codes "ask") × Has (codes "DB") rows db.now × IsFlagIn numbered (codes "lines") rows
+IsJobOf (Ask db numbered) name rows = (name ≡ codes "ask") × Has (codes "DB") rows db.now × (numbered ≡ is_given (codes "lines") rows)
 IsJobOf (ReportOn db query) name rows = Has (codes "DB") rows db.now × IsAnswerable (asked_by name rows) rows query.query
     × IsOfSupplier query.supplier rows
 IsJobOf (Picture db variant since supplier) name rows = (name ≡ codes "picture") × Has (codes "DB") rows db.now × Has (codes "VARIANT") rows variant.now
