@@ -14,7 +14,7 @@ returns c =
     let new : IsReadAs (new_app (codes "slotplan")) c.in_ok-bin_name.field-0 =
     (ap app_of_fields c.in_ok-bin_name.ensures.0 ∙ c.new.ensures.app, ap (λ (f : Command-F Command). f.has_globals) c.in_ok-bin_name.ensures.0 ∙ c.new.ensures.local) in
     let start : IsReadAs (unasked (codes "slotplan")) c.settings.result = c.settings.ensures (codes "slotplan") new in
-    let started = with_job _ _ _ _ _ c.in_ok-subcommand.ensures start c.run.ensures in
+    let started = with_job _ _ _ _ _ c.in_ok-subcommand.ensures start c.in_ok-run.ensures in
     let files = with_job _ _ _ _ _ c.in_ok-program.ensures
     (with_job _ _ _ _ _ c.in_ok-subcommand-4.ensures
     (with_job _ _ _ _ _ c.in_ok-subcommand-3.ensures
