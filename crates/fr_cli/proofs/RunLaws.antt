@@ -131,7 +131,7 @@ failed nr script left a b so = record {
 no_write_failed : NoMemory ≡ WriteFailed → ⊥
 no_write_failed e = absurd cc
 
-pub run_of : (nr : Bool) (clean : Type 0) (old new : Standing) (script left a b : Option (List ℕ)) (bytes requests : List ℕ) (f : ClusterFile) (done : Result ⊤ ScriptFault)
+run_of : (nr : Bool) (clean : Type 0) (old new : Standing) (script left a b : Option (List ℕ)) (bytes requests : List ℕ) (f : ClusterFile) (done : Result ⊤ ScriptFault)
     → clean → IfSome script (λ all. bytes ≡ all) → IsAtEnd left → (has : HasParts bytes f requests) → old f.cluster (opening f)
     → WasWritten nr (account_of clean old new) (numbered_lines (first_number has.cluster) requests) a b done → IsRunOf nr script left a b done
 run_of nr clean old new script left a b bytes requests f (Ok x) is whole end has stands w = record {
@@ -184,3 +184,11 @@ run_of nr clean old new script left a b bytes requests f (Err fault) is whole en
             ),
           )))
     ]
+
+-- The first line behind the separator has this number.
+pub run_at : (nr : Bool) (clean : Type 0) (old new : Standing) (script left a b : Option (List ℕ)) (bytes requests : List ℕ) (f : ClusterFile) (done : Result ⊤ ScriptFault)
+    → clean → IfSome script (λ all. bytes ≡ all) → IsAtEnd left → (has : HasParts bytes f requests) → old f.cluster (opening f) → (n : ℕ) → n ≡ first_number has.cluster
+    → WasWritten nr (account_of clean old new) (numbered_lines n requests) a b done → IsRunOf nr script left a b done
+run_at nr clean old new script left a b bytes requests f done is whole end has stands n first w =
+    run_of nr clean old new script left a b bytes requests f done is whole end has stands
+    (subst (λ (n : ℕ). WasWritten nr (account_of clean old new) (numbered_lines n requests) a b done) first w)

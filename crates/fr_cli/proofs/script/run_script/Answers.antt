@@ -1,11 +1,9 @@
-use Rattle.std.proofs.Common.{rules, ◌≡◌, ◌≤◌, ◌+◌, ℕ, ap, arith, length, subst, Some, Ok}
+use Rattle.std.proofs.Common.{rules, ◌≡◌, ◌≤◌, ◌+◌, ℕ, ap, arith, length, Some, Ok}
 use Rattle.fr_base.specs.Cluster.{IsWellFormed}
 use Rattle.fr_text.specs.ClusterFile.{config_of}
 use Rattle.fr_cli.specs.Runs.{IsRunOf}
 use Rattle.fr_text.specs.Script.{max_script, parts_of}
-use Rattle.fr_cli.specs.Answering.{WasWritten, account_by}
-use Rattle.fr_cli.specs.Numbered.{numbered_lines}
-use Rattle.fr_cli.proofs.RunLaws.{HasParts, first_number, run_of, written_at}
+use Rattle.fr_cli.proofs.RunLaws.{HasParts, run_at, written_at}
 use Rattle.fr_cli.proofs.ScriptLines.{cluster-most}
 use Rattle.fr_cli.proofs.script.run_script.Goals as goal
 
@@ -35,11 +33,10 @@ returns-clause-run g c =
     let file : config_of c.in_ok-cluster.cluster.now ≡ Ok config = search rules in
     let formed : IsWellFormed config = search rules in
     let has : HasParts bytes config requests = record { size = size; cluster = c.in_ok-cluster.cluster.now; split = split; file = file; formed = formed } in
-    let written = subst (λ (n : ℕ). WasWritten c.args.numbered (account_by _ _ _) (numbered_lines n requests) _ _ c.write_answers.result) (ap (λ (n : ℕ). n + 2) c.line_count-first.ensures) c.write_answers.ensures.written in
     let run : IsRunOf c.args.numbered (remaining c.args.reader.now) (remaining c.read_all.new.reader) (contents c.args.writer.now) (contents c.write_answers.new.output.writer.now) c.write_answers.result =
-    run_of c.args.numbered _ _ _ (remaining c.args.reader.now) (remaining c.read_all.new.reader)
+    run_at c.args.numbered _ _ _ (remaining c.args.reader.now) (remaining c.read_all.new.reader)
     (contents c.args.writer.now) (contents c.write_answers.new.output.writer.now) bytes requests config c.write_answers.result
     tt c.in_ok-script.ensures.whole c.in_ok-script.ensures.end has
-    c.in-Ok.ensures.stands
-    (written_at contents _ c.args.numbered _ _ (numbered_lines (first_number has.cluster) requests) _ _ _ c.write_answers.result c.new-output.ensures.holds written) in
+    c.in-Ok.ensures.stands _ (ap (λ (n : ℕ). n + 2) c.line_count-first.ensures)
+    (written_at contents _ c.args.numbered _ _ _ _ _ _ c.write_answers.result c.new-output.ensures.holds c.write_answers.ensures.written) in
     search (rules, run)
