@@ -15,8 +15,7 @@ pub answered_to : (clean : Type 0) (old new : Standing) (f : ClusterFile) (lines
     → (to : IsAnsweredTo f lines left written) × (to.answered.answers ≡ answers)
 answered_to clean old new f lines front left answers written is formed stands whole so bytes =
     let sound = opening-sound f formed in
-    let (book, _, answered) = so is f.cluster (opening f) stands sound in
-    (
+    let (book, _, answered) = so is f.cluster (opening f) stands sound in (
       record {
         front = front;
         all = whole;
