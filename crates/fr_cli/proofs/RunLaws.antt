@@ -12,7 +12,7 @@ use Rattle.fr_world.specs.Held.{Standing}
 use Rattle.fr_base.specs.declared.desk.Desk as Desk
 use Rattle.fr_cli.specs.Answering.{Account, AnswersAll, AnswersLines, Anything, WasWritten, account_by, account_of}
 use Rattle.fr_cli.specs.Numbered.{numbered_lines, numbered_text, without_numbers}
-use Rattle.fr_cli.specs.NumberedOutput.{IsCutShort, IsWrittenTo, LacksMemory}
+use Rattle.fr_cli.specs.NumberedOutput.{IsCutShort, IsWrittenOf, IsWrittenTo, LacksMemory}
 use Rattle.fr_cli.specs.Output.{IsAnsweredTo, IsOutputTo, text_of_answers}
 use Rattle.fr_cli.specs.Runs.{IsRunOf}
 use Rattle.fr_text.specs.Script.{max_script, parts_of, request_lines}
@@ -99,6 +99,11 @@ module _ (clean : Type 0) (old new : Standing) (script requests : List ℕ) (f :
             ∙ ap (numbered_text (numbered_lines (first_number has.cluster) requests)) (sym (these ∙ same));
       }
 
+-- All lines are answered.
+written_whole : (nr : Bool) (script written : List ℕ) → IsWrittenTo nr script [] written → IsWrittenOf nr script written
+written_whole true script written so = so
+written_whole false script written so = so
+
 -- Where memory was wanting, and where a write failed, no more is to be said.
 lacked : (nr : Bool) (script left a b : Option (List ℕ)) → IfSome script (λ s. (written : List ℕ) × Appends a b written × LacksMemory nr s written) → IsRunOf nr script left a b (Err NoMemory)
 lacked nr script left a b so = record {
@@ -141,7 +146,7 @@ run_of nr clean old new script left a b bytes requests f (Ok x) is whole end has
       on_script _ script bytes whole (
         written,
         appended,
-        written_to clean old new bytes requests f l [] is has stands (sym (append-nil l)) nr written answered,
+        written_whole nr bytes written (written_to clean old new bytes requests f l [] is has stands (sym (append-nil l)) nr written answered),
       );
   whole_script = end;
   too_long = λ e. absurd cc;

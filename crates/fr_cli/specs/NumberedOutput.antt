@@ -4,7 +4,7 @@ use Rattle.std.specs.Prelude.{◌≡◌, ℕ, ◌+◌, Bool, true, false, List, 
 use Rattle.std.specs.Str.Lines.{lines}
 use Rattle.fr_text.specs.Script.{parts_of}
 use Rattle.fr_cli.specs.Numbered.{numbered_lines, numbered_text}
-use Rattle.fr_cli.specs.Output.{IsOutputTo}
+use Rattle.fr_cli.specs.Output.{IsOutput, IsOutputTo}
 
 -- the script's requests, each with the number of its line in the script: the lines of the cluster file stand before them, and the separator
 abbrev pub numbered_in : List ℕ → Option (List (ℕ × List ℕ))
@@ -25,7 +25,8 @@ IsWrittenTo false script left written = IsOutputTo script left written
 
 -- The bytes are the output of the script, with numbers or without.
 abbrev pub IsWrittenOf : Bool → List ℕ → List ℕ → Type 0
-IsWrittenOf numbered script written = IsWrittenTo numbered script [] written
+IsWrittenOf true script written = IsNumberedTo script [] written
+IsWrittenOf false script written = IsOutput script written
 
 -- The bytes answer the script's requests up to one for which there was no memory.
 abbrev pub LacksMemory : Bool → List ℕ → List ℕ → Type 0
