@@ -16,8 +16,8 @@ use fr_world::Records;
 use sqlite::Start;
 use std::io::Read;
 
-/// The requests on an input, and the output on which they are answered, with the numbers of their lines or without. Where another file stands in the place of the
-/// register's, a request is answered `Unavailable`, and the run ends with that fault.
+/// The requests on an input, and the output on which they are answered, with the numbers of their lines or without. Where
+/// another file stands in the place of the register's, a request is answered `Unavailable`, and the run ends with that fault.
 #[derive(Drop)]
 pub(crate) struct Asking<'a, I, O> {
     pub input: &'a mut I,

@@ -11,11 +11,11 @@ use fr_text::{Output, Sink, read_config, split_script};
 use std::alloc::Global;
 use std::io::Read;
 
-/// Reads a whole script, and answers its requests in order, each on a line of its own, behind the number of
-/// the request's line in the script where lines are numbered. What it writes is the output of the script. A fault of reading, a missing separator, a fault of the
-/// cluster file and a register that could not be made come before anything is written; want of
-/// memory for a request comes after whole answers to all before it, and a failed write may cut an
-/// answer short.
+/// Reads a whole script, and answers its requests in order, each on a line of its own. Where lines are numbered, the number
+/// of the request's line in the script stands before its answer. What it writes is the output of the script. A fault of
+/// reading, a missing separator, a fault of the cluster file and a register that could not be made come before anything is
+/// written; want of memory for a request comes after whole answers to all before it, and a failed write may cut an answer
+/// short.
 ///
 /// Each supplier is answered as if it were alone. Take a register that the cluster file makes with this
 /// supplier alone. Give it the supplier's lines; those without a key or with nobody's, as the supplier's own
