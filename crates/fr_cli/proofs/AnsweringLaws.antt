@@ -46,47 +46,47 @@ abbrev pub Asked : Type 0
 Asked = List (ℕ × List ℕ)
 
 -- It is said of those that are said to be none.
-none_said : (nr : Bool) (Are : List (List ℕ) → List Answer → Type 0) → Are [] [] → AnswersLines nr Are [] []
-none_said nr Are so = record { answers = []; each = refl; bytes = text-none nr; answered = so }
+none_said : (numbered : Bool) (Are : List (List ℕ) → List Answer → Type 0) → Are [] [] → AnswersLines numbered Are [] []
+none_said numbered Are so = record { answers = []; each = refl; bytes = text-none numbered; answered = so }
 
 -- Something else is said of them.
-pub lines_as : (nr : Bool) (A B : List (List ℕ) → List Answer → Type 0) (l : Asked) (w : List ℕ)
-    → ((answers : List Answer) → A (without_numbers l) answers → B (without_numbers l) answers) → AnswersLines nr A l w → AnswersLines nr B l w
-lines_as nr A B l w so p = record { answers = p.answers; each = p.each; bytes = p.bytes; answered = so p.answers p.answered }
+pub lines_as : (numbered : Bool) (A B : List (List ℕ) → List Answer → Type 0) (l : Asked) (w : List ℕ)
+    → ((answers : List Answer) → A (without_numbers l) answers → B (without_numbers l) answers) → AnswersLines numbered A l w → AnswersLines numbered B l w
+lines_as numbered A B l w so p = record { answers = p.answers; each = p.each; bytes = p.bytes; answered = so p.answers p.answered }
 
 -- It is said of lines and of more.
-both_said : (nr : Bool) (A B C : List (List ℕ) → List Answer → Type 0) (l m : Asked) (w v : List ℕ)
+both_said : (numbered : Bool) (A B C : List (List ℕ) → List Answer → Type 0) (l m : Asked) (w v : List ℕ)
     → ((xs ys : List Answer) → A (without_numbers l) xs → B (without_numbers m) ys → C (without_numbers l ++ without_numbers m) (xs ++ ys))
-    → AnswersLines nr A l w → AnswersLines nr B m v → AnswersLines nr C (l ++ m) (w ++ v)
-both_said nr A B C l m w v so p q = record {
+    → AnswersLines numbered A l w → AnswersLines numbered B m v → AnswersLines numbered C (l ++ m) (w ++ v)
+both_said numbered A B C l m w v so p q = record {
   answers = p.answers ++ q.answers;
   each = length-append p.answers q.answers ∙ ap₂ (λ (x y : ℕ). x + y) p.each q.each ∙ sym (length-append l m);
-  bytes = ap₂ (λ (x y : List ℕ). x ++ y) p.bytes q.bytes ∙ sym (text-append nr l m p.answers q.answers p.each);
+  bytes = ap₂ (λ (x y : List ℕ). x ++ y) p.bytes q.bytes ∙ sym (text-append numbered l m p.answers q.answers p.each);
   answered = subst (λ k. C k (p.answers ++ q.answers)) (sym (map-append (λ (one : ℕ × List ℕ). one.1) l m)) (so p.answers q.answers p.answered q.answered);
 }
 
 -- No end of an answer lacks.
-pub none_missing : (nr : Bool) → EndsAnswer nr []
-none_missing nr = (front_of nr 0 ++ line_of Done, 0, Done, sym (append-nil (front_of nr 0 ++ line_of Done)))
+pub none_missing : (numbered : Bool) → EndsAnswer numbered []
+none_missing numbered = (front_of numbered 0 ++ line_of Done, 0, Done, sym (append-nil (front_of numbered 0 ++ line_of Done)))
 
 -- A fault comes when whole answers were written.
-cut_at : (nr : Bool) (account : Account) (D T : Asked → Type 0) (a b : Option (List ℕ)) (fault : ScriptFault) (l : Asked) (w : List ℕ)
-    → AnswersLines nr account.all l w → AnswersLines nr account.first l w → Appends a b w → D l → T l → WasCutShort nr account D T a b fault
-cut_at nr account D T a b fault l w p q appended d t = record {
+cut_at : (numbered : Bool) (account : Account) (D T : Asked → Type 0) (a b : Option (List ℕ)) (fault : ScriptFault) (l : Asked) (w : List ℕ)
+    → AnswersLines numbered account.all l w → AnswersLines numbered account.first l w → Appends a b w → D l → T l → WasCutShort numbered account D T a b fault
+cut_at numbered account D T a b fault l w p q appended d t = record {
   lines = l;
   done = d;
   written = w;
   missing = [];
   appended = appended;
-  one = none_missing nr;
-  answered = subst (AnswersLines nr account.all l) (sym (append-nil w)) p;
+  one = none_missing numbered;
+  answered = subst (AnswersLines numbered account.all l) (sym (append-nil w)) p;
   whole = inr (l, t, q);
 }
 
 -- Other lines are of what was answered.
-pub cut_as : (nr : Bool) (account : Account) (D T E U : Asked → Type 0) (a b : Option (List ℕ)) (fault : ScriptFault)
-    → ((l : Asked) → D l → E l) → ((l : Asked) → T l → U l) → WasCutShort nr account D T a b fault → WasCutShort nr account E U a b fault
-cut_as nr account D T E U a b fault f g w = record {
+pub cut_as : (numbered : Bool) (account : Account) (D T E U : Asked → Type 0) (a b : Option (List ℕ)) (fault : ScriptFault)
+    → ((l : Asked) → D l → E l) → ((l : Asked) → T l → U l) → WasCutShort numbered account D T a b fault → WasCutShort numbered account E U a b fault
+cut_as numbered account D T E U a b fault f g w = record {
   lines = w.lines;
   done = f w.lines w.done;
   written = w.written;
@@ -107,18 +107,18 @@ pub record Tells (A B : Account) : Type 0 where
   pub all : (l : List (List ℕ)) (answers : List Answer) → A.all l answers → B.all l answers
   pub first : (l : List (List ℕ)) (answers : List Answer) → A.first l answers → B.first l answers
 
-pub cut_told : (nr : Bool) (A B : Account) (D T : Asked → Type 0) (a b : Option (List ℕ)) (fault : ScriptFault) → Tells A B → WasCutShort nr A D T a b fault → WasCutShort nr B D T a b fault
-cut_told nr A B D T a b fault so w = record {
+pub cut_told : (numbered : Bool) (A B : Account) (D T : Asked → Type 0) (a b : Option (List ℕ)) (fault : ScriptFault) → Tells A B → WasCutShort numbered A D T a b fault → WasCutShort numbered B D T a b fault
+cut_told numbered A B D T a b fault so w = record {
   lines = w.lines;
   done = w.done;
   written = w.written;
   missing = w.missing;
   appended = w.appended;
   one = w.one;
-  answered = lines_as nr A.all B.all w.lines (w.written ++ w.missing) (so.all (without_numbers w.lines)) w.answered;
+  answered = lines_as numbered A.all B.all w.lines (w.written ++ w.missing) (so.all (without_numbers w.lines)) w.answered;
   whole = elim w.whole [
     | inl is ↦ inl is
-    | inr told ↦ inr (told.0, told.1, lines_as nr A.first B.first told.0 w.written (so.first (without_numbers told.0)) told.2)
+    | inr told ↦ inr (told.0, told.1, lines_as numbered A.first B.first told.0 w.written (so.first (without_numbers told.0)) told.2)
   ];
 }
 
@@ -192,69 +192,69 @@ module _ {D : Type 0} (desk : Desk.Ghosts D) where
   }
 
   -- No line was answered, and a fault came.
-  pub cut_unasked : (nr : Bool) (old : D) (S T : Asked → Type 0) (a b : Option (List ℕ)) (fault : ScriptFault) → Appends a b [] → S [] → T []
-      → WasCutShort nr (account_by desk old old) S T a b fault
-  cut_unasked nr old S T a b fault =
+  pub cut_unasked : (numbered : Bool) (old : D) (S T : Asked → Type 0) (a b : Option (List ℕ)) (fault : ScriptFault) → Appends a b [] → S [] → T []
+      → WasCutShort numbered (account_by desk old old) S T a b fault
+  cut_unasked numbered old S T a b fault =
       let still : Still old old = (λ is. is, λ is c b there. there) in
-      cut_at nr (account_by desk old old) S T a b fault [] [] (none_said nr (Each old old) still) (none_said nr (account_by desk old old).first (old, (λ is. is), still))
+      cut_at numbered (account_by desk old old) S T a b fault [] [] (none_said numbered (Each old old) still) (none_said numbered (account_by desk old old).first (old, (λ is. is), still))
 
   -- ---- lines, and then more
 
   -- No line is answered yet.
-  pub no_lines : (nr : Bool) (d : D) → AnswersLines nr (Each d d) [] []
-  no_lines nr d = none_said nr (Each d d) (λ is. is, λ is c b there. there)
+  pub no_lines : (numbered : Bool) (d : D) → AnswersLines numbered (Each d d) [] []
+  no_lines numbered d = none_said numbered (Each d d) (λ is. is, λ is c b there. there)
 
   -- One line was answered.
-  pub one_line : (nr : Bool) (old new : D) (n : ℕ) (line : List ℕ) (answer : Answer) (text : List ℕ) → (desk.clean new → desk.clean old)
-      → (desk.clean new → AnswersLine (desk.stands old) (desk.stands new) line answer) → text ≡ front_of nr n ++ line_of answer
-      → AnswersLines nr (Each old new) ((n, line) ∷ []) text
-  one_line nr old new n line answer text falls so e = record {
+  pub one_line : (numbered : Bool) (old new : D) (n : ℕ) (line : List ℕ) (answer : Answer) (text : List ℕ) → (desk.clean new → desk.clean old)
+      → (desk.clean new → AnswersLine (desk.stands old) (desk.stands new) line answer) → text ≡ front_of numbered n ++ line_of answer
+      → AnswersLines numbered (Each old new) ((n, line) ∷ []) text
+  one_line numbered old new n line answer text falls so e = record {
     answers = answer ∷ [];
     each = refl;
-    bytes = e ∙ sym (text-one nr n line answer);
+    bytes = e ∙ sym (text-one numbered n line answer);
     answered = (new, falls, so, (λ is. is, λ is c b there. there));
   }
 
   -- More lines were answered.
-  pub lines_then : (nr : Bool) (old mid new : D) (l m : Asked) (w v : List ℕ) → AnswersLines nr (Each old mid) l w → AnswersLines nr (Each mid new) m v
-      → AnswersLines nr (Each old new) (l ++ m) (w ++ v)
-  lines_then nr old mid new l m w v = both_said nr (Each old mid) (Each mid new) (Each old new) l m w v (each_then old mid new (without_numbers l) (without_numbers m))
+  pub lines_then : (numbered : Bool) (old mid new : D) (l m : Asked) (w v : List ℕ) → AnswersLines numbered (Each old mid) l w → AnswersLines numbered (Each mid new) m v
+      → AnswersLines numbered (Each old new) (l ++ m) (w ++ v)
+  lines_then numbered old mid new l m w v = both_said numbered (Each old mid) (Each mid new) (Each old new) l m w v (each_then old mid new (without_numbers l) (without_numbers m))
 
   -- The register's rows stayed afterwards.
-  pub lines_stay : (nr : Bool) (old mid new : D) (l : Asked) (w : List ℕ) → Still mid new → AnswersLines nr (Each old mid) l w → AnswersLines nr (Each old new) l w
-  lines_stay nr old mid new l w still = lines_as nr (Each old mid) (Each old new) l w (λ xs so. each_still old mid new (without_numbers l) xs so still)
+  pub lines_stay : (numbered : Bool) (old mid new : D) (l : Asked) (w : List ℕ) → Still mid new → AnswersLines numbered (Each old mid) l w → AnswersLines numbered (Each old new) l w
+  lines_stay numbered old mid new l w still = lines_as numbered (Each old mid) (Each old new) l w (λ xs so. each_still old mid new (without_numbers l) xs so still)
 
   -- What the register stands for now is not said.
-  pub lines_kept : (nr : Bool) (old mid new : D) (l : Asked) (w : List ℕ) → (desk.clean new → desk.clean mid) → AnswersLines nr (Each old mid) l w
-      → AnswersLines nr (account_by desk old new).first l w
-  lines_kept nr old mid new l w falls = lines_as nr (Each old mid) (account_by desk old new).first l w (λ xs so. (mid, falls, so))
+  pub lines_kept : (numbered : Bool) (old mid new : D) (l : Asked) (w : List ℕ) → (desk.clean new → desk.clean mid) → AnswersLines numbered (Each old mid) l w
+      → AnswersLines numbered (account_by desk old new).first l w
+  lines_kept numbered old mid new l w falls = lines_as numbered (Each old mid) (account_by desk old new).first l w (λ xs so. (mid, falls, so))
 
   -- ---- a fault comes
 
   -- It comes when whole answers were written.
-  pub cut_here : (nr : Bool) (old new : D) (E U : Asked → Type 0) (a b : Option (List ℕ)) (fault : ScriptFault) (l : Asked) (w : List ℕ)
-      → AnswersLines nr (Each old new) l w → Appends a b w → E l → U l → WasCutShort nr (account_by desk old new) E U a b fault
-  cut_here nr old new E U a b fault l w p = cut_at nr (account_by desk old new) E U a b fault l w p (lines_kept nr old new new l w (λ is. is) p)
+  pub cut_here : (numbered : Bool) (old new : D) (E U : Asked → Type 0) (a b : Option (List ℕ)) (fault : ScriptFault) (l : Asked) (w : List ℕ)
+      → AnswersLines numbered (Each old new) l w → Appends a b w → E l → U l → WasCutShort numbered (account_by desk old new) E U a b fault
+  cut_here numbered old new E U a b fault l w p = cut_at numbered (account_by desk old new) E U a b fault l w p (lines_kept numbered old new new l w (λ is. is) p)
 
   -- It comes after lines that were answered before.
-  pub cut_after : (nr : Bool) (old mid new : D) (S T E U : Asked → Type 0) (a m b : Option (List ℕ)) (fault : ScriptFault) (l : Asked) (w : List ℕ)
-      → AnswersLines nr (Each old mid) l w → Appends a m w → ((k : Asked) → S k → E (l ++ k)) → ((k : Asked) → T k → U (l ++ k))
-      → WasCutShort nr (account_by desk mid new) S T m b fault → WasCutShort nr (account_by desk old new) E U a b fault
-  cut_after nr old mid new S T E U a m b fault l w p appended f g c = record {
+  pub cut_after : (numbered : Bool) (old mid new : D) (S T E U : Asked → Type 0) (a m b : Option (List ℕ)) (fault : ScriptFault) (l : Asked) (w : List ℕ)
+      → AnswersLines numbered (Each old mid) l w → Appends a m w → ((k : Asked) → S k → E (l ++ k)) → ((k : Asked) → T k → U (l ++ k))
+      → WasCutShort numbered (account_by desk mid new) S T m b fault → WasCutShort numbered (account_by desk old new) E U a b fault
+  cut_after numbered old mid new S T E U a m b fault l w p appended f g c = record {
     lines = l ++ c.lines;
     done = f c.lines c.done;
     written = w ++ c.written;
     missing = c.missing;
     appended = Appends-trans a m b w c.written appended c.appended;
     one = c.one;
-    answered = subst (AnswersLines nr (Each old new) (l ++ c.lines)) (sym (append_assoc w c.written c.missing))
-        (lines_then nr old mid new l c.lines w (c.written ++ c.missing) p c.answered);
+    answered = subst (AnswersLines numbered (Each old new) (l ++ c.lines)) (sym (append_assoc w c.written c.missing))
+        (lines_then numbered old mid new l c.lines w (c.written ++ c.missing) p c.answered);
     whole = elim c.whole [
       | inl is ↦ inl is
       | inr so ↦ inr (
         l ++ so.0,
         g so.0 so.1,
-        both_said nr (Each old mid) (account_by desk mid new).first (account_by desk old new).first l so.0 w c.written
+        both_said numbered (Each old mid) (account_by desk mid new).first (account_by desk old new).first l so.0 w c.written
             (λ xs ys first more. (more.0, more.1, each_then old mid more.0 (without_numbers l) (without_numbers so.0) xs ys first more.2)) p so.2,
       )
     ];

@@ -240,12 +240,12 @@ module _ {D R : Type 0} {g : Ghosts D} (desk : Desk.Ghosts R) (held : Image) (re
     deliver db delivery (Err (failure.Fault fault)) none shown may = not_delivered db delivery fault none shown may
 
     -- lines that were answered, whatever is said of them
-    pub answered_lines : {account : Account} (nr : Bool) (asked : Result ⊤ ScriptFault) → status ≡ status_of (of_script asked)
-        → HasAnswered nr account s.input.old s.input.new (held_before s.out) (held_behind s.out) asked
-        → (lines : List (List ℕ)) × (answers : List Answer) × WereLines nr s status lines answers × account.all lines answers
-    answered_lines nr (Ok x) ends has =
+    pub answered_lines : {account : Account} (numbered : Bool) (asked : Result ⊤ ScriptFault) → status ≡ status_of (of_script asked)
+        → HasAnswered numbered account s.input.old s.input.new (held_before s.out) (held_behind s.out) asked
+        → (lines : List (List ℕ)) × (answers : List Answer) × WereLines numbered s status lines answers × account.all lines answers
+    answered_lines numbered (Ok x) ends has =
         let (l, written, whole, short, appended, told) = has.all in
-        let were : WereLines nr s status (without_numbers l) told.answers = record {
+        let were : WereLines numbered s status (without_numbers l) told.answers = record {
           asked = l;
           these = refl;
           first = some_map _ _ s.input.old (λ bytes so. all_first l bytes so.0) whole;
@@ -253,14 +253,14 @@ module _ {D R : Type 0} {g : Ghosts D} (desk : Desk.Ghosts R) (held : Image) (re
           written = written;
           missing = [];
           appended = appended;
-          one = none_missing nr;
+          one = none_missing numbered;
           bytes = append-nil written ∙ told.bytes;
           all = λ done. (refl, some_map _ _ s.input.old (λ bytes so. so.0) whole);
         } in
         (without_numbers l, told.answers, were, told.answered)
-    answered_lines nr (Err fault) ends has =
+    answered_lines numbered (Err fault) ends has =
         let cut = has.early in
-        let were : WereLines nr s status (without_numbers cut.lines) cut.answered.answers = record {
+        let were : WereLines numbered s status (without_numbers cut.lines) cut.answered.answers = record {
           asked = cut.lines;
           these = refl;
           first = cut.done;
@@ -280,13 +280,13 @@ module _ {D R : Type 0} {g : Ghosts D} (desk : Desk.Ghosts R) (held : Image) (re
     not_asked done fault none failed not silent ends =
         let (ended, told) = subst (λ (d : Result ⊤ Fault). Ends d s status) failed ends in not_opened fault (inr not) (ended, silent, told) none
 
-    ask : (db : Bor (List ℕ)) (nr : Bool) (done : Result ⊤ Fault) → comings.none → IsAsked nr desk held rest s.input.old s.input.new s.out done → Ends done s status
-        → Leading (job.Ask db nr)
+    ask : (db : Bor (List ℕ)) (numbered : Bool) (done : Result ⊤ Fault) → comings.none → IsAsked numbered desk held rest s.input.old s.input.new s.out done → Ends done s status
+        → Leading (job.Ask db numbered)
     unfolding IsAsked
-    ask db nr done none (inl (fault, failed, not, kept, silent)) ends = inl (not_asked done fault none failed not silent ends)
-    ask db nr done none (inr (asked, last, old, new, over, same, at_end, stops, has)) ends =
-        let (lines, answers, were, all) = answered_lines nr asked (ends.0 ∙ ap status_of same) has in
-        led (job.Ask db nr) (Lines lines answers) were (lines_lead last over.left.0 lines answers all.0)
+    ask db numbered done none (inl (fault, failed, not, kept, silent)) ends = inl (not_asked done fault none failed not silent ends)
+    ask db numbered done none (inr (asked, last, old, new, over, same, at_end, stops, has)) ends =
+        let (lines, answers, were, all) = answered_lines numbered asked (ends.0 ∙ ap status_of same) has in
+        led (job.Ask db numbered) (Lines lines answers) were (lines_lead last over.left.0 lines answers all.0)
 
     -- as many connections as were to be, where all were served
     pub all_served : (count : ℕ) (visits : List Visit) (done : Result ⊤ Fault) → status ≡ status_of done → OnOk done (length visits ≡ count) → status ≡ 0 → length visits ≡ count
@@ -310,11 +310,11 @@ module _ {D R : Type 0} {g : Ghosts D} (desk : Desk.Ghosts R) (held : Image) (re
     -- so a job that asks the register of a file
     pub job_leads : (j : Job) → IsPerformed desk held rest read comings j s status → AsksRegister j → Leading j
     unfolding IsPerformed
-    job_leads (job.Run nr) did asks = absurd asks
+    job_leads (job.Run numbered) did asks = absurd asks
     job_leads (job.Create db config) did asks = absurd asks
     job_leads (job.Migrate db) did asks = absurd asks
     job_leads (job.Serve db port count seconds) (did, none, kept) asks = serve db port count seconds did
-    job_leads (job.Ask db nr) (done, did, ends, none, quiet) asks = ask db nr done quiet did ends
+    job_leads (job.Ask db numbered) (done, did, ends, none, quiet) asks = ask db numbered done quiet did ends
     job_leads (job.Report db query) (done, shown, says, none, quiet) asks = report db query done quiet.1 shown says
     job_leads (job.Picture db variant since supplier) (done, shown, says, none, quiet) asks = picture db variant since supplier done quiet.1 shown says
     job_leads (job.Deliver db delivery) (done, shown, says, kept, quiet) asks = deliver db delivery done quiet shown says

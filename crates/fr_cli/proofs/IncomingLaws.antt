@@ -105,38 +105,38 @@ module _ {D : Type 0} (desk : Desk.Ghosts D) where
   Each = AnswersEach desk.clean desk.stands
 
   -- whole lines more were answered
-  pub heard_more : (nr : Bool) (n : ℕ) (old mid new : D) (front chunk w v : List ℕ) → EndsLines front → AnswersLines nr (Each old mid) (numbered_lines n front) w
-      → AnswersLines nr (Each mid new) (numbered_lines (n + length (lines front)) chunk) v → AnswersLines nr (Each old new) (numbered_lines n (front ++ chunk)) (w ++ v)
-  heard_more nr n old mid new front chunk w v ends p q =
-      subst (λ l. AnswersLines nr (Each old new) l (w ++ v)) (sym (numbered-append n front chunk ends))
-      (lines_then desk nr old mid new (numbered_lines n front) (numbered_lines (n + length (lines front)) chunk) w v p q)
+  pub heard_more : (numbered : Bool) (n : ℕ) (old mid new : D) (front chunk w v : List ℕ) → EndsLines front → AnswersLines numbered (Each old mid) (numbered_lines n front) w
+      → AnswersLines numbered (Each mid new) (numbered_lines (n + length (lines front)) chunk) v → AnswersLines numbered (Each old new) (numbered_lines n (front ++ chunk)) (w ++ v)
+  heard_more numbered n old mid new front chunk w v ends p q =
+      subst (λ l. AnswersLines numbered (Each old new) l (w ++ v)) (sym (numbered-append n front chunk ends))
+      (lines_then desk numbered old mid new (numbered_lines n front) (numbered_lines (n + length (lines front)) chunk) w v p q)
 
   -- all lines were answered, and more may be asked
-  pub asked_on : (nr : Bool) (old mid new : D) (l : Asked) (a b : Option (List ℕ)) → IsStill desk.clean desk.stands mid new
-      → (written : List ℕ) × Appends a b written × AnswersLines nr (Each old mid) l written → WasAsked nr (account_by desk old new) l a b (Ok tt)
-  asked_on nr old mid new l a b still all = record {
-    all = (all.0, all.1, lines_stay desk nr old mid new l all.0 still all.2);
+  pub asked_on : (numbered : Bool) (old mid new : D) (l : Asked) (a b : Option (List ℕ)) → IsStill desk.clean desk.stands mid new
+      → (written : List ℕ) × Appends a b written × AnswersLines numbered (Each old mid) l written → WasAsked numbered (account_by desk old new) l a b (Ok tt)
+  asked_on numbered old mid new l a b still all = record {
+    all = (all.0, all.1, lines_stay desk numbered old mid new l all.0 still all.2);
     early = tt;
     faults = tt;
   }
 
   -- all lines were answered, and the register has come to an end
-  pub asked_last : (nr : Bool) (old mid new : D) (l : Asked) (a b : Option (List ℕ)) → IsStill desk.clean desk.stands mid new
-      → (written : List ℕ) × Appends a b written × AnswersLines nr (Each old mid) l written → WasAsked nr (account_by desk old new) l a b (Err Unavailable)
-  asked_last nr old mid new l a b still all =
+  pub asked_last : (numbered : Bool) (old mid new : D) (l : Asked) (a b : Option (List ℕ)) → IsStill desk.clean desk.stands mid new
+      → (written : List ℕ) × Appends a b written × AnswersLines numbered (Each old mid) l written → WasAsked numbered (account_by desk old new) l a b (Err Unavailable)
+  asked_last numbered old mid new l a b still all =
       let begin : BeginWith l l = ([], sym (append-nil l)) in
       record {
         all = tt;
-        early = cut_here desk nr old new (BeginWith l) (BeginWith l) a b Unavailable l all.0 (lines_stay desk nr old mid new l all.0 still all.2) all.1 begin begin;
+        early = cut_here desk numbered old new (BeginWith l) (BeginWith l) a b Unavailable l all.0 (lines_stay desk numbered old mid new l all.0 still all.2) all.1 begin begin;
         faults = inr (inr refl);
       }
 
 -- a fault came before all were
-pub asked_early : (nr : Bool) (account : Account) (l : Asked) (a b : Option (List ℕ)) (fault : ScriptFault)
-    → WasCutShort nr account (BeginWith l) (GoOnBehind l) a b fault → (fault ≡ NoMemory) ⊎ (fault ≡ WriteFailed) → WasAsked nr account l a b (Err fault)
-asked_early nr account l a b fault early of = record {
+pub asked_early : (numbered : Bool) (account : Account) (l : Asked) (a b : Option (List ℕ)) (fault : ScriptFault)
+    → WasCutShort numbered account (BeginWith l) (GoOnBehind l) a b fault → (fault ≡ NoMemory) ⊎ (fault ≡ WriteFailed) → WasAsked numbered account l a b (Err fault)
+asked_early numbered account l a b fault early of = record {
   all = tt;
-  early = cut_as nr account (BeginWith l) (GoOnBehind l) (BeginWith l) (BeginWith l) a b fault (λ k so. so) (λ k so. (so.0 ∷ so.1, so.2)) early;
+  early = cut_as numbered account (BeginWith l) (GoOnBehind l) (BeginWith l) (BeginWith l) a b fault (λ k so. so) (λ k so. (so.0 ∷ so.1, so.2)) early;
   faults = elim of [
     | inl none ↦ inl none
     | inr failed ↦ inr (inl failed)
@@ -176,12 +176,12 @@ pub long_by : (begun more : List ℕ) → max_line < length begun + length more 
 long_by begun more long = omega (arith, long, length-append begun more)
 
 -- a fault comes between lines
-pub heard_cut : {D : Type 0} (desk : Desk.Ghosts D) (nr : Bool) (n next : ℕ) (old new : D) (bytes begun : List ℕ) (a b : Option (List ℕ)) (front written : List ℕ) (of : InputFault)
-    → AnswersLines nr (AnswersEach desk.clean desk.stands old new) (numbered_lines n front) written → Appends a b written → AreFirstOfAll n bytes (numbered_lines n front)
-    → (of ≡ Lengthy → HasLongLine bytes) → HasHeard nr (account_by desk old new) n next bytes begun a b (Err (script_fault_of of))
-heard_cut desk nr n next old new bytes begun a b front written of answered appended first long = record {
+pub heard_cut : {D : Type 0} (desk : Desk.Ghosts D) (numbered : Bool) (n next : ℕ) (old new : D) (bytes begun : List ℕ) (a b : Option (List ℕ)) (front written : List ℕ) (of : InputFault)
+    → AnswersLines numbered (AnswersEach desk.clean desk.stands old new) (numbered_lines n front) written → Appends a b written → AreFirstOfAll n bytes (numbered_lines n front)
+    → (of ≡ Lengthy → HasLongLine bytes) → HasHeard numbered (account_by desk old new) n next bytes begun a b (Err (script_fault_of of))
+heard_cut desk numbered n next old new bytes begun a b front written of answered appended first long = record {
   heard = tt;
-  early = cut_here desk nr old new (AreFirstOfAll n bytes) (AreFirstOfAll n bytes) a b (script_fault_of of) (numbered_lines n front) written answered appended first first;
+  early = cut_here desk numbered old new (AreFirstOfAll n bytes) (AreFirstOfAll n bytes) a b (script_fault_of of) (numbered_lines n front) written answered appended first first;
   too_long = λ e. long (is_lengthy of cc);
 }
 
@@ -192,17 +192,17 @@ pub split_then : (front begun piece more rest : List ℕ) → begun ++ piece ≡
 split_then front begun piece more rest e = append_assoc front begun piece ∙ ap (λ r. front ++ r) e ∙ sym (append_assoc front more rest)
 
 -- A fault comes between pieces.
-pub cut_between : {D : Type 0} (desk : Desk.Ghosts D) (nr : Bool) (old new : D) (input left a b : Option (List ℕ)) (front begun written : List ℕ) (fault : ScriptFault) (of : InputFault)
+pub cut_between : {D : Type 0} (desk : Desk.Ghosts D) (numbered : Bool) (old new : D) (input left a b : Option (List ℕ)) (front begun written : List ℕ) (fault : ScriptFault) (of : InputFault)
     → fault ≡ script_fault_of of → Consumes input left (front ++ begun) → EndsLines front → Appends a b written
-    → AnswersLines nr (AnswersEach desk.clean desk.stands old new) (numbered_lines 1 front) written → (fault ≡ TooLong → IfSome input (λ bytes. (max_script < length bytes) ⊎ HasLongLine bytes))
+    → AnswersLines numbered (AnswersEach desk.clean desk.stands old new) (numbered_lines 1 front) written → (fault ≡ TooLong → IfSome input (λ bytes. (max_script < length bytes) ⊎ HasLongLine bytes))
     → ((fault ≡ ReadFailed) ⊎ (fault ≡ TooManyReads) → HasNo 10 begun)
-    → HasAnswered nr (account_by desk old new) input left a b (Err fault)
-cut_between desk nr old new input left a b front begun written fault of is taken ends appended answered long open_ended =
+    → HasAnswered numbered (account_by desk old new) input left a b (Err fault)
+cut_between desk numbered old new input left a b front begun written fault of is taken ends appended answered long open_ended =
     let first : IfSome input (AreFirstOf (numbered_lines 1 front)) =
     on_input (AreFirstOf (numbered_lines 1 front)) input left (front ++ begun) taken (first_whole 1 front begun ends) in
     record {
       all = tt;
-      early = cut_here desk nr old new (λ l. IfSome input (AreFirstOf l)) (λ l. IfSome input (AreFirstOf l)) a b fault (numbered_lines 1 front) written answered appended first first;
+      early = cut_here desk numbered old new (λ l. IfSome input (AreFirstOf l)) (λ l. IfSome input (AreFirstOf l)) a b fault (numbered_lines 1 front) written answered appended first first;
       unread = λ e. (front, begun, written, taken, ends, open_ended e, appended, answered);
       too_long = λ e. long cc;
       faults = inr (inr (of, is));
@@ -238,17 +238,17 @@ not_long fault (inr (inl failed)) e = absurd cc
 not_long fault (inr (inr ended)) e = absurd cc
 
 -- A fault comes within a piece.
-pub cut_within : {D : Type 0} (desk : Desk.Ghosts D) (nr : Bool) (old mid new : D) (input left a m b : Option (List ℕ)) (front bytes written : List ℕ) (fault : ScriptFault)
-    → Consumes input left (front ++ bytes) → EndsLines front → Appends a m written → AnswersLines nr (AnswersEach desk.clean desk.stands old mid) (numbered_lines 1 front) written
-    → WasCutShort nr (account_by desk mid new) (AreFirstOfAll (1 + length (lines front)) bytes) (AreFirstOfAll (1 + length (lines front)) bytes) m b fault
-    → (fault ≡ TooLong → HasLongLine bytes) → (fault ≡ TooLong) ⊎ EndsAsking fault → HasAnswered nr (account_by desk old new) input left a b (Err fault)
-cut_within desk nr old mid new input left a m b front bytes written fault taken ends appended answered short long of =
+pub cut_within : {D : Type 0} (desk : Desk.Ghosts D) (numbered : Bool) (old mid new : D) (input left a m b : Option (List ℕ)) (front bytes written : List ℕ) (fault : ScriptFault)
+    → Consumes input left (front ++ bytes) → EndsLines front → Appends a m written → AnswersLines numbered (AnswersEach desk.clean desk.stands old mid) (numbered_lines 1 front) written
+    → WasCutShort numbered (account_by desk mid new) (AreFirstOfAll (1 + length (lines front)) bytes) (AreFirstOfAll (1 + length (lines front)) bytes) m b fault
+    → (fault ≡ TooLong → HasLongLine bytes) → (fault ≡ TooLong) ⊎ EndsAsking fault → HasAnswered numbered (account_by desk old new) input left a b (Err fault)
+cut_within desk numbered old mid new input left a m b front bytes written fault taken ends appended answered short long of =
     let behind = AreFirstOfAll (1 + length (lines front)) bytes in
     let is_first : (k : Asked) → AreFirstOfAll (1 + length (lines front)) bytes k → IfSome input (AreFirstOf (numbered_lines 1 front ++ k)) =
     λ k so. on_input (AreFirstOf (numbered_lines 1 front ++ k)) input left (front ++ bytes) taken (first_then 1 front bytes k ends so) in
     record {
       all = tt;
-      early = cut_after desk nr old mid new behind behind (λ l. IfSome input (AreFirstOf l)) (λ l. IfSome input (AreFirstOf l)) a m b fault
+      early = cut_after desk numbered old mid new behind behind (λ l. IfSome input (AreFirstOf l)) (λ l. IfSome input (AreFirstOf l)) a m b fault
           (numbered_lines 1 front) written answered appended is_first is_first short;
       unread = λ e. absurd (of_line-read fault of e);
       too_long = λ e. on_input (λ all. (max_script < length all) ⊎ HasLongLine all) input left (front ++ bytes) taken (λ more. inr (long_within front bytes more (long cc)));
@@ -256,24 +256,24 @@ cut_within desk nr old mid new input left a m b front bytes written fault taken 
     }
 
 -- Nothing was asked, and nothing was read: the register's files are not watched.
-pub asked_none : {D : Type 0} (desk : Desk.Ghosts D) (nr : Bool) (old : D) (input a : Option (List ℕ)) (why : WatchFault) (fault : ScriptFault) → fault ≡ script_fault_unwatched why
-    → HasAnswered nr (account_by desk old old) input input a a (Err fault)
-asked_none desk nr old input a why fault is =
+pub asked_none : {D : Type 0} (desk : Desk.Ghosts D) (numbered : Bool) (old : D) (input a : Option (List ℕ)) (why : WatchFault) (fault : ScriptFault) → fault ≡ script_fault_unwatched why
+    → HasAnswered numbered (account_by desk old old) input input a a (Err fault)
+asked_none desk numbered old input a why fault is =
     let first : IfSome input (AreFirstOf []) = on_input (AreFirstOf []) input input [] (Consumes-nil input) (λ more. (numbered_lines 1 more, refl)) in
     record {
       all = tt;
-      early = cut_unasked desk nr old (λ l. IfSome input (AreFirstOf l)) (λ l. IfSome input (AreFirstOf l)) a a fault (Appends-nil a) first first;
+      early = cut_unasked desk numbered old (λ l. IfSome input (AreFirstOf l)) (λ l. IfSome input (AreFirstOf l)) a a fault (Appends-nil a) first first;
       unread = λ e. absurd (of_line-read fault (inr (ends_unwatched why fault is)) e);
       too_long = λ e. absurd (not_long fault (ends_unwatched why fault is) cc);
       faults = of_line fault (inr (ends_unwatched why fault is));
     }
 
 -- The input has ended, and what was begun are its last lines.
-pub at_end : {D : Type 0} (desk : Desk.Ghosts D) (nr : Bool) (old mid new : D) (input left a m b : Option (List ℕ)) (front begun written : List ℕ) (done : Result ⊤ ScriptFault)
+pub at_end : {D : Type 0} (desk : Desk.Ghosts D) (numbered : Bool) (old mid new : D) (input left a m b : Option (List ℕ)) (front begun written : List ℕ) (done : Result ⊤ ScriptFault)
     → Consumes input left (front ++ begun) → IsAtEnd left → length (front ++ begun) ≤ max_script → EndsLines front → Appends a m written
-    → AnswersLines nr (AnswersEach desk.clean desk.stands old mid) (numbered_lines 1 front) written → AreShort (request_lines (front ++ begun))
-    → WasAsked nr (account_by desk mid new) (numbered_lines (1 + length (lines front)) begun) m b done → HasAnswered nr (account_by desk old new) input left a b done
-at_end desk nr old mid new input left a m b front begun written (Ok x) taken end fits ends appended answered short has =
+    → AnswersLines numbered (AnswersEach desk.clean desk.stands old mid) (numbered_lines 1 front) written → AreShort (request_lines (front ++ begun))
+    → WasAsked numbered (account_by desk mid new) (numbered_lines (1 + length (lines front)) begun) m b done → HasAnswered numbered (account_by desk old new) input left a b done
+at_end desk numbered old mid new input left a m b front begun written (Ok x) taken end fits ends appended answered short has =
     let (more, then, last) = has.all in
     let l = numbered_lines 1 (front ++ begun) in
     record {
@@ -283,14 +283,14 @@ at_end desk nr old mid new input left a m b front begun written (Ok x) taken end
         on_whole (λ bytes. (l ≡ numbered_lines 1 bytes) × (length bytes ≤ max_script)) input left (front ++ begun) taken end (refl, fits),
         subst AreShort (sym (numbered-requests 1 (front ++ begun))) short,
         Appends-trans a m b written more appended then,
-        heard_more desk nr 1 old mid new front begun written more ends answered last,
+        heard_more desk numbered 1 old mid new front begun written more ends answered last,
       );
       early = tt;
       unread = tt;
       too_long = λ e. absurd cc;
       faults = tt;
     }
-at_end desk nr old mid new input left a m b front begun written (Err fault) taken end fits ends appended answered short has =
+at_end desk numbered old mid new input left a m b front begun written (Err fault) taken end fits ends appended answered short has =
     let these = numbered_lines 1 front in
     let last = numbered_lines (1 + length (lines front)) begun in
     let is_first : (k rest : Asked) → last ≡ k ++ rest → IfSome input (AreFirstOf (these ++ k)) =
@@ -298,7 +298,7 @@ at_end desk nr old mid new input left a m b front begun written (Err fault) take
     (rest, numbered-append 1 front begun ends ∙ ap (λ l. these ++ l) split ∙ sym (append_assoc these k rest)) in
     record {
       all = tt;
-      early = cut_after desk nr old mid new (BeginWith last) (BeginWith last) (λ l. IfSome input (AreFirstOf l)) (λ l. IfSome input (AreFirstOf l))
+      early = cut_after desk numbered old mid new (BeginWith last) (BeginWith last) (λ l. IfSome input (AreFirstOf l)) (λ l. IfSome input (AreFirstOf l))
           a m b fault these written answered appended (λ k so. is_first k so.0 so.1) (λ k so. is_first k so.0 so.1) has.early;
       unread = λ e. absurd (of_line-read fault (inr has.faults) e);
       too_long = λ e. absurd (not_long fault has.faults cc);
@@ -308,23 +308,23 @@ at_end desk nr old mid new input left a m b front begun written (Err fault) take
 -- ---- over a file
 
 -- Something else is said of the lines.
-pub answered_told : (nr : Bool) (A B : Account) (input left a b : Option (List ℕ)) (asked : Result ⊤ ScriptFault) → Tells A B → HasAnswered nr A input left a b asked
-    → HasAnswered nr B input left a b asked
-answered_told nr A B input left a b (Ok x) so has =
+pub answered_told : (numbered : Bool) (A B : Account) (input left a b : Option (List ℕ)) (asked : Result ⊤ ScriptFault) → Tells A B → HasAnswered numbered A input left a b asked
+    → HasAnswered numbered B input left a b asked
+answered_told numbered A B input left a b (Ok x) so has =
     let (l, written, all, short, appended, answered) = has.all in
     record {
-      all = (l, written, all, short, appended, lines_as nr A.all B.all l written (so.all (without_numbers l)) answered);
+      all = (l, written, all, short, appended, lines_as numbered A.all B.all l written (so.all (without_numbers l)) answered);
       early = tt;
       unread = tt;
       too_long = λ e. absurd cc;
       faults = tt;
     }
-answered_told nr A B input left a b (Err fault) so has = record {
+answered_told numbered A B input left a b (Err fault) so has = record {
   all = tt;
-  early = cut_told nr A B _ _ a b fault so has.early;
+  early = cut_told numbered A B _ _ a b fault so has.early;
   unread = λ e.
       let (front, begun, written, taken, ends, open_ended, appended, answered) = has.unread e in
-      (front, begun, written, taken, ends, open_ended, appended, lines_as nr A.all B.all (numbered_lines 1 front) written (so.all (without_numbers (numbered_lines 1 front))) answered);
+      (front, begun, written, taken, ends, open_ended, appended, lines_as numbered A.all B.all (numbered_lines 1 front) written (so.all (without_numbers (numbered_lines 1 front))) answered);
   too_long = has.too_long;
   faults = has.faults;
 }
@@ -342,20 +342,20 @@ module _ {D R : Type 0} {g : Ghosts D} {desk : Desk.Ghosts R} {file : Image} {re
       }
 
   -- What an errand asked was asked over the file.
-  pub asked_over : {O : Type 0} {same kept : Type 0} (nr : Bool) (printed : SinkGhosts O) {input left left' : Option (List ℕ)} {a b b' : O} {done : Result ⊤ Fault}
+  pub asked_over : {O : Type 0} {same kept : Type 0} (numbered : Bool) (printed : SinkGhosts O) {input left left' : Option (List ℕ)} {a b b' : O} {done : Result ⊤ Fault}
       → left' ≡ left → b' ≡ b → (same → (left ≡ input) × (b ≡ a))
-      → IsDoneOver file rest desk (λ fault of. of ≡ fault) same (λ R desk old new done. AnswersInput nr input left (outlet printed a b) R desk old new done × kept) done
-      → IsAsked nr desk file rest input left' (outlet printed a b') done
+      → IsDoneOver file rest desk (λ fault of. of ≡ fault) same (λ R desk old new done. AnswersInput numbered input left (outlet printed a b) R desk old new done × kept) done
+      → IsAsked numbered desk file rest input left' (outlet printed a b') done
   unfolding IsAsked
-  asked_over {kept = kept} nr printed {input} {left} {left'} {a} {b} {b'} {done} is_left is_b quiet is =
-      subst (λ l. IsAsked nr desk file rest input l (outlet printed a b') done) (sym is_left) (subst (λ o. IsAsked nr desk file rest input left (outlet printed a o) done) (sym is_b)
-      (done_over (λ fault. fault) (IsAsked nr desk file rest input left (outlet printed a b))
-      (λ R desk old new done. AnswersInput nr input left (outlet printed a b) R desk old new done × kept) is
+  asked_over {kept = kept} numbered printed {input} {left} {left'} {a} {b} {b'} {done} is_left is_b quiet is =
+      subst (λ l. IsAsked numbered desk file rest input l (outlet printed a b') done) (sym is_left) (subst (λ o. IsAsked numbered desk file rest input left (outlet printed a o) done) (sym is_b)
+      (done_over (λ fault. fault) (IsAsked numbered desk file rest input left (outlet printed a b))
+      (λ R desk old new done. AnswersInput numbered input left (outlet printed a b) R desk old new done × kept) is
       (λ fault not same.
       let (unread, quiet) = quiet same in inl (fault, refl, not, subst (Keeps input) (sym unread) (Keeps-refl input), quiet))
       (λ last old new over did.
       let (asked, is, end, stops, has) = did.0 in
-      inr (asked, last, old, new, over, is, end, stops, answered_told nr (account_by desk old new) (account_over desk file last old new) input left (printed.contents a) (printed.contents b) asked (told_over over) has))))
+      inr (asked, last, old, new, over, is, end, stops, answered_told numbered (account_by desk old new) (account_over desk file last old new) input left (printed.contents a) (printed.contents b) asked (told_over over) has))))
 
 -- A fault of reading is none of writing.
 pub unread_stops : {W : Type 0} (sink : SinkGhosts W) (of : InputFault) (last : W) → MayStop sink (script_fault_of of) last

@@ -28,21 +28,21 @@ on_script P None bytes whole so = tt
 on_script P (Some s) bytes whole so = subst P whole so
 
 -- something else is said of the lines
-written_told : (nr : Bool) (A B : Account) (l : Asked) (a b : Option (List ℕ)) (done : Result ⊤ ScriptFault) → Tells A B → WasWritten nr A l a b done → WasWritten nr B l a b done
-written_told nr A B l a b (Ok x) so was = record {
-  all = (was.all.0, was.all.1, lines_as nr A.all B.all l was.all.0 (so.all (without_numbers l)) was.all.2);
+written_told : (numbered : Bool) (A B : Account) (l : Asked) (a b : Option (List ℕ)) (done : Result ⊤ ScriptFault) → Tells A B → WasWritten numbered A l a b done → WasWritten numbered B l a b done
+written_told numbered A B l a b (Ok x) so was = record {
+  all = (was.all.0, was.all.1, lines_as numbered A.all B.all l was.all.0 (so.all (without_numbers l)) was.all.2);
   early = tt;
   faults = tt;
 }
-written_told nr A B l a b (Err fault) so was = record { all = tt; early = cut_told nr A B _ _ a b fault so was.early; faults = was.faults }
+written_told numbered A B l a b (Err fault) so was = record { all = tt; early = cut_told numbered A B _ _ a b fault so was.early; faults = was.faults }
 
 -- what was written to a writer was written to the same one
-pub written_at : {W D : Type 0} (contents : W → Option (List ℕ)) (desk : Desk.Ghosts D) (nr : Bool) (old new : D) (l : Asked) (held same : W) (now : Option (List ℕ)) (done : Result ⊤ ScriptFault)
-    → held ≡ same → WasWritten nr (account_by desk old new) l (contents held) now done
-    → WasWritten nr (account_of (desk.clean new) (desk.stands old) (desk.stands new)) l (contents same) now done
-written_at contents desk nr old new l held same now done is was =
+pub written_at : {W D : Type 0} (contents : W → Option (List ℕ)) (desk : Desk.Ghosts D) (numbered : Bool) (old new : D) (l : Asked) (held same : W) (now : Option (List ℕ)) (done : Result ⊤ ScriptFault)
+    → held ≡ same → WasWritten numbered (account_by desk old new) l (contents held) now done
+    → WasWritten numbered (account_of (desk.clean new) (desk.stands old) (desk.stands new)) l (contents same) now done
+written_at contents desk numbered old new l held same now done is was =
     let account = account_of (desk.clean new) (desk.stands old) (desk.stands new) in
-    subst (λ w. WasWritten nr account l (contents w) now done) is (written_told nr (account_by desk old new) account l (contents held) now done (each_told desk old new) was)
+    subst (λ w. WasWritten numbered account l (contents w) now done) is (written_told numbered (account_by desk old new) account l (contents held) now done (each_told desk old new) was)
 
 -- A script of these parts, whose cluster file is read so.
 pub record HasParts (script : List ℕ) (f : ClusterFile) (requests : List ℕ) : Type 0 where
@@ -80,7 +80,7 @@ module _ (clean : Type 0) (old new : Standing) (script requests : List ℕ) (f :
       sym (numbered-requests (first_number has.cluster) requests) ∙ ap without_numbers split ∙ map-append (λ (one : ℕ × List ℕ). one.1) front left
 
   -- an output of answers to the first lines, with numbers or without
-  written_to : (nr : Bool) (written : List ℕ) → AnswersLines nr (AnswersAll clean old new) front written → IsWrittenTo nr script (without_numbers left) written
+  written_to : (numbered : Bool) (written : List ℕ) → AnswersLines numbered (AnswersAll clean old new) front written → IsWrittenTo numbered script (without_numbers left) written
   written_to false written so =
       let (answered, same) = answered_to clean old new f (request_lines requests) (without_numbers front) (without_numbers left) so.answers written is has.formed stands
       split-lines so.answered so.bytes in
@@ -100,13 +100,13 @@ module _ (clean : Type 0) (old new : Standing) (script requests : List ℕ) (f :
       }
 
 -- All lines are answered.
-written_whole : (nr : Bool) (script written : List ℕ) → IsWrittenTo nr script [] written → IsWrittenOf nr script written
+written_whole : (numbered : Bool) (script written : List ℕ) → IsWrittenTo numbered script [] written → IsWrittenOf numbered script written
 written_whole true script written so = so
 written_whole false script written so = so
 
 -- Where memory was wanting, and where a write failed, no more is to be said.
-lacked : (nr : Bool) (script left a b : Option (List ℕ)) → IfSome script (λ s. (written : List ℕ) × Appends a b written × LacksMemory nr s written) → IsRunOf nr script left a b (Err NoMemory)
-lacked nr script left a b so = record {
+lacked : (numbered : Bool) (script left a b : Option (List ℕ)) → IfSome script (λ s. (written : List ℕ) × Appends a b written × LacksMemory numbered s written) → IsRunOf numbered script left a b (Err NoMemory)
+lacked numbered script left a b so = record {
   output = tt;
   whole_script = tt;
   too_long = λ e. absurd cc;
@@ -119,8 +119,8 @@ lacked nr script left a b so = record {
   unavailable = λ e. absurd cc;
 }
 
-failed : (nr : Bool) (script left a b : Option (List ℕ)) → IfSome script (λ s. (written : List ℕ) × Appends a b written × IsCutShort nr s written) → IsRunOf nr script left a b (Err WriteFailed)
-failed nr script left a b so = record {
+failed : (numbered : Bool) (script left a b : Option (List ℕ)) → IfSome script (λ s. (written : List ℕ) × Appends a b written × IsCutShort numbered s written) → IsRunOf numbered script left a b (Err WriteFailed)
+failed numbered script left a b so = record {
   output = tt;
   whole_script = tt;
   too_long = λ e. absurd cc;
@@ -136,17 +136,17 @@ failed nr script left a b so = record {
 no_write_failed : NoMemory ≡ WriteFailed → ⊥
 no_write_failed e = absurd cc
 
-run_of : (nr : Bool) (clean : Type 0) (old new : Standing) (script left a b : Option (List ℕ)) (bytes requests : List ℕ) (f : ClusterFile) (done : Result ⊤ ScriptFault)
+run_of : (numbered : Bool) (clean : Type 0) (old new : Standing) (script left a b : Option (List ℕ)) (bytes requests : List ℕ) (f : ClusterFile) (done : Result ⊤ ScriptFault)
     → clean → IfSome script (λ all. bytes ≡ all) → IsAtEnd left → (has : HasParts bytes f requests) → old f.cluster (opening f)
-    → WasWritten nr (account_of clean old new) (numbered_lines (first_number has.cluster) requests) a b done → IsRunOf nr script left a b done
-run_of nr clean old new script left a b bytes requests f (Ok x) is whole end has stands w = record {
+    → WasWritten numbered (account_of clean old new) (numbered_lines (first_number has.cluster) requests) a b done → IsRunOf numbered script left a b done
+run_of numbered clean old new script left a b bytes requests f (Ok x) is whole end has stands w = record {
   output =
       let (written, appended, answered) = w.all in
       let l = numbered_lines (first_number has.cluster) requests in
       on_script _ script bytes whole (
         written,
         appended,
-        written_whole nr bytes written (written_to clean old new bytes requests f l [] is has stands (sym (append-nil l)) nr written answered),
+        written_whole numbered bytes written (written_to clean old new bytes requests f l [] is has stands (sym (append-nil l)) numbered written answered),
       );
   whole_script = end;
   too_long = λ e. absurd cc;
@@ -158,42 +158,42 @@ run_of nr clean old new script left a b bytes requests f (Ok x) is whole end has
   write_failed = λ e. absurd cc;
   unavailable = λ e. absurd cc;
 }
-run_of nr clean old new script left a b bytes requests f (Err fault) is whole end has stands w =
+run_of numbered clean old new script left a b bytes requests f (Err fault) is whole end has stands w =
     let c = w.early in
     elim w.faults [
       | inl lacks ↦ elim c.whole [
         | inl other ↦ absurd (no_write_failed (sym lacks ∙ other))
         | inr so ↦
             let (line, rest, split) = so.1 in
-            subst (λ e. IsRunOf nr script left a b (Err e)) (sym lacks)
-            (lacked nr script left a b (on_script _ script bytes whole (
+            subst (λ e. IsRunOf numbered script left a b (Err e)) (sym lacks)
+            (lacked numbered script left a b (on_script _ script bytes whole (
               c.written,
               c.appended,
               (
                 line.1,
                 without_numbers rest,
-                written_to clean old Anything bytes requests f so.0 (line ∷ rest) is has stands split nr c.written so.2,
+                written_to clean old Anything bytes requests f so.0 (line ∷ rest) is has stands split numbered c.written so.2,
               ),
             )))
       ]
       | inr fails ↦
           let (rest, split) = c.done in
-          subst (λ e. IsRunOf nr script left a b (Err e)) (sym fails)
-          (failed nr script left a b (on_script _ script bytes whole (
+          subst (λ e. IsRunOf numbered script left a b (Err e)) (sym fails)
+          (failed numbered script left a b (on_script _ script bytes whole (
             c.written,
             c.appended,
             (
               without_numbers rest,
               c.missing,
-              written_to clean old new bytes requests f c.lines rest is has stands split nr (c.written ++ c.missing) c.answered,
+              written_to clean old new bytes requests f c.lines rest is has stands split numbered (c.written ++ c.missing) c.answered,
             ),
           )))
     ]
 
 -- The first line behind the separator has this number.
-pub run_at : (nr : Bool) (clean : Type 0) (old new : Standing) (script left a b : Option (List ℕ)) (bytes requests : List ℕ) (f : ClusterFile) (done : Result ⊤ ScriptFault)
+pub run_at : (numbered : Bool) (clean : Type 0) (old new : Standing) (script left a b : Option (List ℕ)) (bytes requests : List ℕ) (f : ClusterFile) (done : Result ⊤ ScriptFault)
     → clean → IfSome script (λ all. bytes ≡ all) → IsAtEnd left → (has : HasParts bytes f requests) → old f.cluster (opening f) → (n : ℕ) → n ≡ first_number has.cluster
-    → WasWritten nr (account_of clean old new) (numbered_lines n requests) a b done → IsRunOf nr script left a b done
-run_at nr clean old new script left a b bytes requests f done is whole end has stands n first w =
-    run_of nr clean old new script left a b bytes requests f done is whole end has stands
-    (subst (λ (n : ℕ). WasWritten nr (account_of clean old new) (numbered_lines n requests) a b done) first w)
+    → WasWritten numbered (account_of clean old new) (numbered_lines n requests) a b done → IsRunOf numbered script left a b done
+run_at numbered clean old new script left a b bytes requests f done is whole end has stands n first w =
+    run_of numbered clean old new script left a b bytes requests f done is whole end has stands
+    (subst (λ (n : ℕ). WasWritten numbered (account_of clean old new) (numbered_lines n requests) a b done) first w)

@@ -114,12 +114,12 @@ module _ {D K : Type 0} (g : Ghosts D) (desk : Desk.Ghosts K) (leaves : K → Le
         × (first : K) × (last : K) × IsOver held rest left (desk.clean last) (desk.stands first) (desk.stands last)
         × (IsCleanLeft left → StopsBehindEach g desk leaves held deed first last))
 
-    ask : (db : Bor (List ℕ)) (nr : Bool) (done : Result ⊤ Fault) → comings.none → IsAsked nr desk held rest s.input.old s.input.new s.out done → Ends done s status
-        → Stopping (job.Ask db nr)
+    ask : (db : Bor (List ℕ)) (numbered : Bool) (done : Result ⊤ Fault) → comings.none → IsAsked numbered desk held rest s.input.old s.input.new s.out done → Ends done s status
+        → Stopping (job.Ask db numbered)
     unfolding IsAsked
-    ask db nr done none (inl (fault, failed, not, kept, silent)) ends = inl (not_asked desk held rest read comings s status done fault none failed not silent ends)
-    ask db nr done none (inr (asked, last, old, new, over, same, at_end, stops, has)) ends =
-        let (lines, answers, were, all) = answered_lines desk held rest read comings s status nr asked (ends.0 ∙ ap status_of same) has in
+    ask db numbered done none (inl (fault, failed, not, kept, silent)) ends = inl (not_asked desk held rest read comings s status done fault none failed not silent ends)
+    ask db numbered done none (inr (asked, last, old, new, over, same, at_end, stops, has)) ends =
+        let (lines, answers, were, all) = answered_lines desk held rest read comings s status numbered asked (ends.0 ∙ ap status_of same) has in
         inr (last, Lines lines answers, were, old, new, over, lines_stop last old new over lines answers all.1)
 
     serve : (db : Bor (List ℕ)) (port count seconds : ℕ) → Serves desk held rest read comings port count seconds s status → Stopping (job.Serve db port count seconds)
@@ -138,11 +138,11 @@ module _ {D K : Type 0} (g : Ghosts D) (desk : Desk.Ghosts K) (leaves : K → Le
 
     pub job_stops : (j : Job) → IsPerformed desk held rest read comings j s status → AnswersOn j → Stopping j
     unfolding IsPerformed
-    job_stops (job.Run nr) did on = absurd on
+    job_stops (job.Run numbered) did on = absurd on
     job_stops (job.Create db config) did on = absurd on
     job_stops (job.Migrate db) did on = absurd on
     job_stops (job.Serve db port count seconds) (did, none, kept) on = serve db port count seconds did
-    job_stops (job.Ask db nr) (done, did, ends, none, quiet) on = ask db nr done quiet did ends
+    job_stops (job.Ask db numbered) (done, did, ends, none, quiet) on = ask db numbered done quiet did ends
     job_stops (job.Report db query) did on = absurd on
     job_stops (job.Picture db variant since supplier) did on = absurd on
     job_stops (job.Deliver db delivery) did on = absurd on
