@@ -163,7 +163,10 @@ fn office_succeeds_where_memory_is_ample(rt: HostRuntime) {
 fn only_an_interrupted_read_is_tried_again(rt: HostRuntime) {
     let mut writer = Sink::new(rt.alloc());
     let mut reader = Source::new(Some(ErrorKind::Interrupted));
-    assert_eq!(rt; run_script(rt.alloc(), &mut reader, &mut writer, false), Ok(()));
+    assert_eq!(rt;
+        run_script(rt.alloc(), &mut reader, &mut writer, false),
+        Ok(())
+    );
     assert_eq!(rt; writer.taken.as_slice(), ANSWERS);
     for kind in FAILURES {
         let mut writer = Sink::new(rt.alloc());
