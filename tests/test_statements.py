@@ -13,8 +13,8 @@ from tests.lib.sql import TEXT, sources
 READ_WHOLE = {"register", "cluster", "cluster2", "suppliers", "variants"}
 # Registers of an earlier schema have its row; now none is added.
 LEFT_EMPTY = {"cluster"}
-# `ask_and_undo` in asking.rt is given its text by its callers.
-PASSED_ON = [("asking.rt", "sql")]
+# `ask_and_undo` in schema_number.rt is given its text by its callers.
+PASSED_ON = [("schema_number.rt", "sql")]
 
 CALL = re.compile(r"\.(?:execute|query)\w*\(\s*(\"|\w+)")
 # A text of two calls, which stands once in their file.

@@ -11,7 +11,7 @@ use Rattle.fr_base.specs.declared.desk.Desk as Desk
 use Rattle.fr_base.specs.declared.refusal.Refusal.{Refusal}
 use Rattle.fr_base.specs.declared.refusal.Refusal.TheVariants.{Unavailable}
 use Rattle.fr_base.specs.declared.request.Ask.{Ask}
-use Rattle.fr_office.specs.Answering.{Answers}
+use Rattle.fr_office.specs.Answers.{Answers}
 use Rattle.fr_world.specs.Held.{Standing}
 use Rattle.fr_cli.specs.Answering.{Account, AnswersAll, AnswersEach, AnswersLine, AnswersLines, EndsAnswer, IsStill, Reads, WasCutShort, account_by, account_of}
 use Rattle.fr_cli.specs.Numbered.{front_of, without_numbers}

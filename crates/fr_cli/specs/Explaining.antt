@@ -4,7 +4,7 @@ use Rattle.std.specs.Prelude.{◌≡◌, ◌++◌, ℕ, List, [], ◌∷◌, cod
 use Rattle.std.specs.Borrow.{Bor}
 use Rattle.std.specs.Global.{Vec}
 use Rattle.fr_guide.specs.Explaining.{Explains, ListsAlike, ListsAll}
-use Rattle.fr_guide.specs.Numbers.{meant_word}
+use Rattle.fr_guide.specs.RefusalNumbers.{meant_word}
 use Rattle.fr_cli.specs.declared.failure.Failure.{Failure}
 use Rattle.fr_cli.specs.declared.failure.Failure.TheVariants as failure
 use Rattle.fr_cli.specs.declared.fault.Fault.TheVariants.{NoMemory}

@@ -23,7 +23,7 @@ use Rattle.fr_store.specs.Opening.{RefusesFiles}
 use Rattle.fr_store.specs.Store.{IsRegisterFor, IsRegisterOf}
 use Rattle.fr_store.specs.StoreFiles.{HoldsBook, IsFound, database_of}
 use Rattle.fr_store.specs.declared.fault.StoreFault.{StoreFault}
-use Rattle.fr_tables.specs.Asking.{old_schema_number}
+use Rattle.fr_tables.specs.SchemaNumbers.{old_schema_number}
 
 -- As long as nobody else has written to the files, they hold the book, and so does whatever a crash leaves of them.
 abbrev pub LeavesBook : {D : Type 0} → Ghosts D → Files D → Cluster → Book → Type 0

@@ -6,7 +6,7 @@ pub mod FineFiles
 mod LineLemmas
 mod RowLemmas
 mod TopicLemmas
-mod NumberedLaws
+mod RefusalNumberLaws
 pub mod AdviceLaws
 pub mod RequestFileLaws
 mod PathLemmas

@@ -7,5 +7,5 @@ pub mod Requests
 pub mod Rows
 pub mod RequestFile
 pub mod Advice
-pub mod Numbers
+pub mod RefusalNumbers
 pub mod Paths

@@ -7,7 +7,7 @@ use Rattle.std.specs.Result.{is_ok}
 use Rattle.std.specs.Str.{bytes_eq}
 use Rattle.fr_base.specs.ImportRows.{number}
 use Rattle.fr_base.specs.Names.{is_name}
-use Rattle.fr_guide.specs.Numbers.{meant_word}
+use Rattle.fr_guide.specs.RefusalNumbers.{meant_word}
 use Rattle.fr_guide.specs.Topics.{is_explained}
 
 -- the parts of a path: what stands before, between and behind its slashes

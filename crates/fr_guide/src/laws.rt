@@ -1,7 +1,7 @@
 //! Laws of the words and numbers that are explained. Laws of advice on requests, rows and files: a
 //! fault is told exactly where the register refuses the text, whatever it holds.
 ghost use Rattle.fr_guide.specs.Advice.{AdviceIsExact};
-ghost use Rattle.fr_guide.specs.Numbers.{EachNumberIsNamed};
+ghost use Rattle.fr_guide.specs.RefusalNumbers.{EachNumberIsNamed};
 ghost use Rattle.fr_guide.specs.Laws.{EachConfigFaultIsExplained, EachRefusalIsExplained, FineFilesAreTaken, FineRowsAreTaken, MisformedRequestsAreRefused};
 
 /// The name of each refusal is explained, also that of an import's refused row.

@@ -8,9 +8,9 @@ mod finding;
 mod form;
 mod laws;
 mod line_faults;
-mod numbers;
 mod paths;
 mod place;
+mod refusal_numbers;
 mod request_file;
 mod requests;
 mod rows;
@@ -27,8 +27,8 @@ pub use laws::{
     misformed_requests_are_refused,
 };
 pub use line_faults::{LineFaults, are_fine, fault_lines, one_fault};
-pub use numbers::meant_word;
 pub use paths::path_faults;
+pub use refusal_numbers::meant_word;
 pub use request_file::request_file_faults;
 pub use requests::request_faults;
 pub use rows::row_faults;

@@ -7,7 +7,7 @@ ghost use Rattle.fr_guide.specs.Paths.{forms, has_form, is_fine_part, is_fine_pa
 
 use crate::explain::explains;
 use crate::line_faults::one_fault;
-use crate::numbers::meant_word;
+use crate::refusal_numbers::meant_word;
 use crate::shown::shown;
 use fr_base::{Name, NoMemory};
 use fr_text::read_number;

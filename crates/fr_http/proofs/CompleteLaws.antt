@@ -17,9 +17,9 @@ use Rattle.fr_http.specs.Complete.{IsCut, IsCutOutcome, IsEnough, IsKnown, IsOpe
 use Rattle.fr_http.specs.Head.{BeginsWith, HasNoHead, HeadData, key_of, max_fields, max_head, said}
 use Rattle.fr_http.specs.Outcome.{HeadFails, IsOutcome, Wanted, asked_by, by_engine, continue_if, due, front, holder, interim, outcome_of, plan_of}
 use Rattle.fr_http.specs.Received.{shown}
-use Rattle.fr_http.specs.Routes.{matter_by, method_of, path_of}
-use Rattle.fr_http.specs.declared.asking.Exchange.{Exchange}
-use Rattle.fr_http.specs.declared.asking.Matter.{Matter}
+use Rattle.fr_http.specs.Routes.{method_of, operation_by, path_of}
+use Rattle.fr_http.specs.declared.exchange.Exchange.{Exchange}
+use Rattle.fr_http.specs.declared.exchange.Operation.{Operation}
 use Rattle.fr_http.specs.declared.fault.LinkFault.TheVariants.{NoMemory, ReadFailed, TooManyReads, Truncated, WriteFailed}
 use Rattle.fr_http.specs.declared.fault.Rejection.{Rejection}
 use Rattle.fr_http.specs.declared.fault.Rejection.TheVariants.{BadRequest, HeadTooLarge, LengthRequired, MethodNotAllowed, NotFound, NotImplemented, PayloadTooLarge}
@@ -71,13 +71,13 @@ same_body who head rest other w plan same = rw plan (rw same refl)
 -- ---- a whole body is not cut short
 
 -- the last lines of an outcome
-abbrev ends : (List ℕ → Option Actor) → HeadData → Method → Result Matter Unasked → Result Exchange Unasked
+abbrev ends : (List ℕ → Option Actor) → HeadData → Method → Result Operation Unasked → Result Exchange Unasked
 ends who head method made = do
   what ← made
   actor ← holder who (key_of head) or Refused UnknownKey
   Ok (asked_by actor method what)
 
-found_or_not : (found : Option Actor) (what : Matter) (method : Method) → ((found or Refused UnknownKey) >>= (λ actor. Ok (asked_by actor method what))) ≢ Err (Fault Truncated)
+found_or_not : (found : Option Actor) (what : Operation) (method : Method) → ((found or Refused UnknownKey) >>= (λ actor. Ok (asked_by actor method what))) ≢ Err (Fault Truncated)
 unfolding ◌>>=◌ ◌or◌
 found_or_not None what method is = absurd cc
 found_or_not (Some actor) what method is = absurd cc
@@ -89,7 +89,7 @@ cause_of : Result Exchange Unasked → Unasked
 cause_of (Ok exchange) = Page
 cause_of (Err unasked) = unasked
 
-made_or_not : (who : List ℕ → Option Actor) (head : HeadData) (method : Method) (made : Result Matter Unasked)
+made_or_not : (who : List ℕ → Option Actor) (head : HeadData) (method : Method) (made : Result Operation Unasked)
     → ((unasked : Unasked) → made ≡ Err unasked → is_fault unasked ≡ false) → ends who head method made ≢ Err (Fault Truncated)
 unfolding ◌>>=◌ cause_of
 made_or_not who head method (Ok what) why is = found_or_not (holder who (key_of head)) what method is
@@ -99,8 +99,8 @@ whole : (who : List ℕ → Option Actor) (head : HeadData) (rest body : List �
     → outcome_of who head rest ≢ Err (Fault Truncated)
 unfolding outcome_of ◌>>=◌ ◌>>◌ ◌or◌
 whole who head rest body w plan there is =
-    let ended : ends who head (method_of w.route) (matter_by w.route (path_of head.target) body) ≡ outcome_of who head rest = rw plan (rw there refl) in
-    made_or_not who head (method_of w.route) (matter_by w.route (path_of head.target) body) (why_not w.route (path_of head.target) body) (ended ∙ is)
+    let ended : ends who head (method_of w.route) (operation_by w.route (path_of head.target) body) ≡ outcome_of who head rest = rw plan (rw there refl) in
+    made_or_not who head (method_of w.route) (operation_by w.route (path_of head.target) body) (why_not w.route (path_of head.target) body) (ended ∙ is)
 
 -- ---- what is needed behind a head
 

@@ -19,7 +19,7 @@ use Rattle.fr_http.specs.Connection.{HasDealt, HasDrawn}
 use Rattle.fr_guide.specs.declared.advice.Subject.{Subject}
 use Rattle.fr_http.specs.Exchanges.{Advised, AdvisesOn, Answered, Drawn}
 use Rattle.fr_http.specs.Reply.{Reply, answer_reply, page_reply}
-use Rattle.fr_http.specs.declared.asking.Exchange.TheVariants as exchange
+use Rattle.fr_http.specs.declared.exchange.Exchange.TheVariants as exchange
 use Rattle.fr_http.specs.declared.method.Method.{Method}
 use Rattle.fr_http.specs.declared.method.Method.TheVariants.{Get}
 

@@ -18,11 +18,11 @@ use Rattle.fr_base.proofs.AloneSteps.{step-alone, step-not_mine}
 use Rattle.fr_http.specs.Exchanges.{Advised, AreExchanged, Answered, Asks, Deals, Dealing, Drawn, Exchanged, IsReplied, IsUnasked, asked_in, is_own, own_exchanges}
 use Rattle.fr_http.specs.Head.{HeadData, key_of, said}
 use Rattle.fr_http.specs.Outcome.{IsOutcome, asked_by, by_engine, front, holder, outcome_of, plan_of}
-use Rattle.fr_http.specs.Routes.{matter_by, method_of, path_of}
-use Rattle.fr_http.specs.declared.asking.Exchange.{Exchange}
-use Rattle.fr_http.specs.declared.asking.Exchange.TheVariants as exchange
-use Rattle.fr_http.specs.declared.asking.Matter.{Matter}
-use Rattle.fr_http.specs.declared.asking.Matter.TheVariants as matter
+use Rattle.fr_http.specs.Routes.{method_of, operation_by, path_of}
+use Rattle.fr_http.specs.declared.exchange.Exchange.{Exchange}
+use Rattle.fr_http.specs.declared.exchange.Exchange.TheVariants as exchange
+use Rattle.fr_http.specs.declared.exchange.Operation.{Operation}
+use Rattle.fr_http.specs.declared.exchange.Operation.TheVariants as operation
 use Rattle.fr_http.specs.declared.fault.Unasked.{Unasked}
 use Rattle.fr_http.specs.declared.fault.Unasked.TheVariants.{Refused, Fault}
 use Rattle.fr_http.specs.declared.fault.LinkFault.{LinkFault}
@@ -51,18 +51,18 @@ actor_in other (Ok exchange) = sender exchange
 actor_in other (Err unasked) = other
 
 -- the last line: who asks, if there is someone
-abbrev asks_found : Option Actor → Matter → Method → Result Exchange Unasked
+abbrev asks_found : Option Actor → Operation → Method → Result Exchange Unasked
 asks_found found what method = (found or Refused UnknownKey) >>= λ actor. Ok (asked_by actor method what)
 
 module _ (who alone : List ℕ → Option Actor) (exchange : Exchange) (heard : (key : List ℕ) → who key ≡ Some (sender exchange) → alone key ≡ Some (sender exchange)) where
-  is_found : (found : Option Actor) (what : Matter) (method : Method) → asks_found found what method ≡ Ok exchange → found ≡ Some (sender exchange)
+  is_found : (found : Option Actor) (what : Operation) (method : Method) → asks_found found what method ≡ Ok exchange → found ≡ Some (sender exchange)
   unfolding ◌>>=◌ ◌or◌ actor_in
   is_found None what method is = absurd cc
-  is_found (Some actor) (matter.Request request) method is = ap Some (ap (actor_in actor) is)
-  is_found (Some actor) (matter.Picture variant since) method is = ap Some (ap (actor_in actor) is)
-  is_found (Some actor) (matter.Advice subject text) method is = ap Some (ap (actor_in actor) is)
+  is_found (Some actor) (operation.Request request) method is = ap Some (ap (actor_in actor) is)
+  is_found (Some actor) (operation.Picture variant since) method is = ap Some (ap (actor_in actor) is)
+  is_found (Some actor) (operation.Advice subject text) method is = ap Some (ap (actor_in actor) is)
 
-  held_alike : (key : Option (List ℕ)) (what : Matter) (method : Method) → asks_found (holder who key) what method ≡ Ok exchange → asks_found (holder alone key) what method ≡ Ok exchange
+  held_alike : (key : Option (List ℕ)) (what : Operation) (method : Method) → asks_found (holder who key) what method ≡ Ok exchange → asks_found (holder alone key) what method ≡ Ok exchange
   held_alike None what method is = is
   held_alike (Some key) what method is =
       let found = is_found (who key) what method is in
@@ -73,7 +73,7 @@ module _ (who alone : List ℕ → Option Actor) (exchange : Exchange) (heard : 
   asks_alike head rest =
       bind_alike (by_engine (plan_of head)) _ _ exchange (λ plan.
       bind_alike (front plan.length rest or Fault Truncated) _ _ exchange (λ body.
-      bind_alike (matter_by plan.route (path_of head.target) body) _ _ exchange (λ what.
+      bind_alike (operation_by plan.route (path_of head.target) body) _ _ exchange (λ what.
       held_alike (key_of head) what (method_of plan.route))))
 
   outcome_alike : (bytes before : List ℕ) → IsOutcome who bytes before (Ok exchange) → IsOutcome alone bytes before (Ok exchange)
@@ -100,12 +100,12 @@ cause_in other (Err unasked) = unasked
 
 -- a key that is nobody's for the one is nobody's for the other, where that is why nothing is asked
 module _ (who alone : List ℕ → Option Actor) (unasked : Unasked) (nobodys : (key : List ℕ) → unasked ≡ Refused UnknownKey → who key ≡ None → alone key ≡ None) where
-  not_found : (found : Option Actor) (what : Matter) (method : Method) → asks_found found what method ≡ Err unasked → (unasked ≡ Refused UnknownKey) × (found ≡ None)
+  not_found : (found : Option Actor) (what : Operation) (method : Method) → asks_found found what method ≡ Err unasked → (unasked ≡ Refused UnknownKey) × (found ≡ None)
   unfolding ◌>>=◌ ◌or◌ cause_in
   not_found None what method is = (sym (ap (cause_in unasked) is), refl)
   not_found (Some actor) what method is = absurd cc
 
-  refused_alike : (key : Option (List ℕ)) (what : Matter) (method : Method) → asks_found (holder who key) what method ≡ Err unasked → asks_found (holder alone key) what method ≡ Err unasked
+  refused_alike : (key : Option (List ℕ)) (what : Operation) (method : Method) → asks_found (holder who key) what method ≡ Err unasked → asks_found (holder alone key) what method ≡ Err unasked
   refused_alike None what method is = is
   refused_alike (Some key) what method is =
       let none = not_found (who key) what method is in
@@ -116,7 +116,7 @@ module _ (who alone : List ℕ → Option Actor) (unasked : Unasked) (nobodys : 
   unasked_alike head rest =
       bind_refused_alike (by_engine (plan_of head)) _ _ unasked (λ plan.
       bind_refused_alike (front plan.length rest or Fault Truncated) _ _ unasked (λ body.
-      bind_refused_alike (matter_by plan.route (path_of head.target) body) _ _ unasked (λ what.
+      bind_refused_alike (operation_by plan.route (path_of head.target) body) _ _ unasked (λ what.
       refused_alike (key_of head) what (method_of plan.route))))
 
   unasked_outcome_alike : (bytes before : List ℕ) → IsOutcome who bytes before (Err unasked) → IsOutcome alone bytes before (Err unasked)

@@ -22,12 +22,12 @@ use Rattle.std.specs.Option.{option_map}
 use Rattle.fr_http.specs.Head.{BeginsWith, HeadData, key_of, said}
 use Rattle.fr_http.specs.Outcome.{IsOutcome, Wanted, asked_by, by_engine, front, holder, interim, outcome_of, plan_of}
 use Rattle.fr_http.specs.OutcomeLaws.{asks_explanation, is_explanation, is_worded, plans_explanation, was_lacking}
-use Rattle.fr_http.specs.Routes.{asked_or_refused, matter_by, method_of, number_in, other_variant, part, path_of}
+use Rattle.fr_http.specs.Routes.{asked_or_refused, method_of, number_in, operation_by, other_variant, part, path_of}
 use Rattle.fr_http.specs.Reply.{Reply, answer_reply, print}
-use Rattle.fr_http.specs.declared.asking.Exchange.{Exchange}
-use Rattle.fr_http.specs.declared.asking.Exchange.TheVariants as asked
-use Rattle.fr_http.specs.declared.asking.Matter.{Matter}
-use Rattle.fr_http.specs.declared.asking.Matter.TheVariants as matter
+use Rattle.fr_http.specs.declared.exchange.Exchange.{Exchange}
+use Rattle.fr_http.specs.declared.exchange.Exchange.TheVariants as asked
+use Rattle.fr_http.specs.declared.exchange.Operation.{Operation}
+use Rattle.fr_http.specs.declared.exchange.Operation.TheVariants as operation
 use Rattle.fr_http.specs.declared.fault.LinkFault.TheVariants.{Truncated}
 use Rattle.fr_http.specs.declared.fault.Rejection.{Rejection}
 use Rattle.fr_http.specs.declared.fault.Unasked.{Unasked}
@@ -88,41 +88,41 @@ tells (Err unasked) = is_told unasked
 
 module _ (who : List ℕ → Option Actor) where
   -- the last lines of an outcome
-  abbrev found_by : Option Actor → Method → Matter → Result Exchange Unasked
+  abbrev found_by : Option Actor → Method → Operation → Result Exchange Unasked
   found_by found method what = (found or Refused UnknownKey) >>= λ actor. Ok (asked_by actor method what)
 
-  found-plain : (found : Option Actor) (method : Method) (what : Matter) → tells (found_by found method what) ≡ false
+  found-plain : (found : Option Actor) (method : Method) (what : Operation) → tells (found_by found method what) ≡ false
   unfolding ◌>>=◌ ◌or◌
   found-plain None method what = refl
   found-plain (Some actor) method what = refl
 
   text-plain : (asked : Option Request) (found : Option Actor) (method : Method) → tells (asked_or_refused asked >>= found_by found method) ≡ false
   unfolding ◌>>=◌
-  text-plain (Some request) found method = found-plain found method (matter.Request request)
+  text-plain (Some request) found method = found-plain found method (operation.Request request)
   text-plain None found method = refl
 
-  by_route : (route : Route) (path body : List ℕ) (found : Option Actor) (method : Method) → is_explanation route ≡ false → tells (matter_by route path body >>= found_by found method) ≡ false
-  unfolding matter_by ◌>>=◌
+  by_route : (route : Route) (path body : List ℕ) (found : Option Actor) (method : Method) → is_explanation route ≡ false → tells (operation_by route path body >>= found_by found method) ≡ false
+  unfolding operation_by ◌>>=◌
   by_route OwnPage path body found method plain = refl
   by_route Explanations path body found method plain = absurd (true≢false plain)
   by_route Explanation path body found method plain = absurd (true≢false plain)
-  by_route (Advice subject) path body found method plain = found-plain found method (matter.Advice subject body)
+  by_route (Advice subject) path body found method plain = found-plain found method (operation.Advice subject body)
   by_route Commands path body found method plain = text-plain (request_of body) found method
-  by_route Import path body found method plain = found-plain found method (matter.Request (request.Import (part named.Variant path) (part named.Label path) body))
-  by_route (Replace whole) path body found method plain = found-plain found method (matter.Request (request.Replace (part named.Variant path) whole body))
-  by_route (Try how) path body found method plain = found-plain found method (matter.Request (request.Try (part named.Variant path) how body))
+  by_route Import path body found method plain = found-plain found method (operation.Request (request.Import (part named.Variant path) (part named.Label path) body))
+  by_route (Replace whole) path body found method plain = found-plain found method (operation.Request (request.Replace (part named.Variant path) whole body))
+  by_route (Try how) path body found method plain = found-plain found method (operation.Request (request.Try (part named.Variant path) how body))
   by_route (Query asked) path body found method plain =
       text-plain (option_map request.Query (query_by (λ name. part name path) (λ name. number_in name path) asked)) found method
-  by_route (Picture since) path body found method plain = found-plain found method (matter.Picture (part named.Variant path) (other_variant since path))
+  by_route (Picture since) path body found method plain = found-plain found method (operation.Picture (part named.Variant path) (other_variant since path))
 
   by_body : (body : Option (List ℕ)) (route : Route) (path : List ℕ) (found : Option Actor) (method : Method) → is_explanation route ≡ false
-      → tells ((body or Fault Truncated) >>= λ body. matter_by route path body >>= found_by found method) ≡ false
+      → tells ((body or Fault Truncated) >>= λ body. operation_by route path body >>= found_by found method) ≡ false
   unfolding ◌>>=◌ ◌or◌
   by_body None route path found method plain = refl
   by_body (Some body) route path found method plain = by_route route path body found method plain
 
   by_plan : (head : HeadData) (rest : List ℕ) (plan : Result Wanted Rejection) → plans_explanation plan ≡ false
-      → tells (by_engine plan >>= λ plan. (front plan.length rest or Fault Truncated) >>= λ body. matter_by plan.route (path_of head.target) body >>= found_by (holder who (key_of head)) (method_of plan.route)) ≡ false
+      → tells (by_engine plan >>= λ plan. (front plan.length rest or Fault Truncated) >>= λ body. operation_by plan.route (path_of head.target) body >>= found_by (holder who (key_of head)) (method_of plan.route)) ≡ false
   unfolding ◌>>=◌
   by_plan head rest (Ok wanted) plain = by_body (front wanted.length rest) wanted.route (path_of head.target) (holder who (key_of head)) (method_of wanted.route) plain
   by_plan head rest (Err rejection) plain = refl

@@ -12,7 +12,7 @@ use Rattle.fr_base.specs.declared.actor.Actor.{Actor}
 use Rattle.fr_base.specs.declared.refusal.Refusal.TheVariants.{BadText, UnknownKey}
 use Rattle.fr_base.specs.declared.request.Request.{Request}
 use Rattle.fr_picture.specs.Reports.{Standing}
-use Rattle.fr_http.specs.Asking.{FindsActor, MakesMatter}
+use Rattle.fr_http.specs.Operations.{FindsActor, MakesOperation}
 use Rattle.std.specs.Prelude.{IfOk}
 use Rattle.fr_http.specs.Reply.{Reply, print}
 use Rattle.fr_http.specs.Replying.{IsReply}
@@ -23,9 +23,9 @@ use Rattle.fr_http.specs.Exchanges.{Deals, Dealing, IsAnswered, IsBrokenOff, IsE
 use Rattle.fr_http.specs.Head.{BeginsWith, HeadData, key_of, max_head, said}
 use Rattle.fr_http.specs.Outcome.{IsOutcome, Wanted, asked_before, asked_by, continue_if, continue_reply, due, front, holder, interim, is_ask, outcome_of, plan_of}
 use Rattle.fr_http.specs.Reading.{HasReceived, LacksBody}
-use Rattle.fr_http.specs.Routes.{asked_or_refused, matter_by, method_of, path_of}
-use Rattle.fr_http.specs.declared.asking.Exchange.{Exchange}
-use Rattle.fr_http.specs.declared.asking.Matter.{Matter}
+use Rattle.fr_http.specs.Routes.{asked_or_refused, method_of, operation_by, path_of}
+use Rattle.fr_http.specs.declared.exchange.Exchange.{Exchange}
+use Rattle.fr_http.specs.declared.exchange.Operation.{Operation}
 use Rattle.fr_http.specs.declared.fault.LinkFault.{LinkFault}
 use Rattle.fr_http.specs.declared.fault.LinkFault.TheVariants.{Truncated, ReadFailed, TooManyReads, WriteFailed, NoMemory}
 use Rattle.fr_http.specs.declared.fault.Rejection.{Rejection}
@@ -46,7 +46,7 @@ unfolding outcome_of ◌>>=◌ ◌>>◌ ◌or◌
 cut who head rest w h none = rw h (rw none refl)
 
 no_text : (who : List ℕ → Option Actor) (head : HeadData) (rest body : List ℕ) (w : Wanted) (unasked : Unasked) → plan_of head ≡ Ok w → front w.length rest ≡ Some body
-    → matter_by w.route (path_of head.target) body ≡ Err unasked → outcome_of who head rest ≡ Err unasked
+    → operation_by w.route (path_of head.target) body ≡ Err unasked → outcome_of who head rest ≡ Err unasked
 unfolding outcome_of ◌>>=◌ ◌>>◌ ◌or◌
 no_text who head rest body w unasked h there none = rw h (rw there (rw none refl))
 
@@ -55,7 +55,7 @@ abbrev pub is_fault : Unasked → Bool
 is_fault (Fault fault) = true
 is_fault _ = false
 
-abbrev has_fault : Result Matter Unasked → Bool
+abbrev has_fault : Result Operation Unasked → Bool
 has_fault (Ok what) = false
 has_fault (Err unasked) = is_fault unasked
 
@@ -63,30 +63,30 @@ text_no_fault : (asked : Option Request) → has_fault (asked_or_refused asked) 
 text_no_fault (Some request) = refl
 text_no_fault None = refl
 
-matter_no_fault : (route : Route) (path body : List ℕ) → has_fault (matter_by route path body) ≡ false
-unfolding matter_by
-matter_no_fault OwnPage path body = refl
-matter_no_fault Explanations path body = refl
-matter_no_fault Explanation path body = refl
-matter_no_fault (Advice subject) path body = refl
-matter_no_fault Commands path body = text_no_fault _
-matter_no_fault Import path body = refl
-matter_no_fault (Replace whole) path body = refl
-matter_no_fault (Try how) path body = refl
-matter_no_fault (Query asked) path body = text_no_fault _
-matter_no_fault (Picture since) path body = refl
+operation_no_fault : (route : Route) (path body : List ℕ) → has_fault (operation_by route path body) ≡ false
+unfolding operation_by
+operation_no_fault OwnPage path body = refl
+operation_no_fault Explanations path body = refl
+operation_no_fault Explanation path body = refl
+operation_no_fault (Advice subject) path body = refl
+operation_no_fault Commands path body = text_no_fault _
+operation_no_fault Import path body = refl
+operation_no_fault (Replace whole) path body = refl
+operation_no_fault (Try how) path body = refl
+operation_no_fault (Query asked) path body = text_no_fault _
+operation_no_fault (Picture since) path body = refl
 
 -- a route asks nothing for no fault
-pub why_not : (route : Route) (path body : List ℕ) (unasked : Unasked) → matter_by route path body ≡ Err unasked → is_fault unasked ≡ false
-why_not route path body unasked is = sym (ap has_fault is) ∙ matter_no_fault route path body
+pub why_not : (route : Route) (path body : List ℕ) (unasked : Unasked) → operation_by route path body ≡ Err unasked → is_fault unasked ≡ false
+why_not route path body unasked is = sym (ap has_fault is) ∙ operation_no_fault route path body
 
-nobody : (who : List ℕ → Option Actor) (head : HeadData) (rest body : List ℕ) (w : Wanted) (what : Matter) → plan_of head ≡ Ok w → front w.length rest ≡ Some body
-    → matter_by w.route (path_of head.target) body ≡ Ok what → holder who (key_of head) ≡ None → outcome_of who head rest ≡ Err (Refused UnknownKey)
+nobody : (who : List ℕ → Option Actor) (head : HeadData) (rest body : List ℕ) (w : Wanted) (what : Operation) → plan_of head ≡ Ok w → front w.length rest ≡ Some body
+    → operation_by w.route (path_of head.target) body ≡ Ok what → holder who (key_of head) ≡ None → outcome_of who head rest ≡ Err (Refused UnknownKey)
 unfolding outcome_of ◌>>=◌ ◌>>◌ ◌or◌
 nobody who head rest body w what h there made none = rw h (rw there (rw made (rw none refl)))
 
-asks : (who : List ℕ → Option Actor) (head : HeadData) (rest body : List ℕ) (w : Wanted) (what : Matter) (actor : Actor) → plan_of head ≡ Ok w
-    → front w.length rest ≡ Some body → matter_by w.route (path_of head.target) body ≡ Ok what → holder who (key_of head) ≡ Some actor
+asks : (who : List ℕ → Option Actor) (head : HeadData) (rest body : List ℕ) (w : Wanted) (what : Operation) (actor : Actor) → plan_of head ≡ Ok w
+    → front w.length rest ≡ Some body → operation_by w.route (path_of head.target) body ≡ Ok what → holder who (key_of head) ≡ Some actor
     → outcome_of who head rest ≡ Ok (asked_by actor (method_of w.route) what)
 unfolding outcome_of ◌>>=◌ ◌>>◌ ◌or◌
 asks who head rest body w what actor h there made found = rw h (rw there (rw made (rw found refl)))
@@ -278,17 +278,17 @@ module _ (stands : Standing) (input mid left held now : Option (List ℕ)) (rece
   no_body invited behind (NoMemory asked) lacks = by_head invited behind _ (lacks, is_interim invited)
 
   -- a request's text is none, or what is asked for is the engine's own, or memory was wanting
-  pub no_matter : (invited : Invited input mid held now received w) → Behind mid left received w more → (body : List ℕ) → front w.length (received.1 ++ more) ≡ Some body
-      → (unasked : Unasked) → MakesMatter w.route (path_of received.0.target) body (Err unasked) → HasTaken stands input left held now (Err unasked)
-  no_matter invited behind body there unasked (inl lacks) =
+  pub no_operation : (invited : Invited input mid held now received w) → Behind mid left received w more → (body : List ℕ) → front w.length (received.1 ++ more) ≡ Some body
+      → (unasked : Unasked) → MakesOperation w.route (path_of received.0.target) body (Err unasked) → HasTaken stands input left held now (Err unasked)
+  no_operation invited behind body there unasked (inl lacks) =
       subst (λ u. HasTaken stands input left held now (Err u)) (sym lacks) (by_head invited behind _ (refl, is_interim invited))
-  no_matter invited behind body there unasked (inr none) =
+  no_operation invited behind body there unasked (inr none) =
       by_head invited behind (Err unasked) (takes_so stands _ _ left unasked (why_not w.route (path_of received.0.target) body unasked none) (is_interim invited)
       (λ c b s i. outcome_with invited (actor_of c b) (Err unasked) (no_text (actor_of c b) received.0 (received.1 ++ more) body w unasked invited.plan there none)))
 
   -- the key is nobody's
   pub no_actor : (invited : Invited input mid held now received w) → Behind mid left received w more → (body : List ℕ) → front w.length (received.1 ++ more) ≡ Some body
-      → (what : Matter) → matter_by w.route (path_of received.0.target) body ≡ Ok what → FindsActor stands received.0 None
+      → (what : Operation) → operation_by w.route (path_of received.0.target) body ≡ Ok what → FindsActor stands received.0 None
       → HasTaken stands input left held now (Err (Refused UnknownKey))
   no_actor invited behind body there what made none =
       by_head invited behind _ (
@@ -299,7 +299,7 @@ module _ (stands : Standing) (input mid left held now : Option (List ℕ)) (rece
 
   -- the register is to be asked
   pub to_ask : (invited : Invited input mid held now received w) → Behind mid left received w more → (body : List ℕ) → front w.length (received.1 ++ more) ≡ Some body
-      → (what : Matter) → matter_by w.route (path_of received.0.target) body ≡ Ok what → (actor : Actor) → FindsActor stands received.0 (Some actor)
+      → (what : Operation) → operation_by w.route (path_of received.0.target) body ≡ Ok what → (actor : Actor) → FindsActor stands received.0 (Some actor)
       → HasTaken stands input left held now (Ok (asked_by actor (method_of w.route) what))
   to_ask invited behind body there what made actor found =
       by_head invited behind _ (

@@ -20,11 +20,11 @@ use Rattle.fr_text.specs.Report.{frame_record, header_line, lines_of, lines_of_r
 use Rattle.fr_text.specs.Styles.{plain_lines, json_lines}
 use Rattle.fr_text.specs.Words.{right_in}
 use Rattle.fr_http.specs.Head.{HeadData, values}
-use Rattle.fr_http.specs.Routes.{matter_by, method_of, of_variant, part, place, report, route_of, router, table, text_of_method, with_route}
+use Rattle.fr_http.specs.Routes.{method_of, of_variant, operation_by, part, place, report, route_of, router, table, text_of_method, with_route}
 use Rattle.fr_http.specs.Outcome.{due, interim, length_in, outcome_of, plan_of}
 use Rattle.fr_http.specs.Reply.{answer_reply, body_of, engine_reply, page_reply, print, status_line}
-use Rattle.fr_http.specs.declared.asking.Exchange.TheVariants as exchange
-use Rattle.fr_http.specs.declared.asking.Matter.TheVariants as matter
+use Rattle.fr_http.specs.declared.exchange.Exchange.TheVariants as exchange
+use Rattle.fr_http.specs.declared.exchange.Operation.TheVariants as operation
 use Rattle.fr_http.specs.declared.fault.Rejection.TheVariants.{BadRequest, NotFound, MethodNotAllowed, LengthRequired, PayloadTooLarge, HeadTooLarge, NotImplemented}
 use Rattle.fr_http.specs.declared.fault.Unasked.TheVariants.{Page, Refused, Fault}
 use Rattle.fr_http.specs.declared.fault.LinkFault.TheVariants.{Truncated}
@@ -42,7 +42,7 @@ use Rattle.fr_http.specs.declared.routes.Route.TheVariants.{Commands, Import, Re
 
 -- what an answer unfolds to compute these definitions
 unfoldable rows : ⊤
-unfolding seek param_step scan values part matter_by route_of router table with_route interim due length_in outcome_of plan_of answer_reply engine_reply page_reply body_of print ◌>>=◌ ◌>>◌ ◌or◌ refuse◌when◌ report_of text_of text_of_refusal lines_of lines_of_rows frame_record header_line node_line schedule_line number plain_lines json_lines right_in digits
+unfolding seek param_step scan values part operation_by route_of router table with_route interim due length_in outcome_of plan_of answer_reply engine_reply page_reply body_of print ◌>>=◌ ◌>>◌ ◌or◌ refuse◌when◌ report_of text_of text_of_refusal lines_of lines_of_rows frame_record header_line node_line schedule_line number plain_lines json_lines right_in digits
 rows = tt
 
 abbrev head : List ℕ → List ℕ → List (List ℕ × List ℕ) → HeadData
@@ -141,33 +141,33 @@ pub no_routes :
 unfolding rows
 no_routes = refl
 
-pub matters :
-    matter_by Import (codes "/v1/variants/v1/imports/a") (codes "x")
-    ∷ matter_by (of_variant Schedule) (codes "/v1/variants/v1/schedule") []
-    ∷ matter_by (of_variant (Layout named.Frame)) (codes "/v1/variants/v1/frames/f1/layout") []
-    ∷ matter_by (Picture false) (codes "/v1/variants/v1/picture") [] ∷ matter_by (Picture true) (codes "/v1/variants/v2/since/v1/picture") []
+pub operations :
+    operation_by Import (codes "/v1/variants/v1/imports/a") (codes "x")
+    ∷ operation_by (of_variant Schedule) (codes "/v1/variants/v1/schedule") []
+    ∷ operation_by (of_variant (Layout named.Frame)) (codes "/v1/variants/v1/frames/f1/layout") []
+    ∷ operation_by (Picture false) (codes "/v1/variants/v1/picture") [] ∷ operation_by (Picture true) (codes "/v1/variants/v2/since/v1/picture") []
     ∷ []
-    ≡ Ok (matter.Request (request.Import (codes "v1") (codes "a") (codes "x"))) ∷ Ok (matter.Request (request.Query (OfVariant (codes "v1") Schedule)))
-    ∷ Ok (matter.Request (request.Query (OfVariant (codes "v1") (Layout (codes "f1"))))) ∷ Ok (matter.Picture (codes "v1") None)
-    ∷ Ok (matter.Picture (codes "v2") (Some (codes "v1"))) ∷ []
+    ≡ Ok (operation.Request (request.Import (codes "v1") (codes "a") (codes "x"))) ∷ Ok (operation.Request (request.Query (OfVariant (codes "v1") Schedule)))
+    ∷ Ok (operation.Request (request.Query (OfVariant (codes "v1") (Layout (codes "f1"))))) ∷ Ok (operation.Picture (codes "v1") None)
+    ∷ Ok (operation.Picture (codes "v2") (Some (codes "v1"))) ∷ []
 unfolding rows
-matters = refl
+operations = refl
 
-pub matters_of_rows :
-    matter_by (Replace false) (codes "/v1/variants/v1/rows") (codes "x")
-    ∷ matter_by (of_variant (Room named.Frame named.Repetition)) (codes "/v1/variants/v1/frames/f1/room/0000000004") []
-    ∷ matter_by (of_variant (Export header.Signals named.Part)) (codes "/v1/variants/v1/exports/signals/4294967295") []
+pub operations_of_rows :
+    operation_by (Replace false) (codes "/v1/variants/v1/rows") (codes "x")
+    ∷ operation_by (of_variant (Room named.Frame named.Repetition)) (codes "/v1/variants/v1/frames/f1/room/0000000004") []
+    ∷ operation_by (of_variant (Export header.Signals named.Part)) (codes "/v1/variants/v1/exports/signals/4294967295") []
     ∷ []
-    ≡ Ok (matter.Request (request.Replace (codes "v1") false (codes "x")))
-    ∷ Ok (matter.Request (request.Query (OfVariant (codes "v1") (Room (codes "f1") 4))))
-    ∷ Ok (matter.Request (request.Query (OfVariant (codes "v1") (Export header.Signals 4294967295))))
+    ≡ Ok (operation.Request (request.Replace (codes "v1") false (codes "x")))
+    ∷ Ok (operation.Request (request.Query (OfVariant (codes "v1") (Room (codes "f1") 4))))
+    ∷ Ok (operation.Request (request.Query (OfVariant (codes "v1") (Export header.Signals 4294967295))))
     ∷ []
 unfolding rows
-matters_of_rows = refl
+operations_of_rows = refl
 
 -- where a number is none, the request is refused
 pub no_numbers :
-    map (λ text. matter_by (of_variant (Export header.Frames named.Part)) (codes "/v1/variants/v1/exports/frames/" ++ text) [])
+    map (λ text. operation_by (of_variant (Export header.Frames named.Part)) (codes "/v1/variants/v1/exports/frames/" ++ text) [])
     (codes "x" ∷ codes "-1" ∷ codes "+1" ∷ codes "1.0" ∷ codes "4294967296" ∷ codes "00000000000" ∷ [])
     ≡ Err (Refused refusal.BadText) ∷ Err (Refused refusal.BadText) ∷ Err (Refused refusal.BadText) ∷ Err (Refused refusal.BadText) ∷ Err (Refused refusal.BadText) ∷ Err (Refused refusal.BadText) ∷ []
 unfolding rows
@@ -227,11 +227,11 @@ pub tries :
 unfolding rows
 tries = refl
 
-pub matters_of_tries :
-    matter_by (Try manner.Import) (codes "/v1/variants/v1/tries") (codes "x") ∷ matter_by (Try (manner.Replace false)) (codes "/v1/variants/v1/tries") (codes "x") ∷ []
-    ≡ Ok (matter.Request (request.Try (codes "v1") manner.Import (codes "x"))) ∷ Ok (matter.Request (request.Try (codes "v1") (manner.Replace false) (codes "x"))) ∷ []
+pub operations_of_tries :
+    operation_by (Try manner.Import) (codes "/v1/variants/v1/tries") (codes "x") ∷ operation_by (Try (manner.Replace false)) (codes "/v1/variants/v1/tries") (codes "x") ∷ []
+    ≡ Ok (operation.Request (request.Try (codes "v1") manner.Import (codes "x"))) ∷ Ok (operation.Request (request.Try (codes "v1") (manner.Replace false) (codes "x"))) ∷ []
 unfolding rows
-matters_of_tries = refl
+operations_of_tries = refl
 
 -- a file that is sent, or tried, as the whole: by PUT alone
 pub wholes :
@@ -243,11 +243,11 @@ pub wholes :
 unfolding rows
 wholes = refl
 
-pub matters_of_wholes :
-    matter_by (Replace true) (codes "/v1/variants/v1/rows/whole") (codes "x") ∷ matter_by (Try (manner.Replace true)) (codes "/v1/variants/v1/tries/whole") (codes "x") ∷ []
-    ≡ Ok (matter.Request (request.Replace (codes "v1") true (codes "x"))) ∷ Ok (matter.Request (request.Try (codes "v1") (manner.Replace true) (codes "x"))) ∷ []
+pub operations_of_wholes :
+    operation_by (Replace true) (codes "/v1/variants/v1/rows/whole") (codes "x") ∷ operation_by (Try (manner.Replace true)) (codes "/v1/variants/v1/tries/whole") (codes "x") ∷ []
+    ≡ Ok (operation.Request (request.Replace (codes "v1") true (codes "x"))) ∷ Ok (operation.Request (request.Try (codes "v1") (manner.Replace true) (codes "x"))) ∷ []
 unfolding rows
-matters_of_wholes = refl
+operations_of_wholes = refl
 
 -- `100 Continue` is due for a body that is to come by HTTP/1.1, and else not
 pub continues :

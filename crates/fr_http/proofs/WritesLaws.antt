@@ -4,7 +4,7 @@ use Rattle.std.specs.Prelude.{◌↔◌, IsOk, OnErr, ⊤}
 use Rattle.std.specs.declared.io.Error.{Error}
 use Rattle.fr_text.specs.Writing.{Ends, IsWriting, Progress, Writes}
 use Rattle.fr_text.specs.declared.output.WriteFailed.{WriteFailed as Unwritten}
-use Rattle.fr_http.specs.Asking.{MakesMatter}
+use Rattle.fr_http.specs.Operations.{MakesOperation}
 use Rattle.fr_http.specs.Head.{HeadData}
 use Rattle.fr_http.specs.Reading.{HasReceived, LacksBody}
 use Rattle.fr_http.specs.Writes.{Flushes, LastFailed, MayFail, MayFailAsking}
@@ -65,12 +65,12 @@ module _ {W : Type 0} (writes : Writes W) (flushes : Flushes W) where
   unfailed (Fault fault) last none = absurd (true≢false none)
 
   -- where the text is no request
-  pub unmade : (route : Route) (path body : List ℕ) (unasked : Unasked) (last : W) → MakesMatter route path body (Err unasked) → MayFailAsking writes flushes unasked last
+  pub unmade : (route : Route) (path body : List ℕ) (unasked : Unasked) (last : W) → MakesOperation route path body (Err unasked) → MayFailAsking writes flushes unasked last
   unmade route path body unasked last (inl lacks) = subst (λ u. MayFailAsking writes flushes u last) (sym lacks) tt
   unmade route path body unasked last (inr none) = unfailed unasked last (why_not route path body unasked none)
 
 -- a fault of reading is no cause that a route asks nothing
-pub unread : {R : Type 0} (reads : Reads R) (route : Route) (path body : List ℕ) (unasked : Unasked) (new : R) (left : ℕ) → MakesMatter route path body (Err unasked)
+pub unread : {R : Type 0} (reads : Reads R) (route : Route) (path body : List ℕ) (unasked : Unasked) (new : R) (left : ℕ) → MakesOperation route path body (Err unasked)
     → MayEndAsking reads unasked new left
 unread reads route path body unasked new left (inl lacks) = subst (λ u. MayEndAsking reads u new left) (sym lacks) tt
 unread reads route path body unasked new left (inr none) = unended unasked (why_not route path body unasked none)

@@ -7,7 +7,7 @@ use Rattle.httparse.specs.Spans.{RequestExceeds}
 use Rattle.fr_base.specs.declared.actor.Actor.{Actor}
 use Rattle.fr_http.specs.Head.{HasNoHead, HeadData, max_fields}
 use Rattle.fr_http.specs.Outcome.{IsOutcome, Wanted, continue_if, due, plan_of}
-use Rattle.fr_http.specs.declared.asking.Exchange.{Exchange}
+use Rattle.fr_http.specs.declared.exchange.Exchange.{Exchange}
 use Rattle.fr_http.specs.declared.fault.LinkFault.TheVariants.{Truncated}
 use Rattle.fr_http.specs.declared.fault.Rejection.{Rejection}
 use Rattle.fr_http.specs.declared.fault.Rejection.TheVariants.{BadRequest, HeadTooLarge}

@@ -24,13 +24,13 @@ use Rattle.fr_picture.specs.declared.plan.Plan.{Plan}
 use Rattle.std.specs.Global.{Vec}
 use Rattle.fr_guide.specs.Advice.{IsAdvice}
 use Rattle.fr_guide.specs.Explaining.{Explains, ListsAll}
-use Rattle.fr_guide.specs.Numbers.{meant_word}
+use Rattle.fr_guide.specs.RefusalNumbers.{meant_word}
 use Rattle.fr_guide.specs.declared.advice.Subject.{Subject}
 use Rattle.fr_http.specs.Head.{BeginsWith, said}
 use Rattle.fr_http.specs.Outcome.{IsOutcome, asked_before, continue_reply, interim, is_ask}
 use Rattle.fr_http.specs.Reply.{Reply, advice_reply, answer_reply, engine_reply, explanation_reply, page_reply, planner_reply, print}
-use Rattle.fr_http.specs.declared.asking.Exchange.{Exchange}
-use Rattle.fr_http.specs.declared.asking.Exchange.TheVariants as exchange
+use Rattle.fr_http.specs.declared.exchange.Exchange.{Exchange}
+use Rattle.fr_http.specs.declared.exchange.Exchange.TheVariants as exchange
 use Rattle.fr_http.specs.declared.fault.LinkFault.{LinkFault}
 use Rattle.fr_http.specs.declared.fault.LinkFault.TheVariants.{WriteFailed}
 use Rattle.fr_http.specs.declared.fault.Rejection.TheVariants.{NotFound}

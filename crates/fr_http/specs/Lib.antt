@@ -6,7 +6,7 @@ pub mod Planning
 pub mod Reading
 pub mod Reads
 pub mod Writes
-pub mod Asking
+pub mod Operations
 pub mod Calls
 pub mod Complete
 pub mod Reply

@@ -10,11 +10,11 @@ use Rattle.fr_base.specs.Refusing.{◌>>=◌, ◌>>◌, ◌or◌, refuse◌when�
 use Rattle.fr_base.specs.declared.actor.Actor.{Actor}
 use Rattle.fr_base.specs.declared.refusal.Refusal.TheVariants.{UnknownKey}
 use Rattle.fr_http.specs.Head.{BeginsWith, HasNoHead, HeadData, key_of, max_fields, max_head, said, same_but_case, values}
-use Rattle.fr_http.specs.Routes.{allowed, chosen, matter_by, method_of, path_of, route_of}
-use Rattle.fr_http.specs.declared.asking.Exchange.{Exchange}
-use Rattle.fr_http.specs.declared.asking.Exchange.TheVariants as exchange
-use Rattle.fr_http.specs.declared.asking.Matter.{Matter}
-use Rattle.fr_http.specs.declared.asking.Matter.TheVariants as matter
+use Rattle.fr_http.specs.Routes.{allowed, chosen, method_of, operation_by, path_of, route_of}
+use Rattle.fr_http.specs.declared.exchange.Exchange.{Exchange}
+use Rattle.fr_http.specs.declared.exchange.Exchange.TheVariants as exchange
+use Rattle.fr_http.specs.declared.exchange.Operation.{Operation}
+use Rattle.fr_http.specs.declared.exchange.Operation.TheVariants as operation
 use Rattle.fr_http.specs.declared.fault.LinkFault.{LinkFault}
 use Rattle.fr_http.specs.declared.fault.LinkFault.TheVariants.{Truncated, ReadFailed, TooManyReads, WriteFailed, NoMemory}
 use Rattle.fr_http.specs.declared.fault.Rejection.{Rejection}
@@ -107,10 +107,10 @@ holder who None = None
 holder who (Some key) = who key
 
 -- the exchange of this actor by this method: a request's answer; a picture, as the actor sees it; or advice on a text
-abbrev pub asked_by : Actor → Method → Matter → Exchange
-asked_by actor method (matter.Request request) = exchange.Request (record { actor = actor; request = request }) method
-asked_by actor method (matter.Picture variant since) = exchange.Picture actor variant since
-asked_by actor method (matter.Advice subject text) = exchange.Advice actor subject text
+abbrev pub asked_by : Actor → Method → Operation → Exchange
+asked_by actor method (operation.Request request) = exchange.Request (record { actor = actor; request = request }) method
+asked_by actor method (operation.Picture variant since) = exchange.Picture actor variant since
+asked_by actor method (operation.Advice subject text) = exchange.Advice actor subject text
 
 -- whether the register is asked for more than whose a key is
 abbrev pub is_ask : Exchange → Bool
@@ -124,9 +124,9 @@ unfoldable pub outcome_of : (List ℕ → Option Actor) → HeadData → List �
 outcome_of who head rest = do
   plan ← by_engine (plan_of head)
   body ← front plan.length rest or Fault Truncated
-  matter ← matter_by plan.route (path_of head.target) body
+  operation ← operation_by plan.route (path_of head.target) body
   actor ← holder who (key_of head) or Refused UnknownKey
-  Ok (asked_by actor (method_of plan.route) matter)
+  Ok (asked_by actor (method_of plan.route) operation)
 
 -- Why bytes that do not begin with a head demand nothing. No head can come of them. Or they are too
 -- many, or some of their lines and an empty line would be a head with too many fields. Or they

@@ -10,7 +10,7 @@ use Rattle.fr_base.specs.declared.actor.Actor.{Actor}
 use Rattle.fr_http.specs.Exchanges.{Advised, Answered, Dealing, Drawn, Exchanged, IsExchange}
 use Rattle.fr_http.specs.Head.{BeginsWith, HeadData, said}
 use Rattle.fr_http.specs.Outcome.{IsOutcome, Wanted, plan_of}
-use Rattle.fr_http.specs.declared.asking.Exchange.{Exchange}
+use Rattle.fr_http.specs.declared.exchange.Exchange.{Exchange}
 use Rattle.fr_http.specs.declared.fault.Unasked.{Unasked}
 use Rattle.fr_http.specs.declared.fault.Rejection.{Rejection}
 use Rattle.fr_http.specs.declared.routes.Route.{Route}

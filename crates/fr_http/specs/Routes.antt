@@ -25,11 +25,11 @@ use Rattle.fr_base.specs.declared.request.Manner.TheVariants as manner
 use Rattle.fr_base.specs.declared.request.Request.{Request}
 use Rattle.fr_base.specs.declared.request.Request.TheVariants as request
 use Rattle.fr_text.specs.RequestText.{request_of}
-use Rattle.fr_guide.specs.Numbers.{meant_word}
+use Rattle.fr_guide.specs.RefusalNumbers.{meant_word}
 use Rattle.fr_guide.specs.Topics.{is_explained}
 use Rattle.fr_guide.specs.declared.advice.Subject.TheVariants as subject
-use Rattle.fr_http.specs.declared.asking.Matter.{Matter}
-use Rattle.fr_http.specs.declared.asking.Matter.TheVariants as matter
+use Rattle.fr_http.specs.declared.exchange.Operation.{Operation}
+use Rattle.fr_http.specs.declared.exchange.Operation.TheVariants as operation
 use Rattle.fr_http.specs.declared.fault.Unasked.{Unasked}
 use Rattle.fr_http.specs.declared.fault.Unasked.TheVariants.{Explained, Refused, Page as OwnPage}
 use Rattle.fr_http.specs.declared.method.Allowed.{Allowed}
@@ -191,8 +191,8 @@ abbrev pub number_in : PathName → List ℕ → Option ℕ
 number_in name path = result_ok (number (part name path))
 
 -- what a text asks for; one that is no request is refused
-abbrev pub asked_or_refused : Option Request → Result Matter Unasked
-asked_or_refused (Some asked) = Ok (matter.Request asked)
+abbrev pub asked_or_refused : Option Request → Result Operation Unasked
+asked_or_refused (Some asked) = Ok (operation.Request asked)
 asked_or_refused None = Err (Refused BadText)
 
 -- the other variant of a path that names one
@@ -202,15 +202,15 @@ other_variant since path = if since then Some (part named.From path) else None
 -- What a route asks for, or why it asks nothing: the planner's page and what is explained are the engine's own. Its names
 -- and numbers are parts of the path, and the body is a command's text or a file. Where a part is not
 -- a number, the route asks for nothing.
-unfoldable pub matter_by : Route → List ℕ → List ℕ → Result Matter Unasked
-matter_by Page path body = Err OwnPage
-matter_by Explanations path body = Err (Explained None)
-matter_by Explanation path body = Err (Explained (Some (part named.Word path)))
-matter_by (Advice on) path body = Ok (matter.Advice on body)
-matter_by Commands path body = asked_or_refused (request_of body)
-matter_by Import path body = Ok (matter.Request (request.Import (part named.Variant path) (part named.Label path) body))
-matter_by (Replace whole) path body = Ok (matter.Request (request.Replace (part named.Variant path) whole body))
-matter_by (Try how) path body = Ok (matter.Request (request.Try (part named.Variant path) how body))
-matter_by (Query asked) path body =
+unfoldable pub operation_by : Route → List ℕ → List ℕ → Result Operation Unasked
+operation_by Page path body = Err OwnPage
+operation_by Explanations path body = Err (Explained None)
+operation_by Explanation path body = Err (Explained (Some (part named.Word path)))
+operation_by (Advice on) path body = Ok (operation.Advice on body)
+operation_by Commands path body = asked_or_refused (request_of body)
+operation_by Import path body = Ok (operation.Request (request.Import (part named.Variant path) (part named.Label path) body))
+operation_by (Replace whole) path body = Ok (operation.Request (request.Replace (part named.Variant path) whole body))
+operation_by (Try how) path body = Ok (operation.Request (request.Try (part named.Variant path) how body))
+operation_by (Query asked) path body =
     asked_or_refused (option_map request.Query (query_by (λ name. part name path) (λ name. number_in name path) asked))
-matter_by (Picture since) path body = Ok (matter.Picture (part named.Variant path) (other_variant since path))
+operation_by (Picture since) path body = Ok (operation.Picture (part named.Variant path) (other_variant since path))

@@ -2,10 +2,10 @@
 //! asked, and its answer is written as the reply.
 #![tactic(auto)]
 
-mod asking;
 mod body;
-mod dealing;
 mod engine;
+mod exchange;
+mod exchange_reply;
 mod fault;
 mod head;
 mod input;

@@ -8,10 +8,10 @@ ghost use Rattle.fr_http.specs.Outcome.{due, is_continue};
 ghost use Rattle.fr_http.specs.Reads.{IsReadWithin, MayEnd, MayEndAsking, SpendsReads};
 ghost use Rattle.fr_http.specs.Writes.{LastFailed, MayFail, MayFailAsking};
 
-use crate::asking::{Exchange, actor, asked_matter};
 use crate::body::read_body;
-use crate::dealing::deal;
 use crate::engine::Engine;
+use crate::exchange::{Exchange, actor, asked_operation};
+use crate::exchange_reply::reply_to;
 use crate::fault::{LinkFault, Unasked};
 use crate::head::{Head, Values};
 use crate::input::{Input, MAX_READS};
@@ -122,9 +122,9 @@ fn take<R: Source, W: Sink, D: Desk>(
     let plan = make_plan(engine, &head)?;
     invite(&head, &plan, output)?;
     let body = read_body(alloc, input, head.rest(), plan.length)?;
-    let matter = asked_matter(alloc, &plan, &body)?;
+    let operation = asked_operation(alloc, &plan, &body)?;
     let actor = actor(desk, &head).ok_or(Unasked::Refused(Refusal::UnknownKey))?;
-    Ok(matter.asked_by(actor, plan.route.method()))
+    Ok(operation.asked_by(actor, plan.route.method()))
 }
 
 // Writes the interim reply, if it is due.
@@ -182,7 +182,7 @@ fn answer<W: Sink, D: Desk>(
         output.new.writer.now) }
     ensures retries { output.new.retries ≤ output.old.retries }
 {
-    send(deal(alloc, exchange, desk), output, exchange.is_ask())
+    send(reply_to(alloc, exchange, desk), output, exchange.is_ask())
 }
 
 // Writes a reply, if there was memory for it.

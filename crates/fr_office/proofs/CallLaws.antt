@@ -18,7 +18,7 @@ use Rattle.fr_base.specs.Tables.{get}
 use Rattle.fr_world.specs.Held.{Applies, Reads, Standing}
 use Rattle.fr_world.specs.declared.edit.Edit.{Edit}
 use Rattle.fr_world.specs.declared.records.Records.{Ghosts}
-use Rattle.fr_office.specs.Answering.{Acts, AfterAct, CarriesAct}
+use Rattle.fr_office.specs.Answers.{Acts, AfterAct, CarriesAct}
 use Rattle.fr_office.specs.Carried.{CarriesEdits, CarriesStep, Does, LeavesDone, Performs}
 use Rattle.fr_office.specs.Imports.{CarriesImport, GivesImport, WhereImported}
 use Rattle.fr_office.specs.Replacements.{CarriesReplacement, GivesReplacement, WhereReplaced}

@@ -12,7 +12,7 @@ use Rattle.fr_base.specs.declared.request.Command.{Command}
 use Rattle.fr_base.specs.declared.request.Checked.TheVariants as checked
 use Rattle.fr_base.specs.declared.request.Import.{Import}
 use Rattle.fr_base.specs.declared.request.Replacement.{Replacement}
-use Rattle.fr_office.specs.Answering.{LeavesAct}
+use Rattle.fr_office.specs.Answers.{LeavesAct}
 use Rattle.fr_office.specs.Carried.{Does, LeavesDone, MayLeave}
 use Rattle.fr_office.specs.Imports.{LeavesImport}
 use Rattle.fr_office.specs.Replacements.{LeavesReplacement}

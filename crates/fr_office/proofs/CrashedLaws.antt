@@ -13,7 +13,7 @@ use Rattle.fr_base.specs.declared.refusal.Refusal.TheVariants.{Unavailable}
 use Rattle.fr_base.specs.declared.request.Ask.{Ask}
 use Rattle.fr_base.specs.declared.request.Request.{Request}
 use Rattle.fr_base.proofs.SoundLaws.{run-sound}
-use Rattle.fr_office.specs.Answering.{Answers, AfterChange, KeepsChange, LeavesStep, WhereChanged}
+use Rattle.fr_office.specs.Answers.{Answers, AfterChange, KeepsChange, LeavesStep, WhereChanged}
 use Rattle.fr_office.specs.Crashed.{IsTurn, WereAsked, NoneDone, TellsNoChange, WasLacking, WasNotDone, IsOrNext, IsNear, EachBook, IsKept, WereKept, KeepsAnswered, IsFound}
 use Rattle.fr_office.proofs.DoneLaws.{changes, step-quiet}
 use Rattle.fr_office.proofs.RunLaws.{run_more, were_answered}

@@ -27,7 +27,7 @@ use Rattle.fr_base.specs.declared.request.Trial.{Trial}
 use Rattle.fr_base.specs.declared.query.Query.{Query}
 use Rattle.fr_base.proofs.SoundRefusing.{gives_bind, gives_bind_last, gives_each, gives_unless, gives_when}
 use Rattle.fr_base.proofs.SoundTrials.{trial-leaves}
-use Rattle.fr_office.specs.Answering.{AfterAct, WhereChanged}
+use Rattle.fr_office.specs.Answers.{AfterAct, WhereChanged}
 use Rattle.fr_world.specs.Held.{Standing}
 
 -- whether the answer is that of an import, or of a replacement, that was carried out

@@ -12,7 +12,7 @@ use Rattle.fr_base.specs.declared.refusal.Refusal.TheVariants.{UnknownKey}
 use Rattle.fr_world.specs.BookEdits.{variants_in}
 use Rattle.fr_base.specs.declared.answer.VariantRow.{VariantRow}
 use Rattle.fr_world.specs.Held.{Standing, Tells}
-use Rattle.fr_office.specs.Answering.{is_known}
+use Rattle.fr_office.specs.Answers.{is_known}
 use Rattle.fr_office.specs.Listing.{Lists, variants_told}
 use Rattle.fr_office.proofs.StepLaws.{known-so}
 

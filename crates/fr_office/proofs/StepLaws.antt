@@ -27,7 +27,7 @@ use Rattle.fr_base.specs.declared.request.Checked.{Checked}
 use Rattle.fr_base.specs.declared.request.Checked.TheVariants as checked
 use Rattle.fr_base.proofs.SoundChecks.{IsFormed, check-form}
 use Rattle.fr_base.proofs.SuppliersLaws.{contains-listed}
-use Rattle.fr_office.specs.Answering.{Acts, Answers, HasPassed, answer_of, is_known}
+use Rattle.fr_office.specs.Answers.{Acts, Answers, HasPassed, answer_of, is_known}
 use Rattle.fr_office.specs.Carried.{Performs, Replies}
 use Rattle.fr_world.specs.Held.{Standing}
 use Rattle.fr_office.specs.Imports.{GivesImport}

@@ -13,7 +13,7 @@ use Rattle.fr_base.specs.declared.answer.Answer.{Answer}
 use Rattle.fr_base.specs.declared.answer.Answer.TheVariants.{Done, Replaced, Refused}
 use Rattle.fr_base.specs.declared.refusal.Refusal.TheVariants.{Unavailable}
 use Rattle.fr_base.specs.declared.request.Ask.{Ask}
-use Rattle.fr_office.specs.Answering.{Answers, KeepsChange, LeavesStep}
+use Rattle.fr_office.specs.Answers.{Answers, KeepsChange, LeavesStep}
 use Rattle.fr_office.specs.Headline.{WereAnswered}
 use Rattle.fr_office.specs.KeptPages.{StandsWarm, WarmData}
 use Rattle.fr_office.specs.declared.running.Stopped.{Stopped}

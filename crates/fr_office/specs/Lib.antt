@@ -1,4 +1,4 @@
-pub mod Answering
+pub mod Answers
 pub mod Carried
 pub mod Decided
 pub mod Headline

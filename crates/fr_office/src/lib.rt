@@ -2,8 +2,8 @@
 //! records of the register. Each supplier is answered as if it were alone.
 #![tactic(auto)]
 
-mod answering;
 mod commands;
+mod dispatch;
 mod import_counts;
 mod imports;
 mod kept;
@@ -20,7 +20,7 @@ mod shelf;
 mod trials;
 mod warm;
 
-pub use answering::{answer, decline};
+pub use dispatch::{answer, decline};
 pub use laws::answers_are_kept;
 pub use lender::Lender;
 pub use listing::list_variants;

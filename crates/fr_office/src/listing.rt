@@ -2,7 +2,7 @@
 ghost use Rattle.fr_office.specs.Carried.{OnlyReads};
 ghost use Rattle.fr_office.specs.Listing.{Lists};
 
-use crate::answering::is_known;
+use crate::dispatch::is_known;
 use fr_base::{Actor, Refusal, VariantRow};
 use fr_world::Records;
 use std::alloc::Global;

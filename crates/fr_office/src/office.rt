@@ -4,14 +4,14 @@ ghost use Rattle.fr_base.specs.Actors.{actor_of};
 ghost use Rattle.fr_base.specs.Book.{Book, file_of};
 ghost use Rattle.fr_base.specs.Cluster.{Cluster};
 ghost use Rattle.fr_base.specs.Sound.{IsSound};
-ghost use Rattle.fr_office.specs.Answering.{Answers, KeepsChange, LeavesStep};
+ghost use Rattle.fr_office.specs.Answers.{Answers, KeepsChange, LeavesStep};
 ghost use Rattle.fr_office.specs.Crashed.{AsksEach, KeepsEach, StandsKept};
 ghost use Rattle.fr_office.specs.Headline.{AnswersEach};
 ghost use Rattle.fr_office.specs.KeptPages.{StandsWarm};
 ghost use Rattle.fr_office.specs.Listing.{Lists};
 ghost use Rattle.fr_world.specs.Held.{Reads};
 
-use crate::answering::{answer, decline};
+use crate::dispatch::{answer, decline};
 use crate::listing::list_variants;
 use crate::running::{Stopped, run};
 use crate::warm::Warm;

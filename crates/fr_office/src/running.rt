@@ -3,7 +3,7 @@ ghost use Rattle.std.specs.Prelude.{◌≡◌, ◌<◌, length, IfOk, IfErr};
 ghost use Rattle.fr_office.specs.Crashed.{AsksEach, KeepsEach};
 ghost use Rattle.fr_office.specs.Headline.{AnswersEach};
 
-use crate::answering::answer;
+use crate::dispatch::answer;
 use crate::lender::Lender;
 use fr_base::{Answer, Ask};
 use std::alloc::Global;

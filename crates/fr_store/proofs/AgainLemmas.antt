@@ -17,7 +17,7 @@ use Rattle.fr_store.specs.Reading.{Stands}
 use Rattle.fr_store.specs.Store.{TellsOf, IsRegisterOf, IsRegisterFor, FindsAgain}
 use Rattle.fr_store.specs.StoreFiles.{IsHeld, HoldsRegister, HoldsBook, database_of}
 use Rattle.fr_store.specs.Opening.{Refuses, Explains}
-use Rattle.fr_tables.specs.Asking.{numbered, our_schema_number, HasNumber}
+use Rattle.fr_tables.specs.SchemaNumbers.{numbered, our_schema_number, HasNumber}
 use Rattle.fr_store.specs.declared.fault.StoreFault.{StoreFault}
 use Rattle.fr_store.specs.declared.fault.StoreFault.TheVariants.{NotEmpty, NotARegister, WrongSchema, Unavailable}
 use Rattle.fr_tables.proofs.TypedLemmas.{in_order}

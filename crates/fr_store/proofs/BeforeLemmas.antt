@@ -18,7 +18,7 @@ use Rattle.fr_tables.specs.Schema.{IsOld}
 use Rattle.fr_tables.proofs.TypedLemmas.{has_before}
 use Rattle.fr_tables.specs.Changes.{Changes, Stays, AreListed, tables_of}
 use Rattle.fr_tables.specs.Statements.{cluster_row, cluster2_row, shows_cluster, every, any_order, with_cluster2, without_cluster, with_number}
-use Rattle.fr_tables.specs.Asking.{AreAsBefore, HasNumber, numbered, our_schema_number, old_schema_number}
+use Rattle.fr_tables.specs.SchemaNumbers.{AreAsBefore, HasNumber, numbered, our_schema_number, old_schema_number}
 use Rattle.fr_tables.specs.Making.{IsRenewed}
 use Rattle.fr_store.specs.Applying.{GoesOn}
 use Rattle.fr_store.specs.Before.{StoodFor, StandsBefore, HoldsBookBefore, HoldsOpenable, LeavesMigrated, HasOldIfBefore, database_before, moved}

@@ -11,8 +11,8 @@ use Rattle.fr_store.specs.Applying.{LeavesAll}
 use Rattle.fr_store.specs.Crashes.{IsForOne, LeavesOnly, StoredLeaves}
 use Rattle.fr_store.specs.Reading.{Leaves, Stands}
 use Rattle.fr_store.specs.declared.fault.StoreFault.{StoreFault}
-use Rattle.fr_tables.specs.Asking.{AreAsBefore}
 use Rattle.fr_tables.specs.Changes.{Spares, Stays}
+use Rattle.fr_tables.specs.SchemaNumbers.{AreAsBefore}
 use Rattle.fr_tables.specs.Tables.{HasTables}
 
 -- one more book may be left

@@ -15,7 +15,7 @@ use Rattle.fr_tables.specs.Statements.{cluster2_row, shows_cluster2, shows_suppl
 use Rattle.fr_tables.specs.Filling.{supplier_row}
 use Rattle.fr_store.specs.Reading.{AreOpened, TellsOpened, variant_shown}
 use Rattle.fr_base.specs.declared.answer.VariantRow.{VariantRow}
-use Rattle.fr_tables.specs.Asking.{HasNumber, numbered, our_schema_number}
+use Rattle.fr_tables.specs.SchemaNumbers.{HasNumber, numbered, our_schema_number}
 use Rattle.fr_store.specs.Store.{IsOpenable, IsRegisterOf}
 use Rattle.fr_tables.specs.ClusterRows.{shown_supplier}
 use Rattle.fr_store.proofs.ChainLemmas.{same_tables}

@@ -7,9 +7,9 @@ use Rattle.sqlite_disk.specs.declared.Files.{Files}
 use Rattle.sqlite_wal.specs.Recovery.{Image}
 use Rattle.fr_base.specs.Book.{Book}
 use Rattle.fr_base.specs.Cluster.{Cluster, ClusterFile}
-use Rattle.fr_tables.specs.Asking.{HasNumber, old_schema_number}
 use Rattle.fr_tables.specs.Changes.{tables_of}
 use Rattle.fr_tables.specs.Schema.{IsOld, IsOurs}
+use Rattle.fr_tables.specs.SchemaNumbers.{HasNumber, old_schema_number}
 use Rattle.fr_tables.specs.Tables.{AreOrdered, HasOldTables, HasSomeTables, HasTables}
 use Rattle.fr_store.specs.Before.{HoldsBookBefore, StandsBefore}
 use Rattle.fr_store.specs.Crashes.{Serves}

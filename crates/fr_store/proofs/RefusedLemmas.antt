@@ -13,7 +13,7 @@ use Rattle.sqlite_store.specs.declared.store.FileStore.{FileStore}
 use Rattle.sqlite_wal.specs.Recovery.{Image}
 use Rattle.fr_base.specs.Book.{opening}
 use Rattle.fr_base.specs.Cluster.{ClusterFile}
-use Rattle.fr_tables.specs.Asking.{AreAsBefore, old_schema_number, our_schema_number}
+use Rattle.fr_tables.specs.SchemaNumbers.{AreAsBefore, old_schema_number, our_schema_number}
 use Rattle.fr_store.specs.Opened.{HoldCommitted}
 use Rattle.fr_store.specs.Opening.{Refuses}
 use Rattle.fr_store.specs.Refused.{FindsStill, HoldsStill, IsOther, IsRefusedBy, IsSpared, IsToldBy, IsUnavailable, IsUnopened, Refusing, files_alone, given_back, in_files, makes, makes_closed, migrates, opens}

@@ -12,8 +12,8 @@ use Rattle.fr_base.specs.declared.refusal.Refusal.TheVariants.{Unavailable}
 use Rattle.fr_world.specs.BookEdits.{all_applied}
 use Rattle.fr_world.specs.Fits.{AllFit}
 use Rattle.fr_world.specs.declared.edit.Edit.{Edit}
-use Rattle.fr_tables.specs.Asking.{AreAsBefore}
 use Rattle.fr_tables.specs.Changes.{Stays}
+use Rattle.fr_tables.specs.SchemaNumbers.{AreAsBefore}
 use Rattle.fr_store.specs.Joined.{after_edits}
 use Rattle.fr_store.specs.Reading.{Leaves, Stands, as_holder, holder_in}
 use Rattle.fr_store.specs.Store.{IsRegisterFor}

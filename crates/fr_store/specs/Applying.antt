@@ -18,8 +18,8 @@ use Rattle.fr_store.specs.Reading.{Stands}
 use Rattle.fr_store.specs.Sparing.{ChangeNoFrame, HasSameFrames}
 use Rattle.fr_store.specs.Store.{IsRegisterFor}
 use Rattle.fr_store.specs.StoreFiles.{database_of}
-use Rattle.fr_tables.specs.Asking.{AreAsBefore}
 use Rattle.fr_tables.specs.Changes.{tables_of}
+use Rattle.fr_tables.specs.SchemaNumbers.{AreAsBefore}
 use Rattle.fr_tables.specs.Tables.{HasTables}
 use Rattle.fr_store.specs.declared.fault.StoreFault.{StoreFault}
 use Rattle.fr_store.specs.declared.fault.StoreFault.TheVariants.{Unavailable}

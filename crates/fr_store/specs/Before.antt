@@ -15,7 +15,7 @@ use Rattle.fr_tables.specs.Rows.{RegisterRow, ClusterRow}
 use Rattle.fr_tables.specs.Tables.{Tables, HasTables, HasOldTables, tables_in}
 use Rattle.fr_tables.specs.Changes.{Stays, tables_of}
 use Rattle.fr_tables.specs.Statements.{cluster_row, cluster2_row}
-use Rattle.fr_tables.specs.Asking.{HasNumber, numbered, old_schema_number, our_schema_number}
+use Rattle.fr_tables.specs.SchemaNumbers.{HasNumber, numbered, old_schema_number, our_schema_number}
 use Rattle.fr_store.specs.StandsFor.{HoldsRows}
 use Rattle.fr_store.specs.Reading.{Stands}
 use Rattle.fr_store.specs.Store.{IsOpenable, IsRegisterFor}

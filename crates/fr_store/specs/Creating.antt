@@ -4,9 +4,9 @@ use Rattle.std.specs.Prelude.{◌≡◌, [], ◌∷◌, Result, OnOk, OnErr, IsT
 use Rattle.sqlite.specs.State.{State, HasCleanDisk, Survives}
 use Rattle.fr_base.specs.Book.{opening}
 use Rattle.fr_base.specs.Cluster.{ClusterFile}
-use Rattle.fr_tables.specs.Asking.{AreAsBefore}
 use Rattle.fr_tables.specs.Making.{IsFresh}
 use Rattle.fr_tables.specs.Schema.{schema_of}
+use Rattle.fr_tables.specs.SchemaNumbers.{AreAsBefore}
 use Rattle.fr_store.specs.Crashes.{LeavesOnly}
 use Rattle.fr_store.specs.Reading.{Stands}
 use Rattle.fr_store.specs.Store.{IsNewOf, IsRegisterFor, Forbids}

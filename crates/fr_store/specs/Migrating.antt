@@ -4,8 +4,8 @@ use Rattle.std.specs.Prelude.{◌≡◌, ◌≢◌, Result, OnOk, OnErr, IfErr, 
 use Rattle.sqlite.specs.State.{State, HasCleanDisk, Survives}
 use Rattle.fr_base.specs.Book.{Book}
 use Rattle.fr_base.specs.Cluster.{Cluster}
-use Rattle.fr_tables.specs.Asking.{AreAsBefore, HasNumber, old_schema_number}
 use Rattle.fr_tables.specs.Schema.{IsOld}
+use Rattle.fr_tables.specs.SchemaNumbers.{AreAsBefore, HasNumber, old_schema_number}
 use Rattle.fr_tables.specs.Tables.{HasOldTables, HasSomeTables}
 use Rattle.fr_store.specs.Before.{StandsBefore, LeavesMigrated, HasOldIfBefore}
 use Rattle.fr_store.specs.Opening.{Refuses}

@@ -9,10 +9,10 @@ use Rattle.sqlite.specs.State.{State, HasCleanDisk, Survives}
 use Rattle.sqlite.specs.Tree.{Trees}
 use Rattle.sqlite_wal.specs.Recovery.{Image}
 use Rattle.fr_base.specs.Cluster.{ClusterFile, IsWellFormed}
-use Rattle.fr_tables.specs.Asking.{our_schema_number, old_schema_number, AreAsBefore, HasNumber, SaysNumber, SaysNoNumber}
 use Rattle.fr_tables.specs.Changes.{tables_of}
 use Rattle.fr_tables.specs.Filling.{supplier_row}
 use Rattle.fr_tables.specs.Schema.{schema_of, IsOurs}
+use Rattle.fr_tables.specs.SchemaNumbers.{our_schema_number, old_schema_number, AreAsBefore, HasNumber, SaysNumber, SaysNoNumber}
 use Rattle.fr_tables.specs.Statements.{cluster2_row}
 use Rattle.fr_tables.specs.Tables.{AreOrdered, HasOldTables, HasSomeTables, HasTables}
 use Rattle.fr_store.specs.Crashes.{Serves}

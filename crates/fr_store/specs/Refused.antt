@@ -13,7 +13,7 @@ use Rattle.sqlite_wal.specs.Recovery.{Image}
 use Rattle.sqlite_store.specs.FileStore.{recovers}
 use Rattle.fr_base.specs.Book.{Book, opening}
 use Rattle.fr_base.specs.Cluster.{Cluster, ClusterFile}
-use Rattle.fr_tables.specs.Asking.{old_schema_number, our_schema_number}
+use Rattle.fr_tables.specs.SchemaNumbers.{old_schema_number, our_schema_number}
 use Rattle.fr_store.specs.Before.{HoldsBookBefore}
 use Rattle.fr_store.specs.Opening.{ForbidsFiles, Refuses, RefusesFiles}
 use Rattle.fr_store.specs.Store.{IsRegisterFor, MayForbid, has_table}

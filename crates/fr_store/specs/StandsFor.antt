@@ -20,7 +20,7 @@ use Rattle.fr_tables.specs.Rows.{flag, RegisterRow, ClusterRow, Cluster2Row, Nod
 use Rattle.fr_tables.specs.Tables.{Tables}
 use Rattle.fr_tables.specs.Statements.{cluster2_row, placement_row, signal_row, is_dropped}
 use Rattle.fr_tables.specs.Filling.{supplier_row}
-use Rattle.fr_tables.specs.Asking.{numbered, our_schema_number}
+use Rattle.fr_tables.specs.SchemaNumbers.{numbered, our_schema_number}
 
 -- ---- how variants are stored
 

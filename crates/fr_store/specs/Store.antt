@@ -15,7 +15,7 @@ use Rattle.fr_tables.specs.Tables.{Tables, HasTables, tables_in}
 use Rattle.fr_tables.specs.Statements.{cluster2_row}
 use Rattle.fr_tables.specs.Filling.{supplier_row, with_config}
 use Rattle.fr_tables.specs.Making.{IsFresh, no_rows}
-use Rattle.fr_tables.specs.Asking.{numbered, our_schema_number}
+use Rattle.fr_tables.specs.SchemaNumbers.{numbered, our_schema_number}
 use Rattle.fr_store.specs.StandsFor.{StandsFor}
 use Rattle.fr_store.specs.Reading.{Stands, TellsOpened}
 use Rattle.fr_store.specs.declared.fault.StoreFault.{StoreFault}

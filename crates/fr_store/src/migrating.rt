@@ -2,7 +2,7 @@
 
 ghost use Rattle.std.specs.Prelude.{◌≡◌, false};
 ghost use Rattle.sqlite.specs.Held.{state};
-ghost use Rattle.fr_tables.specs.Asking.{Looks};
+ghost use Rattle.fr_tables.specs.SchemaNumbers.{Looks};
 ghost use Rattle.fr_store.specs.Applying.{Tries, Edits, Within};
 ghost use Rattle.fr_store.specs.Before.{MovesCluster, Migrates, MakesOpenable, KeepsBefore, KeepsNumber, ExpectsOpenable, LeavesTables};
 ghost use Rattle.fr_store.specs.Migrating.{CommitsMigration, MigratesOn};

@@ -3,8 +3,8 @@
 ghost use Rattle.std.specs.Prelude.{◌≡◌, IfOk, IfErr, IfSome, map, [], ◌∷◌, false};
 ghost use Rattle.sqlite.specs.Held.{state};
 ghost use Rattle.fr_base.specs.Cluster.{IsWellFormed};
-ghost use Rattle.fr_tables.specs.Asking.{Looks};
 ghost use Rattle.fr_tables.specs.ClusterRows.{shown_supplier};
+ghost use Rattle.fr_tables.specs.SchemaNumbers.{Looks};
 ghost use Rattle.fr_tables.specs.Statements.{cluster2_row, shows_cluster2};
 ghost use Rattle.fr_store.specs.Opening.{FindsConfig, FindsVariants, IsNotOpenedOn, IsOpenedOn, ReadsConfig};
 ghost use Rattle.fr_store.specs.Reading.{AreOpened, variant_shown};
@@ -15,8 +15,8 @@ use crate::reading::opened_variants;
 use crate::schemas::{expect_number, is_ours};
 use crate::store::Store;
 use fr_base::Config;
-use fr_tables::asking::ask_and_undo;
 use fr_tables::cluster;
+use fr_tables::schema_number::ask_and_undo;
 use sqlite::{Alter, Connection, Row};
 use std::alloc::Global;
 

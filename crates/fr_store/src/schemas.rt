@@ -4,15 +4,15 @@ ghost use Rattle.std.specs.Prelude.{◌≡◌, IsTrue, IfOk, IfSome, OnOk, ◌<�
 ghost use Rattle.sqlite.specs.State.{HasCleanDisk};
 ghost use Rattle.sqlite.specs.Held.{state};
 ghost use Rattle.sqlite_trees.specs.View.{doubt};
-ghost use Rattle.fr_tables.specs.Asking.{Looks};
 ghost use Rattle.fr_tables.specs.Making.{IsFresh};
 ghost use Rattle.fr_tables.specs.Schema.{IsOurs, IsOld, register_schema, old_schema, layout_made};
+ghost use Rattle.fr_tables.specs.SchemaNumbers.{Looks};
 ghost use Rattle.fr_store.specs.Opening.{ExpectsNumber};
 
 use crate::fault::StoreFault;
-use fr_tables::asking::number;
 use fr_tables::making;
 use fr_tables::schema::{add_stats, move_index, move_table, same_schema};
+use fr_tables::schema_number::number;
 use sqlite::{Alter, Connection, Error};
 use sqlite_schema::schema::Schema;
 use std::alloc::Global;

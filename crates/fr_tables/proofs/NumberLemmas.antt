@@ -26,7 +26,7 @@ use Rattle.fr_tables.specs.Changes.{AreListed}
 use Rattle.fr_tables.proofs.FindLemmas.{Queries}
 use Rattle.fr_tables.specs.Statements.{shows_register, every, any_order}
 use Rattle.sqlite.specs.Clock.{timed}
-use Rattle.fr_tables.specs.Asking.{number_text, numbered, HasNumber, Answers, IsAnswer, IsQuery, SaysNumber, SaysNoNumber}
+use Rattle.fr_tables.specs.SchemaNumbers.{number_text, numbered, HasNumber, Answers, IsAnswer, IsQuery, SaysNumber, SaysNoNumber}
 use Rattle.fr_tables.proofs.RegisterLemmas.{its_row, row_before}
 use Rattle.fr_tables.proofs.ReadLemmas.{reads, stored_as, known, all_known, listed}
 

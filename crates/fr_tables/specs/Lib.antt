@@ -7,4 +7,4 @@ pub mod Statements
 pub mod Making
 pub mod Filling
 pub mod ClusterRows
-pub mod Asking
+pub mod SchemaNumbers

@@ -8,11 +8,11 @@ mod field_faults;
 mod fields;
 mod import_text;
 mod laws;
-mod lines;
 mod output;
 mod report;
 mod request_text;
 mod retry;
+mod script;
 mod sink;
 mod style;
 mod words;
@@ -28,9 +28,9 @@ pub use laws::{
     export_is_read_back, export_is_within_bytes, sent_back_changes_nothing, sent_is_imported,
     sent_whole_changes_nothing, written_is_read_back,
 };
-pub use lines::{LINE_BYTES, RequestLines, key_and_text, next_line, split_once, split_script};
 pub use output::{Output, WRITE_RETRIES, WriteFailed};
 pub use report::write_lines;
 pub use request_text::{RequestFault, read_command, read_request};
 pub use retry::try_again;
+pub use script::{LINE_BYTES, RequestLines, key_and_text, next_line, split_once, split_script};
 pub use sink::Sink;

@@ -1,4 +1,4 @@
-use Rattle.fr_guide.proofs.NumberedLaws.{numbers}
+use Rattle.fr_guide.proofs.RefusalNumberLaws.{numbers}
 use Rattle.fr_guide.proofs.laws.each_number_is_named.Goals as goal
 
 pub returns : goal.returns

@@ -5,7 +5,7 @@ use Rattle.fr_tables.specs.Changes.{Changes}
 use Rattle.fr_tables.specs.Making.{IsRenewed}
 use Rattle.fr_tables.specs.Statements.{with_number}
 use Rattle.fr_tables.specs.Tables.{Tables}
-use Rattle.fr_tables.specs.Asking.{our_schema_number}
+use Rattle.fr_tables.specs.SchemaNumbers.{our_schema_number}
 use Rattle.fr_tables.proofs.FillLemmas.{survives_both}
 use Rattle.fr_store.proofs.AgainLemmas.{still_stands}
 use Rattle.fr_store.proofs.BeforeLemmas.{migrated, number_after, renewed_keeps}

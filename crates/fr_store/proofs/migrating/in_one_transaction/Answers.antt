@@ -1,7 +1,7 @@
 use Rattle.std.proofs.Common.{rules, ◌≡◌, arith, ap, sym, subst}
 use Rattle.sqlite.specs.Held.{state}
 use Rattle.sqlite.specs.State.{HasCleanDisk, Survives}
-use Rattle.fr_tables.specs.Asking.{HasNumber, old_schema_number}
+use Rattle.fr_tables.specs.SchemaNumbers.{HasNumber, old_schema_number}
 use Rattle.fr_tables.specs.Tables.{HasOldTables}
 use Rattle.fr_store.specs.Before.{LeavesMigrated}
 use Rattle.fr_store.specs.Reading.{Stands}

@@ -1,8 +1,8 @@
 use Rattle.std.proofs.Common.{rules, ◌≡◌, Err, inr, arith, sym, subst}
 use Rattle.sqlite.specs.State.{HasCleanDisk}
 use Rattle.sqlite.specs.Held.{state}
-use Rattle.fr_tables.specs.Asking.{HasNumber, old_schema_number}
 use Rattle.fr_tables.specs.Schema.{IsOld}
+use Rattle.fr_tables.specs.SchemaNumbers.{HasNumber, old_schema_number}
 use Rattle.fr_tables.specs.Tables.{HasOldTables}
 use Rattle.fr_store.proofs.BeforeLemmas.{still_before, same_after, migration_survives, as_before_then, undone_then, on_error, on_ok, same_fault, only_unavailable_before}
 use Rattle.fr_store.proofs.migrating.migrate_on.Goals as goal

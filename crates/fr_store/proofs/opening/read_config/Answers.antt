@@ -3,7 +3,7 @@ use Rattle.sqlite.specs.State.{HasCleanDisk}
 use Rattle.sqlite.specs.Effect.{Database}
 use Rattle.sqlite.specs.Held.{state}
 use Rattle.fr_tables.specs.Schema.{IsOurs}
-use Rattle.fr_tables.specs.Asking.{our_schema_number}
+use Rattle.fr_tables.specs.SchemaNumbers.{our_schema_number}
 use Rattle.fr_tables.specs.Tables.{AreOrdered, HasTables, tables_in}
 use Rattle.fr_tables.proofs.TypedLemmas.{has_tables}
 use Rattle.fr_store.specs.Reading.{TellsOpened}

@@ -1,7 +1,7 @@
 use Rattle.std.proofs.Common.{inl, [], ◌∷◌, subst, sym}
 use Rattle.fr_base.specs.Step.{step}
 use Rattle.fr_base.specs.declared.answer.Answer.{Answer}
-use Rattle.fr_office.specs.Answering.{Answers, WhereChanged}
+use Rattle.fr_office.specs.Answers.{Answers, WhereChanged}
 use Rattle.fr_office.specs.KeptPages.{StandsWarm}
 use Rattle.fr_office.proofs.CrashedLaws.{still_kept}
 use Rattle.fr_office.proofs.office.Office.decline.Goals as goal
