@@ -17,7 +17,7 @@ from pathlib import Path
 
 TOP = Path(__file__).resolve().parent.parent
 # What the program says of its version: the logic by which it is proved.
-VERSIONED = "crates/fr_cli/src/commands.rt"
+VERSIONED = "crates/fr_cli/src/words/commands.rt"
 VERSION = re.compile(r'^(const VERSION: &str = "[\d.]+\\n)logic \w+(";)$', re.M)
 UNPROVED = r"\1unproved\2"
 # `rt` finds the kit by the folder in which these two truly lie.

@@ -8,7 +8,7 @@ use Rattle.clap.specs.declared.builder.arg.Arg.{Arg}
 use Rattle.clap.specs.declared.builder.command.Command.{Command}
 use Rattle.fr_cli.specs.Commands.{IsReadAs, with_report}
 use Rattle.fr_cli.specs.Reports.{row_in}
-use Rattle.fr_cli.specs.declared.reports.ReportCommand.{ReportCommand}
+use Rattle.fr_cli.specs.declared.words.reports.ReportCommand.{ReportCommand}
 
 pub with_arg : (a : App) (r : Rule) (old new : Command) (arg : Arg) → AddsArg old arg new → IsReadAs a old
     → (rule_of arg ≡ r) × (arg.global ≡ false) → IsReadAs (with_rule a r) new

@@ -24,13 +24,13 @@ use Rattle.fr_http.specs.Connection.{InSound}
 use Rattle.fr_picture.specs.Pages.{IsPage}
 use Rattle.fr_picture.specs.Plans.{since_of}
 use Rattle.fr_picture.specs.declared.plan.Plan.{Plan}
-use Rattle.fr_cli.specs.Answering.{Account}
-use Rattle.fr_cli.specs.Asking.{IsForReader, asked_with, query_of}
+use Rattle.fr_cli.specs.AnsweredLines.{Account}
+use Rattle.fr_cli.specs.SingleRequest.{IsForReader, asked_with, query_of}
 use Rattle.fr_cli.specs.Deeds.{Asked, Deed, Did, Drawn, IsDeedOf, IsShown, LacksAnswer, Lines, Visits, WereLines, asks_by, session_of}
 use Rattle.fr_cli.specs.Deliveries.{request_with}
 use Rattle.fr_cli.specs.Endings.{NamesFault, Tells, status_of}
 use Rattle.fr_cli.specs.Faults.{IsNotDelivered, IsNotOpened, IsNotReported, fault_word}
-use Rattle.fr_cli.specs.Incoming.{AreFirstOf, HasAnswered, IsAsked}
+use Rattle.fr_cli.specs.RequestStream.{AreFirstOf, HasAnswered, IsAsked}
 use Rattle.fr_cli.specs.Jobs.{Ends, IsPerformed, Serves, Shows, Streams}
 use Rattle.fr_cli.specs.Numbered.{numbered_lines, without_numbers}
 use Rattle.fr_cli.specs.Outlets.{held_before, held_behind}
@@ -44,16 +44,16 @@ use Rattle.fr_cli.specs.Series.{AsksRegister, Follows, IsNextOf, LeadsBy, WasNot
 use Rattle.fr_cli.specs.Serving.{IsServed, ServesAll}
 use Rattle.fr_cli.specs.Texts.{IsClusterAt, Readings}
 use Rattle.fr_cli.specs.Visits.{Comings, SinkGhosts, Visit}
-use Rattle.fr_cli.specs.declared.delivery.Delivery.{Delivery}
+use Rattle.fr_cli.specs.declared.words.delivery.Delivery.{Delivery}
 use Rattle.fr_cli.specs.declared.failure.Failure.{Failure}
 use Rattle.fr_cli.specs.declared.failure.Failure.TheVariants as failure
 use Rattle.fr_cli.specs.declared.fault.Fault.{Fault}
 use Rattle.fr_cli.specs.declared.fault.Fault.TheVariants.{NoMemory}
-use Rattle.fr_cli.specs.declared.query.Inquiry.{Inquiry}
+use Rattle.fr_cli.specs.declared.words.inquiry.Inquiry.{Inquiry}
 use Rattle.fr_cli.specs.declared.script_fault.ScriptFault.{ScriptFault}
 use Rattle.fr_cli.specs.declared.words.Job.{Job}
 use Rattle.fr_cli.specs.declared.words.Job.TheVariants as job
-use Rattle.fr_cli.proofs.AnsweringLaws.{Asked as Numbered, none_missing}
+use Rattle.fr_cli.proofs.AnsweredLineLaws.{Asked as Numbered, none_missing}
 use Rattle.fr_cli.proofs.HoldingLaws.{holds_on}
 
 -- ---- streams

@@ -2,8 +2,8 @@ mod ShortLines
 mod EndedLines
 pub mod NumberedLaws
 pub mod ScriptLines
-pub mod ErrandLaws
-pub mod IncomingLaws
+pub mod RegisterTaskLaws
+pub mod RequestStreamLaws
 mod CommandLaws
 mod NumberLaws
 mod FlagLaws
@@ -17,12 +17,12 @@ mod TakenJobs
 mod WordRows
 pub mod ScriptRunLaws
 mod ScriptRows
-pub mod AnsweringLaws
+pub mod AnsweredLineLaws
 pub mod OutputLaws
 mod OneOutput
 pub mod RunLaws
 pub mod EndingLaws
-pub mod AskingLaws
+pub mod SingleRequestLaws
 pub mod ReadingLaws
 pub mod RefusedFiles
 pub mod PicturingLaws

@@ -10,8 +10,8 @@ use Rattle.clap.specs.Walk.{Row, Text, one_of, rows_of}
 use Rattle.clap.specs.declared.parser.matches.Found.{Found}
 use Rattle.fr_cli.specs.Reports.{asked_with}
 use Rattle.fr_cli.specs.Words.{HasNumber, IsJobIn, IsJobOf, IsNumberIn, word_of_delivery}
-use Rattle.fr_cli.specs.declared.delivery.DeliveryKind.{DeliveryKind}
-use Rattle.fr_cli.specs.declared.delivery.DeliveryKind.TheVariants.{Import as ByLabel, Replacement, Trial}
+use Rattle.fr_cli.specs.declared.words.delivery.DeliveryKind.{DeliveryKind}
+use Rattle.fr_cli.specs.declared.words.delivery.DeliveryKind.TheVariants.{Import as ByLabel, Replacement, Trial}
 use Rattle.fr_cli.specs.declared.words.Job.{Job}
 use Rattle.fr_cli.specs.declared.words.Job.TheVariants.{Run, Create, Migrate, Serve, Ask, Report as ReportOn, Picture, Deliver, Check, Explain}
 

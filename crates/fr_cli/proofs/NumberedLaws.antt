@@ -7,9 +7,9 @@ use Rattle.std.specs.Prelude.{nat_lt}
 use Rattle.std.specs.Str.Lines.{lines}
 use Rattle.fr_base.specs.declared.answer.Answer.{Answer}
 use Rattle.fr_text.specs.Script.{request_lines}
-use Rattle.fr_cli.specs.Incoming.{EndsLines}
 use Rattle.fr_cli.specs.Numbered.{answers_text, front_of, number_from, numbered_lines, numbered_text, without_numbers}
 use Rattle.fr_cli.specs.Outcomes.{line_of}
+use Rattle.fr_cli.specs.RequestStream.{EndsLines}
 
 -- ---- lines
 

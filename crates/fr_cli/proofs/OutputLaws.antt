@@ -5,7 +5,7 @@ use Rattle.fr_base.specs.Cluster.{ClusterFile, IsWellFormed}
 use Rattle.fr_base.proofs.SoundLaws.{opening-sound}
 use Rattle.fr_world.specs.Held.{Standing}
 use Rattle.fr_base.specs.declared.answer.Answer.{Answer}
-use Rattle.fr_cli.specs.Answering.{AnswersAll}
+use Rattle.fr_cli.specs.AnsweredLines.{AnswersAll}
 use Rattle.fr_cli.specs.Output.{IsAnsweredTo, text_of_answers}
 use Rattle.fr_cli.proofs.ScriptRunLaws.{answered-sound, collision-free_after, script-alone}
 

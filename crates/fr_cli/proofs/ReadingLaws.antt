@@ -9,17 +9,17 @@ use Rattle.fr_world.specs.Held.{Standing}
 use Rattle.sqlite.specs.declared.file.Leftover.{Leftover}
 use Rattle.sqlite_disk.specs.declared.Disk.{Ghosts}
 use Rattle.sqlite_wal.specs.Recovery.{Image}
-use Rattle.fr_cli.specs.Asking.{IsRefusedBy, for_reader}
 use Rattle.fr_cli.specs.Reading.{IsRead, PrintsRead, Reading, Stays}
 use Rattle.fr_cli.specs.RegisterFiles.{IsReadOfFile}
-use Rattle.fr_cli.proofs.AskingLaws.{stays_file}
-use Rattle.fr_cli.proofs.ErrandLaws.{done_over}
-use Rattle.fr_cli.specs.Errands.{IsDoneOver, tells}
+use Rattle.fr_cli.specs.SingleRequest.{IsRefusedBy, for_reader}
+use Rattle.fr_cli.proofs.RegisterTaskLaws.{done_over}
+use Rattle.fr_cli.proofs.SingleRequestLaws.{stays_file}
+use Rattle.fr_cli.specs.RegisterTasks.{IsDoneOver, tells}
 use Rattle.fr_cli.specs.Opened.{IsOver}
 use Rattle.fr_cli.specs.Faults.{IsNotReported}
 use Rattle.fr_cli.specs.Picturing.{plans_for}
 use Rattle.fr_cli.specs.Queries.{reader_named}
-use Rattle.fr_cli.specs.declared.telling.Telling.TheVariants as telling
+use Rattle.fr_cli.specs.declared.jobs.print_task.PrintTask.TheVariants as print_task
 use Rattle.fr_picture.specs.Pages.{IsPage}
 use Rattle.fr_picture.specs.Plans.{since_of}
 use Rattle.std.specs.Borrow.{Bor}
@@ -66,9 +66,9 @@ module _ {D : Type 0} {g : Ghosts D} {held : Image} {rest : Option (Leftover D g
 
   -- so the page that is printed is that of the file
   pub pictured_over : {R : Type 0} {desk : Desk.Ghosts R} {same : Type 0} {done : Result (Vec ℕ) Failure} (variant : Bor (List ℕ)) (since supplier : Option (Bor (List ℕ)))
-      → IsDoneOver held rest desk (λ fault of. of ≡ failure.Fault fault) same (tells (telling.Picture variant since supplier)) done
+      → IsDoneOver held rest desk (λ fault of. of ≡ failure.Fault fault) same (tells (print_task.Picture variant since supplier)) done
       → PrintsRead (IsNotReported held rest) (IsReadOfFile held rest (plans_for (reader_named supplier) variant.now (since_of since))) IsPage done
   pictured_over variant since supplier is =
       let may = plans_for (reader_named supplier) variant.now (since_of since) in
-      done_over failure.Fault (PrintsRead (IsNotReported held rest) (IsReadOfFile held rest may) IsPage) (tells (telling.Picture variant since supplier)) is (λ fault not kept. inl not)
+      done_over failure.Fault (PrintsRead (IsNotReported held rest) (IsReadOfFile held rest may) IsPage) (tells (print_task.Picture variant since supplier)) is (λ fault not kept. inl not)
       (λ last old new over did. reading_says _ _ _ IsPage _ (reads_file over may) (inr (refl, stays_file over did.1)) did.0)

@@ -13,11 +13,11 @@ use Rattle.fr_base.specs.declared.report.Report.{Report}
 use Rattle.fr_base.specs.declared.report.Report.TheVariants.{Grants, Frames, Schedule, Gaps, Layout, Load, Rows, Room, Export}
 use Rattle.fr_cli.specs.Reports.{Question, asked_with, row_in, text_of_name}
 use Rattle.fr_cli.specs.Words.{HasKind, IsAnswerable, IsDeliveryIn, IsJobIn, IsJobOf, IsNumberAt, IsWordAt, asked_by, manner_in, word_of_delivery}
-use Rattle.fr_cli.specs.declared.delivery.Delivery.{Delivery}
-use Rattle.fr_cli.specs.declared.delivery.DeliveryKind.{DeliveryKind}
-use Rattle.fr_cli.specs.declared.delivery.DeliveryKind.TheVariants.{Import as ByLabel, Replacement, Trial}
-use Rattle.fr_cli.specs.declared.reports.ArgName.{ArgName}
-use Rattle.fr_cli.specs.declared.reports.ReportCommand.{ReportCommand}
+use Rattle.fr_cli.specs.declared.words.delivery.Delivery.{Delivery}
+use Rattle.fr_cli.specs.declared.words.delivery.DeliveryKind.{DeliveryKind}
+use Rattle.fr_cli.specs.declared.words.delivery.DeliveryKind.TheVariants.{Import as ByLabel, Replacement, Trial}
+use Rattle.fr_cli.specs.declared.words.reports.ArgName.{ArgName}
+use Rattle.fr_cli.specs.declared.words.reports.ReportCommand.{ReportCommand}
 use Rattle.fr_cli.specs.declared.words.Job.{Job}
 use Rattle.fr_cli.specs.declared.words.Job.TheVariants.{Run, Create, Migrate, Serve, Ask, Report as ReportOn, Picture, Deliver, Check, Explain}
 

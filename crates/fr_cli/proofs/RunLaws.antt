@@ -10,13 +10,13 @@ use Rattle.fr_base.specs.Cluster.{ClusterFile, IsWellFormed}
 use Rattle.fr_text.specs.ClusterFile.{config_of}
 use Rattle.fr_world.specs.Held.{Standing}
 use Rattle.fr_base.specs.declared.desk.Desk as Desk
-use Rattle.fr_cli.specs.Answering.{Account, AnswersAll, AnswersLines, Anything, WasWritten, account_by, account_of}
+use Rattle.fr_cli.specs.AnsweredLines.{Account, AnswersAll, AnswersLines, Anything, WasWritten, account_by, account_of}
 use Rattle.fr_cli.specs.Numbered.{numbered_lines, numbered_text, without_numbers}
 use Rattle.fr_cli.specs.NumberedOutput.{IsCutShort, IsWrittenOf, IsWrittenTo, LacksMemory}
 use Rattle.fr_cli.specs.Output.{IsAnsweredTo, IsOutputTo, text_of_answers}
 use Rattle.fr_cli.specs.Runs.{IsRunOf}
 use Rattle.fr_text.specs.Script.{max_script, parts_of, request_lines}
-use Rattle.fr_cli.proofs.AnsweringLaws.{Asked, Tells, cut_told, each_told, lines_as}
+use Rattle.fr_cli.proofs.AnsweredLineLaws.{Asked, Tells, cut_told, each_told, lines_as}
 use Rattle.fr_cli.proofs.NumberedLaws.{numbered-requests, text-behind}
 use Rattle.fr_cli.proofs.OutputLaws.{answered_to}
 use Rattle.fr_cli.specs.declared.script_fault.ScriptFault.{ScriptFault}

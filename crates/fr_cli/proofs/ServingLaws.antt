@@ -19,13 +19,13 @@ use Rattle.fr_cli.specs.Serving.{HasServed, IsServed, IsServedOver, ServesAll, S
 use Rattle.fr_cli.specs.Visits.{Comings, SinkGhosts, Visit}
 use Rattle.fr_cli.specs.declared.fault.Fault.{Fault}
 use Rattle.fr_cli.specs.declared.fault.Fault.TheVariants.{CannotListen}
-use Rattle.fr_cli.specs.declared.serving.Service.{Service}
-use Rattle.fr_cli.specs.declared.watch.WatchFault.{WatchFault}
-use Rattle.fr_cli.specs.declared.watch.WatchFault.TheVariants as watch
-use Rattle.fr_cli.proofs.AskingLaws.{err_follows}
-use Rattle.fr_cli.proofs.ErrandLaws.{done_over}
-use Rattle.fr_cli.specs.Errands.{IsDoneOver, ServesConnections}
+use Rattle.fr_cli.specs.declared.jobs.serve.Service.{Service}
+use Rattle.fr_cli.specs.declared.files.watch.WatchFault.{WatchFault}
+use Rattle.fr_cli.specs.declared.files.watch.WatchFault.TheVariants as watch
+use Rattle.fr_cli.proofs.RegisterTaskLaws.{done_over}
+use Rattle.fr_cli.proofs.SingleRequestLaws.{err_follows}
 use Rattle.fr_cli.specs.Opened.{IsOver}
+use Rattle.fr_cli.specs.RegisterTasks.{IsDoneOver, ServesConnections}
 
 -- ---- one exchange
 
@@ -186,7 +186,7 @@ module _ {D R : Type 0} {g : Ghosts D} (desk : Desk.Ghosts R) where
   )
 
 module _ {D R : Type 0} {g : Ghosts D} {desk : Desk.Ghosts R} where
-  -- So it is by an errand.
+  -- So it is by a task.
   pub served_over : {L O E : Type 0} {same kept : Type 0} {file : Image} {rest : Option (Leftover D g)} (service : Service) (came : L → Comings) (printed : SinkGhosts O) (told : SinkGhosts E)
       {l l' : L} {out out' o : O} {a b b' : E} {done : Result ⊤ Fault} → l' ≡ l → o ≡ out' → b' ≡ b → (same → (came l).none × (out' ≡ out) × (b ≡ a))
       → IsDoneOver file rest desk (λ fault of. of ≡ fault) same

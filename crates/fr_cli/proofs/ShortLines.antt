@@ -4,7 +4,7 @@ use Rattle.std.specs.Prelude.{nat_lt, ◌==◌, slice_index}
 use Rattle.std.specs.Str.Lines.{lines, strip_carriage_return}
 use Rattle.fr_text.specs.Script.{HasNo, max_line, request_lines}
 use Rattle.fr_text.proofs.LineLemmas.{lines_at, lines_last, request_lines-first, request_lines-none}
-use Rattle.fr_cli.specs.Incoming.{AreShort}
+use Rattle.fr_cli.specs.RequestStream.{AreShort}
 
 strip-short : (n most : ℕ) (b : Bool) (line : List ℕ) → length line ≤ most → length (cond b (take n line) line) ≤ most
 strip-short n most true line fits = omega (arith, fits, length-take n line)

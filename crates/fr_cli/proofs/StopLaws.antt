@@ -16,9 +16,9 @@ use Rattle.fr_desks.specs.FileDesk.{Held}
 use Rattle.fr_desks.specs.Sessions.{Session}
 use Rattle.fr_office.specs.Crashed.{IsKept, IsNear}
 use Rattle.fr_world.specs.Held.{Leaving}
-use Rattle.fr_cli.specs.Answering.{AnswersEach}
+use Rattle.fr_cli.specs.AnsweredLines.{AnswersEach}
 use Rattle.fr_cli.specs.Deeds.{Asked, Deed, Did, Drawn, IsDeedOf, Lines, Visits, asks_by, session_of}
-use Rattle.fr_cli.specs.Incoming.{IsAsked}
+use Rattle.fr_cli.specs.RequestStream.{IsAsked}
 use Rattle.fr_cli.specs.Jobs.{Ends, IsPerformed, Serves, Streams}
 use Rattle.fr_cli.specs.Endings.{status_of}
 use Rattle.fr_cli.specs.Opened.{IsOver}
@@ -31,7 +31,7 @@ use Rattle.fr_cli.specs.Visits.{Comings, SinkGhosts, Visit}
 use Rattle.fr_cli.specs.declared.fault.Fault.{Fault}
 use Rattle.fr_cli.specs.declared.words.Job.{Job}
 use Rattle.fr_cli.specs.declared.words.Job.TheVariants as job
-use Rattle.fr_cli.proofs.AnsweringLaws as answering
+use Rattle.fr_cli.proofs.AnsweredLineLaws as answering
 use Rattle.fr_cli.proofs.DeedLaws.{all_served, answered_lines, not_asked, not_served}
 use Rattle.fr_cli.proofs.ServingLaws as serving
 

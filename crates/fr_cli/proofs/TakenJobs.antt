@@ -19,12 +19,12 @@ use Rattle.fr_base.specs.declared.request.Manner.{Manner}
 use Rattle.fr_cli.specs.Commands.{slotplan}
 use Rattle.fr_cli.specs.Reports.{Question, asked_with, of_variant, text_of_name}
 use Rattle.fr_cli.specs.Words.{AreTaken, AskForNone, HasKind, HasNoObject, HasNumber, IsAnswerable, IsFoundWithoutObject, IsJobFound, IsJobIn, IsJobOf, IsNumberAt, IsWordAt, LackAnObject, asked_by, header_in, is_given, manner_in, max_number, records, word_of_delivery}
-use Rattle.fr_cli.specs.declared.reports.ArgName.{ArgName}
-use Rattle.fr_cli.specs.declared.reports.ArgName.TheVariants as arg
-use Rattle.fr_cli.specs.declared.delivery.DeliveryKind.{DeliveryKind}
-use Rattle.fr_cli.specs.declared.delivery.DeliveryKind.TheVariants.{Import as ByLabel, Replacement, Trial}
-use Rattle.fr_cli.specs.declared.delivery.Delivery.{Delivery}
-use Rattle.fr_cli.specs.declared.query.Inquiry.{Inquiry}
+use Rattle.fr_cli.specs.declared.words.reports.ArgName.{ArgName}
+use Rattle.fr_cli.specs.declared.words.reports.ArgName.TheVariants as arg
+use Rattle.fr_cli.specs.declared.words.delivery.DeliveryKind.{DeliveryKind}
+use Rattle.fr_cli.specs.declared.words.delivery.DeliveryKind.TheVariants.{Import as ByLabel, Replacement, Trial}
+use Rattle.fr_cli.specs.declared.words.delivery.Delivery.{Delivery}
+use Rattle.fr_cli.specs.declared.words.inquiry.Inquiry.{Inquiry}
 use Rattle.fr_cli.specs.declared.words.Job.{Job}
 use Rattle.fr_cli.specs.declared.words.Job.TheVariants as job
 use Rattle.fr_cli.proofs.TakenRows.{differ, some_none, some_same}

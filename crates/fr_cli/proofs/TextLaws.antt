@@ -8,7 +8,7 @@ use Rattle.std.specs.declared.io.traits.Take.{Take}
 use Rattle.fr_cli.specs.Texts.{IsUnread, readings}
 use Rattle.fr_cli.specs.declared.fault.Fault.{Fault}
 use Rattle.fr_cli.specs.declared.fault.Fault.TheVariants.{CannotOpen, NoMemory}
-use Rattle.fr_cli.specs.declared.text_files.TextFiles as TextFiles
+use Rattle.fr_cli.specs.declared.files.text_files.TextFiles as TextFiles
 
 -- what is known of a front is the front of what is known
 front_known : (known : Option (List ℕ)) (most limit : ℕ) (text : List ℕ) → limit ≡ most → IfSome (option_map (take limit) known) (λ all. text ≡ all)

@@ -5,7 +5,7 @@ use Rattle.std.specs.declared.io.Write as Write
 use Rattle.fr_http.specs.declared.source.Source as Source
 use Rattle.fr_text.specs.declared.sink.Sink as Sink
 use Rattle.fr_cli.specs.Visits.{AreVisited, IsVisited, SinkGhosts, SourceGhosts, Visit}
-use Rattle.fr_cli.specs.declared.listener.Listener as Listener
+use Rattle.fr_cli.specs.declared.streams.listener.Listener as Listener
 
 -- what is said of a source: as of a reader, and as its own
 abbrev pub source : {R : Type 0} → Read.Ghosts R → Source.Ghosts R → SourceGhosts R

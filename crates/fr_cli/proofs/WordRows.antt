@@ -11,8 +11,8 @@ use Rattle.fr_base.specs.declared.request.Manner.TheVariants as manner
 use Rattle.fr_cli.specs.Commands.{slotplan}
 use Rattle.fr_cli.specs.Reports.{asked_with}
 use Rattle.fr_cli.specs.Words.{AskFor, IsFaultOf, IsFileOf, LackAnObject, manner_in}
-use Rattle.fr_cli.specs.declared.text_file.TextFile.{TextFile}
-use Rattle.fr_cli.specs.declared.text_file.TextFile.TheVariants.{Config, Requests, Rows, Target, Register}
+use Rattle.fr_cli.specs.declared.words.check_subject.CheckSubject.{CheckSubject}
+use Rattle.fr_cli.specs.declared.words.check_subject.CheckSubject.TheVariants.{Config, Requests, Rows, Target, Register}
 use Rattle.fr_cli.specs.declared.words.Job.TheVariants as job
 use Rattle.fr_cli.specs.declared.words.WordFault.TheVariants.{Usage}
 
@@ -163,7 +163,7 @@ replacement_is_lacking : LackAnObject (codes "try" ∷ codes "car.db" ∷ codes 
 unfolding clap_on_literals
 replacement_is_lacking = inr (inr (refl, refl))
 
-no_file : (file : TextFile) → IsFileOf file [] → ⊥
+no_file : (file : CheckSubject) → IsFileOf file [] → ⊥
 no_file (Config path) is = let no : None ≡ Some path.now = is.0 in cc
 no_file (Requests path) is = let no : None ≡ Some path.now = is.1 in cc
 no_file (Rows path) is = let no : None ≡ Some path.now = is.2 in cc

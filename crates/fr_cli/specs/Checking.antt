@@ -20,10 +20,10 @@ use Rattle.fr_cli.specs.declared.failure.Failure.{Failure}
 use Rattle.fr_cli.specs.declared.failure.Failure.TheVariants as failure
 use Rattle.fr_cli.specs.declared.fault.Fault.{Fault}
 use Rattle.fr_cli.specs.declared.fault.Fault.TheVariants.{NoMemory}
-use Rattle.fr_cli.specs.declared.hindrance.Hindrance.{Hindrance}
-use Rattle.fr_cli.specs.declared.hindrance.Hindrance.TheVariants as way
-use Rattle.fr_cli.specs.declared.text_file.TextFile.{TextFile}
-use Rattle.fr_cli.specs.declared.text_file.TextFile.TheVariants as of
+use Rattle.fr_cli.specs.declared.files.hindrance.Hindrance.{Hindrance}
+use Rattle.fr_cli.specs.declared.files.hindrance.Hindrance.TheVariants as way
+use Rattle.fr_cli.specs.declared.words.check_subject.CheckSubject.{CheckSubject}
+use Rattle.fr_cli.specs.declared.words.check_subject.CheckSubject.TheVariants as of
 
 -- The bytes are a cluster file; or they are none, and the line begins with the word of their fault; or memory was wanting.
 abbrev pub IsChecked : List ℕ → Result (Vec ℕ) Failure → Type 0
@@ -106,7 +106,7 @@ IsCheckedText read path WasRead IsCheckedAs done = ((fault : Fault) × (done ≡
     ⊎ ((bytes : List ℕ) × WasRead bytes × IsCheckedAs bytes done)
 
 -- Such a file is checked so: all of it, or of a file of rows a front. Of a path and of a register no text is read.
-abbrev pub IsCheckedFile : Readings → TextFile → Result (Vec ℕ) Failure → Type 0
+abbrev pub IsCheckedFile : Readings → CheckSubject → Result (Vec ℕ) Failure → Type 0
 IsCheckedFile read (of.Config path) done = IsCheckedText read path.now (read.whole max_config path.now) IsChecked done
 IsCheckedFile read (of.Requests path) done = IsCheckedText read path.now (read.whole max_script path.now)
     (λ bytes. AreChecked (AreToldOfRequests bytes) (fine_requests bytes)) done

@@ -11,7 +11,7 @@ use Rattle.fr_base.specs.declared.query.Query.TheVariants.{Register as OfRegiste
 use Rattle.fr_base.specs.declared.report.Report.{Report}
 use Rattle.fr_base.specs.declared.report.Report.TheVariants.{Layout, Room}
 use Rattle.fr_cli.specs.Reports.{Question, reports, text_of_name}
-use Rattle.fr_cli.specs.declared.reports.ArgName.{ArgName}
+use Rattle.fr_cli.specs.declared.words.reports.ArgName.{ArgName}
 
 -- a word that must stand at its place
 abbrev pub word : Text → Rule

@@ -14,10 +14,10 @@ use Rattle.fr_http.specs.Exchanges.{Answered, AreExchanged, Dealing, Exchanged}
 use Rattle.fr_picture.specs.Pages.{IsPage}
 use Rattle.fr_picture.specs.Plans.{since_of}
 use Rattle.fr_picture.specs.declared.plan.Plan.{Plan}
-use Rattle.fr_cli.specs.Answering.{EndsAnswer}
-use Rattle.fr_cli.specs.Asking.{asked_with, for_reader, query_of}
+use Rattle.fr_cli.specs.AnsweredLines.{EndsAnswer}
+use Rattle.fr_cli.specs.SingleRequest.{asked_with, for_reader, query_of}
 use Rattle.fr_cli.specs.Deliveries.{request_with}
-use Rattle.fr_cli.specs.Incoming.{AreFirstOf}
+use Rattle.fr_cli.specs.RequestStream.{AreFirstOf}
 use Rattle.fr_cli.specs.Jobs.{Shows, Streams}
 use Rattle.fr_cli.specs.Outlets.{held_before, held_behind}
 use Rattle.fr_cli.specs.Keys.{IsKeyGiven}
@@ -29,7 +29,7 @@ use Rattle.fr_cli.specs.Reading.{PrintsRead}
 use Rattle.fr_cli.specs.ScriptRun.{AreAnswered, Replied, asks_in, with_ask}
 use Rattle.fr_cli.specs.Texts.{Readings, max_rows}
 use Rattle.fr_cli.specs.Visits.{Comings, SinkGhosts, Visit, visit_of}
-use Rattle.fr_cli.specs.declared.delivery.Delivery.{Delivery}
+use Rattle.fr_cli.specs.declared.words.delivery.Delivery.{Delivery}
 use Rattle.fr_cli.specs.declared.failure.Failure.{Failure}
 use Rattle.fr_cli.specs.declared.failure.Failure.TheVariants as failure
 use Rattle.fr_cli.specs.declared.fault.Fault.TheVariants.{NoMemory}

@@ -2,9 +2,9 @@
 use Rattle.std.specs.Prelude.{ℕ, List}
 use Rattle.fr_base.specs.declared.request.Request.{Request}
 use Rattle.fr_base.specs.declared.request.Request.TheVariants as request
-use Rattle.fr_cli.specs.declared.delivery.Delivery.{Delivery}
-use Rattle.fr_cli.specs.declared.delivery.DeliveryKind.{DeliveryKind}
-use Rattle.fr_cli.specs.declared.delivery.DeliveryKind.TheVariants.{Import, Replacement, Trial}
+use Rattle.fr_cli.specs.declared.words.delivery.Delivery.{Delivery}
+use Rattle.fr_cli.specs.declared.words.delivery.DeliveryKind.{DeliveryKind}
+use Rattle.fr_cli.specs.declared.words.delivery.DeliveryKind.TheVariants.{Import, Replacement, Trial}
 
 -- the request for a file with these bytes, as that of this variant
 abbrev pub request_as : DeliveryKind → List ℕ → List ℕ → Request

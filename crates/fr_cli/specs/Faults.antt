@@ -12,15 +12,15 @@ use Rattle.fr_base.specs.declared.refusal.Refusal.{Refusal}
 use Rattle.fr_base.specs.declared.request.Ask.{Ask}
 use Rattle.fr_base.specs.declared.request.Request.{Request}
 use Rattle.fr_desks.specs.FileDesk.{BarsMigration}
-use Rattle.fr_cli.specs.Asking.{asked_with}
+use Rattle.fr_cli.specs.SingleRequest.{asked_with}
 use Rattle.fr_cli.specs.Deliveries.{request_with}
 use Rattle.fr_cli.specs.Keys.{IsKeyGiven, IsKeyUnread}
 use Rattle.fr_cli.specs.RegisterFiles.{LeadsInFile, StaysInFile}
 use Rattle.fr_cli.specs.ScriptFault.{script_fault_of, script_fault_word}
 use Rattle.fr_cli.specs.Texts.{IsClusterAt, IsUnread, Readings, max_config, max_rows}
-use Rattle.fr_cli.specs.declared.delivery.Delivery.{Delivery}
+use Rattle.fr_cli.specs.declared.words.delivery.Delivery.{Delivery}
 use Rattle.fr_cli.specs.declared.fault.Fault.{Fault}
-use Rattle.fr_cli.specs.declared.input.InputFault.{InputFault}
+use Rattle.fr_cli.specs.declared.streams.input.InputFault.{InputFault}
 use Rattle.fr_cli.specs.declared.fault.Fault.TheVariants.{Script, Config, Register, CannotOpen, CannotListen, NoMemory, WriteFailed}
 use Rattle.fr_http.specs.declared.fault.LinkFault.{LinkFault}
 use Rattle.fr_http.specs.declared.fault.LinkFault.TheVariants as link

@@ -5,11 +5,11 @@ use Rattle.fr_office.specs.declared.office.Office.{Office}
 use Rattle.fr_store.specs.declared.fault.StoreFault.TheVariants as store
 use Rattle.fr_cli.specs.declared.fault.Fault.{Fault}
 use Rattle.fr_cli.specs.declared.fault.Fault.TheVariants as fault
-use Rattle.fr_cli.specs.declared.guarded.Guarded.{Guarded}
+use Rattle.fr_cli.specs.declared.jobs.guarded.Guarded.{Guarded}
 use Rattle.fr_cli.specs.declared.script_fault.ScriptFault.{ScriptFault}
 use Rattle.fr_cli.specs.declared.script_fault.ScriptFault.TheVariants as script
-use Rattle.fr_cli.specs.declared.watch.WatchFault.{WatchFault}
-use Rattle.fr_cli.specs.declared.watch.WatchFault.TheVariants as watch
+use Rattle.fr_cli.specs.declared.files.watch.WatchFault.{WatchFault}
+use Rattle.fr_cli.specs.declared.files.watch.WatchFault.TheVariants as watch
 
 -- the office that it guards
 abbrev pub office_of : {R : Type 0} → Guarded R → Office R

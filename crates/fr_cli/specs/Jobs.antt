@@ -8,12 +8,12 @@ use Rattle.fr_picture.specs.Plans.{since_of}
 use Rattle.sqlite.specs.declared.file.Leftover.{Leftover}
 use Rattle.sqlite_disk.specs.declared.Disk.{Ghosts}
 use Rattle.sqlite_wal.specs.Recovery.{Image}
-use Rattle.fr_cli.specs.Asking.{IsForReader, query_of}
+use Rattle.fr_cli.specs.SingleRequest.{IsForReader, query_of}
 use Rattle.fr_cli.specs.Checking.{IsCheckedFile}
 use Rattle.fr_cli.specs.Endings.{IsTold, Tells, status_of}
 use Rattle.fr_cli.specs.Explaining.{IsExplained}
 use Rattle.fr_cli.specs.Faults.{IsNotCreated, IsNotDelivered, IsNotMigrated, IsNotReported}
-use Rattle.fr_cli.specs.Incoming.{IsAsked}
+use Rattle.fr_cli.specs.RequestStream.{IsAsked}
 use Rattle.fr_cli.specs.Outlets.{Outlet, StopsSo, held_before, held_behind, outlet}
 use Rattle.fr_cli.specs.Performing.{Says, of_script}
 use Rattle.fr_cli.specs.Picturing.{plans_for}

@@ -4,8 +4,8 @@ use Rattle.std.specs.Prelude.{◌≡◌, ◌≢◌, ◌⊎◌, ◌<◌, ◌≤�
 use Rattle.std.specs.Io.KnownBytes.{Consumes, IsAtEnd, Keeps}
 use Rattle.std.specs.Str.Lines.{lines}
 use Rattle.fr_text.specs.Script.{HasNo}
-use Rattle.fr_cli.specs.declared.input.InputFault.{InputFault}
-use Rattle.fr_cli.specs.declared.input.InputFault.TheVariants.{TooLong}
+use Rattle.fr_cli.specs.declared.streams.input.InputFault.{InputFault}
+use Rattle.fr_cli.specs.declared.streams.input.InputFault.TheVariants.{TooLong}
 
 -- the first of lines, or none
 abbrev pub first_of : List (List ℕ) → List ℕ

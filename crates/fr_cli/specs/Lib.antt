@@ -5,7 +5,7 @@ pub mod Output
 pub mod Numbered
 pub mod NumberedOutput
 pub mod OutputLaws
-pub mod Answering
+pub mod AnsweredLines
 pub mod Laws
 pub mod Reports
 pub mod Commands
@@ -14,7 +14,7 @@ pub mod Texts
 pub mod Queries
 pub mod Deliveries
 pub mod Outcomes
-pub mod Asking
+pub mod SingleRequest
 pub mod Keys
 pub mod Inputs
 pub mod Reading
@@ -24,13 +24,13 @@ pub mod RegisterFiles
 pub mod Faults
 pub mod Endings
 pub mod Performing
-pub mod Incoming
+pub mod RequestStream
 pub mod Guarding
 pub mod Visits
 pub mod Outlets
 pub mod Serving
 pub mod Stops
-pub mod Errands
+pub mod RegisterTasks
 pub mod Runs
 pub mod Checking
 pub mod Explaining

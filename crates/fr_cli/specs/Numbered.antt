@@ -5,7 +5,7 @@ use Rattle.std.specs.Str.Lines.{lines}
 use Rattle.fr_base.specs.declared.answer.Answer.{Answer}
 use Rattle.fr_cli.specs.Outcomes.{line_of}
 use Rattle.fr_cli.specs.Output.{text_of_answers}
-use Rattle.fr_cli.specs.declared.numbered.NumberedLine.{NumberedLine}
+use Rattle.fr_cli.specs.declared.streams.numbered_lines.NumberedLine.{NumberedLine}
 
 -- the lines that are not empty, each with its number; the first line of all has this one
 abbrev pub number_from : ℕ → List (List ℕ) → List (ℕ × List ℕ)

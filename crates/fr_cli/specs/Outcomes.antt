@@ -7,8 +7,8 @@ use Rattle.fr_base.specs.declared.answer.FateRow.{FateRow}
 use Rattle.fr_base.specs.declared.answer.ReportRows.{ReportRows}
 use Rattle.fr_base.specs.declared.answer.ReportRows.TheVariants.{Fates}
 use Rattle.fr_text.specs.AnswerText.{report_of, text_of}
-use Rattle.fr_cli.specs.declared.outcome.Outcome.{Outcome}
-use Rattle.fr_cli.specs.declared.outcome.Outcome.TheVariants as outcome
+use Rattle.fr_cli.specs.declared.streams.outcome.Outcome.{Outcome}
+use Rattle.fr_cli.specs.declared.streams.outcome.Outcome.TheVariants as outcome
 
 -- whether one of these rows would be refused
 abbrev pub has_refused_row : List FateRow → Bool

@@ -8,7 +8,7 @@ use Rattle.fr_cli.specs.declared.failure.Failure.{Failure}
 use Rattle.fr_cli.specs.declared.failure.Failure.TheVariants as failure
 use Rattle.fr_cli.specs.declared.fault.Fault.{Fault}
 use Rattle.fr_cli.specs.declared.fault.Fault.TheVariants.{Script}
-use Rattle.fr_cli.specs.declared.outcome.Outcome.TheVariants as outcome
+use Rattle.fr_cli.specs.declared.streams.outcome.Outcome.TheVariants as outcome
 use Rattle.fr_cli.specs.declared.script_fault.ScriptFault.{ScriptFault}
 
 -- how the run of a script ends, as a job

@@ -7,7 +7,7 @@ use Rattle.fr_base.specs.declared.actor.Actor.{Actor}
 use Rattle.fr_base.specs.declared.actor.Actor.TheVariants.{Integrator, Supplier}
 use Rattle.fr_base.specs.declared.request.Request.{Request}
 use Rattle.fr_base.specs.declared.request.Request.TheVariants as request
-use Rattle.fr_cli.specs.declared.query.Inquiry.{Inquiry}
+use Rattle.fr_cli.specs.declared.words.inquiry.Inquiry.{Inquiry}
 
 -- who asks: the integrator where no supplier is named, else the supplier of this name; a text that is no name is nobody's
 abbrev pub reader_named : Option (Bor (List ℕ)) → Option Actor

@@ -8,7 +8,7 @@ use Rattle.fr_base.specs.declared.answer.Answer.TheVariants as answer
 use Rattle.fr_base.specs.declared.refusal.Refusal.{Refusal}
 use Rattle.fr_world.specs.Held.{Standing}
 use Rattle.fr_http.specs.Connection.{InSound}
-use Rattle.fr_cli.specs.Asking.{for_reader}
+use Rattle.fr_cli.specs.SingleRequest.{for_reader}
 use Rattle.fr_cli.specs.Outcomes.{line_of}
 use Rattle.fr_cli.specs.declared.failure.Failure.{Failure}
 use Rattle.fr_cli.specs.declared.failure.Failure.TheVariants as failure

@@ -17,14 +17,14 @@ use Rattle.fr_base.specs.declared.request.Request.{Request}
 use Rattle.fr_desks.specs.FileDesk.{Held, IsLeftWith, LeavesBook}
 use Rattle.fr_store.specs.Opened.{IsMigrated}
 use Rattle.fr_store.specs.Opening.{AllowsCreation}
-use Rattle.fr_cli.specs.Asking.{IsAnswer, Leads, asked_with}
 use Rattle.fr_cli.specs.Deliveries.{request_with}
 use Rattle.fr_cli.specs.Keys.{IsKeyGiven}
 use Rattle.fr_cli.specs.Opened.{IsLeftOf}
 use Rattle.fr_cli.specs.Reading.{IsRead, Reading, Stays}
+use Rattle.fr_cli.specs.SingleRequest.{IsAnswer, Leads, asked_with}
 use Rattle.fr_cli.specs.Texts.{IsClusterAt, Readings, max_rows}
-use Rattle.fr_cli.specs.declared.delivery.Delivery.{Delivery}
 use Rattle.fr_cli.specs.declared.fault.Fault.{Fault}
+use Rattle.fr_cli.specs.declared.words.delivery.Delivery.{Delivery}
 
 module _ {D : Type 0} {g : Ghosts D} where
   -- The file was opened and closed. As long as nobody else wrote to it, it held a register; this was asked of the book that it held, and may be answered so;

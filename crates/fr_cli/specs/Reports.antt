@@ -9,9 +9,9 @@ use Rattle.fr_base.specs.declared.query.Query.{Query}
 use Rattle.fr_base.specs.declared.query.Query.TheVariants.{Register as OfRegister, Variant as OfVariant, Difference as OfTwo}
 use Rattle.fr_base.specs.declared.report.Report.{Report}
 use Rattle.fr_base.specs.declared.report.Report.TheVariants.{Grants, Frames, Schedule, Gaps, Layout, Load, Rows, Room}
-use Rattle.fr_cli.specs.declared.reports.ArgName.{ArgName}
-use Rattle.fr_cli.specs.declared.reports.ArgName.TheVariants as arg
-use Rattle.fr_cli.specs.declared.reports.ReportCommand.{ReportCommand}
+use Rattle.fr_cli.specs.declared.words.reports.ArgName.{ArgName}
+use Rattle.fr_cli.specs.declared.words.reports.ArgName.TheVariants as arg
+use Rattle.fr_cli.specs.declared.words.reports.ReportCommand.{ReportCommand}
 
 -- an argument as the help has it; the part is an option's
 abbrev pub text_of_name : ArgName → Text

@@ -3,8 +3,8 @@ use Rattle.std.specs.Prelude.{ℕ, List, codes}
 use Rattle.fr_text.specs.ClusterFile.{config_fault_word}
 use Rattle.fr_cli.specs.declared.script_fault.ScriptFault.{ScriptFault}
 use Rattle.fr_cli.specs.declared.script_fault.ScriptFault.TheVariants.{TooLong, TooManyReads, ReadFailed, NoSeparator, Config, Unavailable, NoMemory, WriteFailed}
-use Rattle.fr_cli.specs.declared.input.InputFault.{InputFault}
-use Rattle.fr_cli.specs.declared.input.InputFault.TheVariants as input
+use Rattle.fr_cli.specs.declared.streams.input.InputFault.{InputFault}
+use Rattle.fr_cli.specs.declared.streams.input.InputFault.TheVariants as input
 
 -- the fault's word, as it is printed
 abbrev pub script_fault_word : ScriptFault → List ℕ

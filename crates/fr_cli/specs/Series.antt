@@ -31,8 +31,8 @@ use Rattle.fr_cli.specs.Visits.{Comings, SinkGhosts, SourceGhosts, comings}
 use Rattle.fr_cli.specs.declared.failure.Failure.TheVariants as failure
 use Rattle.fr_cli.specs.declared.fault.Fault.{Fault}
 use Rattle.fr_cli.specs.declared.fault.Fault.TheVariants.{Register}
-use Rattle.fr_cli.specs.declared.listener.Listener as Listener
-use Rattle.fr_cli.specs.declared.text_files.TextFiles as TextFiles
+use Rattle.fr_cli.specs.declared.streams.listener.Listener as Listener
+use Rattle.fr_cli.specs.declared.files.text_files.TextFiles as TextFiles
 use Rattle.fr_cli.specs.declared.words.Job.{Job}
 use Rattle.fr_cli.specs.declared.words.Job.TheVariants as job
 use Rattle.fr_store.specs.StoreFiles.{image_left, outcomes_left}

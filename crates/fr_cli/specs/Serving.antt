@@ -24,8 +24,8 @@ use Rattle.fr_cli.specs.Outlets.{IsCutShort, IsSaid, Outlet, held_before, held_b
 use Rattle.fr_cli.specs.Visits.{Comings, MayListen, SinkGhosts, Visit, visit_of}
 use Rattle.fr_cli.specs.declared.fault.Fault.{Fault}
 use Rattle.fr_cli.specs.declared.fault.Fault.TheVariants.{CannotListen, NoMemory, Register, WriteFailed}
-use Rattle.fr_cli.specs.declared.listener.Listener as Listener
-use Rattle.fr_cli.specs.declared.serving.Service.{Service}
+use Rattle.fr_cli.specs.declared.streams.listener.Listener as Listener
+use Rattle.fr_cli.specs.declared.jobs.serve.Service.{Service}
 use Rattle.fr_store.specs.declared.fault.StoreFault.TheVariants.{Unavailable}
 
 -- In each sound book for which the register stood, as long as it is clean, there was an exchange with exactly these bytes, which ended so, and

@@ -17,7 +17,7 @@ use Rattle.fr_base.specs.declared.desk.Desk as Desk
 use Rattle.fr_desks.specs.FileDesk.{AreGivenUp, Held}
 use Rattle.fr_desks.specs.Sessions.{Session}
 use Rattle.fr_world.specs.Held.{Leaving}
-use Rattle.fr_cli.specs.Answering.{AnswersEach}
+use Rattle.fr_cli.specs.AnsweredLines.{AnswersEach}
 use Rattle.fr_cli.specs.Deeds.{Deed, Did, IsDeedOf, Lines, Visits}
 use Rattle.fr_cli.specs.Jobs.{IsPerformed, Streams}
 use Rattle.fr_cli.specs.Opened.{IsOver}
@@ -25,8 +25,8 @@ use Rattle.fr_cli.specs.Series.{LeadsSomehow, Unclosed, WasNotOpened}
 use Rattle.fr_cli.specs.Serving.{ServesEach}
 use Rattle.fr_cli.specs.Texts.{readings}
 use Rattle.fr_cli.specs.Visits.{SinkGhosts, SourceGhosts, comings}
-use Rattle.fr_cli.specs.declared.listener.Listener as Listener
-use Rattle.fr_cli.specs.declared.text_files.TextFiles as TextFiles
+use Rattle.fr_cli.specs.declared.streams.listener.Listener as Listener
+use Rattle.fr_cli.specs.declared.files.text_files.TextFiles as TextFiles
 use Rattle.fr_cli.specs.declared.words.Job.{Job}
 use Rattle.fr_cli.specs.declared.words.Job.TheVariants as job
 

@@ -7,8 +7,8 @@ use Rattle.fr_base.specs.Cluster.{ClusterFile}
 use Rattle.fr_text.specs.ClusterFile.{config_of}
 use Rattle.fr_cli.specs.declared.fault.Fault.{Fault}
 use Rattle.fr_cli.specs.declared.fault.Fault.TheVariants.{CannotOpen, NoMemory}
-use Rattle.fr_cli.specs.declared.hindrance.Hindrance.{Hindrance}
-use Rattle.fr_cli.specs.declared.text_files.TextFiles as TextFiles
+use Rattle.fr_cli.specs.declared.files.hindrance.Hindrance.{Hindrance}
+use Rattle.fr_cli.specs.declared.files.text_files.TextFiles as TextFiles
 
 -- how many bytes a cluster file has at most
 abbrev pub max_config : ℕ

@@ -14,7 +14,7 @@ use Rattle.fr_http.specs.declared.fault.LinkFault.TheVariants.{Truncated}
 use Rattle.fr_http.specs.declared.fault.Unasked.TheVariants.{Fault}
 use Rattle.fr_http.specs.declared.input.TheConstants.{MAX_READS}
 use Rattle.fr_http.specs.declared.serve.Served.{Served}
-use Rattle.fr_cli.specs.declared.listener.Listener as Listener
+use Rattle.fr_cli.specs.declared.streams.listener.Listener as Listener
 
 -- What happened on a connection, as far as its ends tell: the bytes that were read of it, those that were written to it, and how it ended.
 pub record Visit : Type 0 where

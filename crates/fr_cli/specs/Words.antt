@@ -18,18 +18,18 @@ use Rattle.fr_base.specs.declared.request.Manner.{Manner}
 use Rattle.fr_base.specs.declared.request.Manner.TheVariants.{Import, Replace}
 use Rattle.fr_cli.specs.Commands.{slotplan}
 use Rattle.fr_cli.specs.Reports.{Question, asked_with, of_variant, text_of_name}
-use Rattle.fr_cli.specs.declared.reports.ArgName.{ArgName}
-use Rattle.fr_cli.specs.declared.reports.ArgName.TheVariants as arg
+use Rattle.fr_cli.specs.declared.words.reports.ArgName.{ArgName}
+use Rattle.fr_cli.specs.declared.words.reports.ArgName.TheVariants as arg
 use Rattle.fr_cli.specs.declared.words.Job.{Job}
 use Rattle.fr_cli.specs.declared.words.Job.TheVariants.{Run, Create, Migrate, Serve, Ask, Report as ReportOn, Picture, Deliver, Check, Explain}
 use Rattle.fr_cli.specs.declared.words.WordFault.{WordFault}
 use Rattle.fr_cli.specs.declared.words.WordFault.TheVariants.{Help, Usage, NoMemory}
-use Rattle.fr_cli.specs.declared.delivery.Delivery.{Delivery}
-use Rattle.fr_cli.specs.declared.delivery.DeliveryKind.{DeliveryKind}
-use Rattle.fr_cli.specs.declared.delivery.DeliveryKind.TheVariants.{Import as ByLabel, Replacement, Trial}
-use Rattle.fr_cli.specs.declared.query.Inquiry.{Inquiry}
-use Rattle.fr_cli.specs.declared.text_file.TextFile.{TextFile}
-use Rattle.fr_cli.specs.declared.text_file.TextFile.TheVariants as of
+use Rattle.fr_cli.specs.declared.words.delivery.Delivery.{Delivery}
+use Rattle.fr_cli.specs.declared.words.delivery.DeliveryKind.{DeliveryKind}
+use Rattle.fr_cli.specs.declared.words.delivery.DeliveryKind.TheVariants.{Import as ByLabel, Replacement, Trial}
+use Rattle.fr_cli.specs.declared.words.inquiry.Inquiry.{Inquiry}
+use Rattle.fr_cli.specs.declared.words.check_subject.CheckSubject.{CheckSubject}
+use Rattle.fr_cli.specs.declared.words.check_subject.CheckSubject.TheVariants as of
 
 -- The word at this place is this text.
 abbrev pub Has : Text → List Row → Text → Type 0
@@ -99,7 +99,7 @@ abbrev pub Lacks : Text → List Row → Type 0
 Lacks name rows = first_of name rows ≡ None
 
 -- The file or the path is the one that the words name, and they name no other.
-abbrev pub IsFileOf : TextFile → List Row → Type 0
+abbrev pub IsFileOf : CheckSubject → List Row → Type 0
 IsFileOf (of.Config path) rows = Has (codes "CONFIG") rows path.now × Lacks (codes "requests") rows × Lacks (codes "rows") rows × Lacks (codes "path") rows × Lacks (codes "register") rows
 IsFileOf (of.Requests path) rows = Lacks (codes "CONFIG") rows × Has (codes "requests") rows path.now × Lacks (codes "rows") rows × Lacks (codes "path") rows × Lacks (codes "register") rows
 IsFileOf (of.Rows path) rows = Lacks (codes "CONFIG") rows × Lacks (codes "requests") rows × Has (codes "rows") rows path.now × Lacks (codes "path") rows × Lacks (codes "register") rows
@@ -107,9 +107,9 @@ IsFileOf (of.Target path) rows = Lacks (codes "CONFIG") rows × Lacks (codes "re
 IsFileOf (of.Register path) rows = Lacks (codes "CONFIG") rows × Lacks (codes "requests") rows × Lacks (codes "rows") rows × Lacks (codes "path") rows × Has (codes "register") rows path.now
 
 -- The file is that one. Where none is given, the words name none, or several.
-abbrev pub IsFileIn : Option TextFile → List Row → Type 0
+abbrev pub IsFileIn : Option CheckSubject → List Row → Type 0
 IsFileIn (Some file) rows = IsFileOf file rows
-IsFileIn None rows = (file : TextFile) → IsFileOf file rows → ⊥
+IsFileIn None rows = (file : CheckSubject) → IsFileOf file rows → ⊥
 
 -- how the rows of a file act that is tried: in a replacement where that is said, else in an import; a replacement alone may be whole
 abbrev pub manner_by : Bool → Bool → Option Manner

@@ -7,8 +7,8 @@ ghost use Rattle.fr_cli.specs.Series.{AllJobsAreKept, JobLeads, JobsAreKept, Mad
 ghost use Rattle.fr_cli.specs.Stops.{JobStops};
 ghost use Rattle.fr_office.specs.Crashed.{leaves_of};
 
-use crate::listener::Listener;
-use crate::text_files::TextFiles;
+use crate::files::text_files::TextFiles;
+use crate::streams::listener::Listener;
 use fr_base::Desk;
 use fr_office::Office;
 use fr_store::Store;

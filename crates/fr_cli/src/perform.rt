@@ -12,20 +12,20 @@ ghost use Rattle.fr_cli.specs.Texts.{readings};
 ghost use Rattle.fr_cli.specs.Visits.{comings};
 ghost use Rattle.fr_cli.specs.declared.script_fault.ScriptFault.{ScriptFault as Early};
 
-use crate::asked_file::ask;
-use crate::checking::check;
-use crate::creating::create;
-use crate::delivered_file::deliver_file;
-use crate::explaining::explain_word;
 use crate::failure::Failure;
 use crate::fault::{Fault, of_script};
-use crate::listener::Listener;
-use crate::over_file::over_file;
-use crate::printing::{end, print, print_all, tell};
-use crate::script::run_script;
-use crate::serving::{Service, serve};
-use crate::telling::Telling;
-use crate::text_files::TextFiles;
+use crate::files::text_files::TextFiles;
+use crate::jobs::ask::ask;
+use crate::jobs::check::check;
+use crate::jobs::create::create;
+use crate::jobs::deliver::deliver_file;
+use crate::jobs::explain::explain_word;
+use crate::jobs::print_task::PrintTask;
+use crate::jobs::register_task::run_task;
+use crate::jobs::script::run_script;
+use crate::jobs::serve::{Service, serve};
+use crate::streams::listener::Listener;
+use crate::streams::printing::{end, print, print_all, tell};
 use crate::words::{Job, WordFault};
 use fr_base::Desk;
 use fr_desks::{FileDesk, Left, file_desk};
@@ -76,8 +76,8 @@ pub fn perform<S: Start, F: TextFiles, R: Read, O: Sink, E: Sink, L: Listener>(
         }
         Job::Ask { db, numbered } => ended(ask(rt, db, start, input, out, numbered), err),
         Job::Report { db, query } => {
-            let mut report = Telling::Report(query);
-            told(over_file(rt, db, start, &mut report), out, err)
+            let mut report = PrintTask::Report(query);
+            told(run_task(rt, db, start, &mut report), out, err)
         }
         Job::Picture {
             db,
@@ -85,12 +85,12 @@ pub fn perform<S: Start, F: TextFiles, R: Read, O: Sink, E: Sink, L: Listener>(
             since,
             supplier,
         } => {
-            let mut picture = Telling::Picture {
+            let mut picture = PrintTask::Picture {
                 variant,
                 since,
                 supplier,
             };
-            told(over_file(rt, db, start, &mut picture), out, err)
+            told(run_task(rt, db, start, &mut picture), out, err)
         }
         Job::Deliver { db, delivery } => {
             let delivered = deliver_file(rt, db, start, delivery, files, input);

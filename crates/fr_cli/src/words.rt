@@ -5,11 +5,17 @@ ghost use Rattle.clap.specs.Words.{found_of, kind_of, subcommand_rows_of};
 ghost use Rattle.fr_cli.specs.Words.{AreTaken, AskFor, HasKind, IsFaultOf, IsFileIn, IsJobFound, IsJobIn, IsJobOf, IsNumberIn, IsOfKind, IsReportJobIn, LackAnObject, MayRefuse, asked_by, header_in, is_given, manner_in, records, word_of_delivery};
 ghost use Rattle.fr_cli.specs.declared.words.WordFault.TheVariants.{NoMemory};
 
-use crate::commands::{MAX_CONNECTIONS, MAX_PORT, MAX_SECONDS, program};
-use crate::delivery::{Delivery, DeliveryKind};
-use crate::query::Inquiry;
-use crate::reports::{ArgName, report_command};
-use crate::text_file::TextFile;
+pub(crate) mod check_subject;
+pub(crate) mod commands;
+pub(crate) mod delivery;
+pub(crate) mod inquiry;
+pub(crate) mod reports;
+
+use crate::words::check_subject::CheckSubject;
+use crate::words::commands::{MAX_CONNECTIONS, MAX_PORT, MAX_SECONDS, program};
+use crate::words::delivery::{Delivery, DeliveryKind};
+use crate::words::inquiry::Inquiry;
+use crate::words::reports::{ArgName, report_command};
 use clap::error::ErrorKind;
 use clap::{ArgMatches, Error};
 use fr_base::{Header, Manner, Query, QueryReader, Report};
@@ -77,7 +83,7 @@ pub enum Job<'a> {
     /// Say what is wrong with the text of a file, and where, or with a path, or that nothing is; or what stands in the way of
     /// using a register.
     Check {
-        file: TextFile<'a>,
+        file: CheckSubject<'a>,
     },
     /// Say what a refusal's name or a fault's word means, or list all of them.
     Explain {
@@ -359,12 +365,12 @@ fn check_job<'a>(found: &ArgMatches<'a>) -> Option<Job<'a>>
     ensures { IsJobIn result (codes "check") (rows_of (found_of found.now)) }
 {
     Some(Job::Check {
-        file: text_file(found)?,
+        file: subject(found)?,
     })
 }
 
 // The one file or path that is named.
-fn text_file<'a>(found: &ArgMatches<'a>) -> Option<TextFile<'a>>
+fn subject<'a>(found: &ArgMatches<'a>) -> Option<CheckSubject<'a>>
     ensures { IsFileIn result (rows_of (found_of found.now)) }
 {
     let config = word(found, "CONFIG");
@@ -373,11 +379,11 @@ fn text_file<'a>(found: &ArgMatches<'a>) -> Option<TextFile<'a>>
     let target = word(found, "path");
     let register = word(found, "register");
     match (config, requests, rows, target, register) {
-        (Some(path), None, None, None, None) => Some(TextFile::Config { path }),
-        (None, Some(path), None, None, None) => Some(TextFile::Requests { path }),
-        (None, None, Some(path), None, None) => Some(TextFile::Rows { path }),
-        (None, None, None, Some(path), None) => Some(TextFile::Target { path }),
-        (None, None, None, None, Some(path)) => Some(TextFile::Register { path }),
+        (Some(path), None, None, None, None) => Some(CheckSubject::Config { path }),
+        (None, Some(path), None, None, None) => Some(CheckSubject::Requests { path }),
+        (None, None, Some(path), None, None) => Some(CheckSubject::Rows { path }),
+        (None, None, None, Some(path), None) => Some(CheckSubject::Target { path }),
+        (None, None, None, None, Some(path)) => Some(CheckSubject::Register { path }),
         _ => None,
     }
 }

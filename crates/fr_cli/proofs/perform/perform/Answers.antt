@@ -1,9 +1,9 @@
 use Rattle.std.proofs.Common.{refl, rules}
 use Rattle.std.proofs.KnownBytes.{Keeps-refl}
 use Rattle.fr_cli.specs.Jobs.{IsPerformed}
-use Rattle.fr_cli.proofs.AskingLaws.{reported_over}
 use Rattle.fr_cli.proofs.JobLaws.{performed}
 use Rattle.fr_cli.proofs.ReadingLaws.{pictured_over}
+use Rattle.fr_cli.proofs.SingleRequestLaws.{reported_over}
 use Rattle.fr_cli.proofs.perform.perform.Goals as goal
 
 pub returns-in-Run : goal.returns-in-Run
@@ -27,12 +27,12 @@ returns-in-Ask g c = performed _ _ _ _ _ _ _ c.in-Ask.is c.ended-in-Ask.ensures.
 
 pub returns-in-Report : goal.returns-in-Report
 returns-in-Report g c =
-    let done = c.over_file in
+    let done = c.run_task in
     performed _ _ _ _ _ _ _ c.in-Report.is c.told.ensures.left (unfold IsPerformed in (done.result.0, search rules, reported_over c.in-Report.query done.ensures, search rules, (Keeps-refl (g.R.Read.remaining c.args.input.now), refl)))
 
 pub returns-in-Picture : goal.returns-in-Picture
 returns-in-Picture g c =
-    let done = c.over_file-in-Picture in
+    let done = c.run_task-in-Picture in
     performed _ _ _ _ _ _ _ c.in-Picture.is c.told-in-Picture.ensures.left (unfold IsPerformed in (done.result.0, search rules, pictured_over c.in-Picture.variant c.in-Picture.since c.in-Picture.supplier done.ensures, search rules, (Keeps-refl (g.R.Read.remaining c.args.input.now), refl)))
 
 pub returns-in-Deliver : goal.returns-in-Deliver

@@ -1,4 +1,0 @@
-use Rattle.fr_cli.proofs.guarded.GuardedDesk.config.Goals as goal
-
-pub returns : goal.returns
-returns g c = λ k b stands. c.config.ensures k b stands.0
