@@ -7,7 +7,7 @@
 #               proved program tried, as each of two compilers made it. An hour or two
 # make edits    asks the prover of every wrong body, also of those that the gate leaves out; CRATES='fr_base ..' names some.
 #               Run it when a contract has changed, some minutes a crate; no part of the gate
-# make map      prints what each file of the crates, the tests, bench/ and clients/ is for; CRATES='fr_base tests ..' names some
+# make map      prints what each file of the crates, the tests, tools/, bench/ and clients/ is for; CRATES='fr_base tests ..' names some
 # make calls    prints what each public call of CRATES='fr_base ..' promises: its text, and its clauses
 # make laws     prints the laws of each crate, or of CRATES='fr_base ..', with their definitions; WORD=released prints those with that word
 # make try      tries the built program alone, as the gate does: rows, examples, faults, limits, counts of cycles, register files and
@@ -70,54 +70,54 @@ $(unproved): tests/unproved.py $(shell find crates -name out -prune -o -name '*.
 	@python3 tests/unproved.py $@
 
 test: toolchain
-	@python3 -m tests.quick
+	@python3 -m tools.quick
 
 prove: toolchain
-	@python3 -m tests.gate
+	@python3 -m tools.gate
 
 edits: toolchain
-	@python3 -m tests.edits $(CRATES)
+	@python3 -m tools.edits $(CRATES)
 
 map:
-	@python3 -m tests.lib.heads $(CRATES)
+	@python3 -m tools.heads $(CRATES)
 
 calls:
-	@python3 -m tests.lib.calls $(CRATES)
+	@python3 -m tools.calls $(CRATES)
 
 laws:
-	@python3 -m tests.lib.laws --word='$(WORD)' $(CRATES)
+	@python3 -m tools.laws --word='$(WORD)' $(CRATES)
 
 try: build
-	@SLOTPLAN=$(program) python3 -m tests.lib.run
+	@SLOTPLAN=$(program) python3 -m tests.runner.run
 
 # By the program that make run takes.
 look:
 	@if test -x $(program) && test -z "$$(find crates crates.txt $(sources) -newer $(program) -print)"; then \
-	  SLOTPLAN=$(program) python3 -m tests.look; \
+	  SLOTPLAN=$(program) python3 -m tools.look; \
 	else $(MAKE) --no-print-directory -s look-unproved; fi
 
 .PHONY: look-unproved
 look-unproved: $(unproved)
 	@echo "make: this is $(unproved), which was compiled without proof; make install proves the program" >&2
-	@SLOTPLAN=$(unproved) python3 -m tests.look
+	@SLOTPLAN=$(unproved) python3 -m tools.look
 
 page:
 	@python3 page/build.py
 
 hostile: build
-	@WHOLE=yes SLOTPLAN=$(program) python3 -m tests.lib.run tests.test_stops tests.test_crowds tests.test_foreign tests.test_links
+	@WHOLE=yes SLOTPLAN=$(program) python3 -m tests.runner.run tests.test_stops tests.test_crowds tests.test_foreign tests.test_links
 
 refuse: build out/programs/refuse_store
 	@for crate in fr_tests fr_tests_registers fr_tests_program; do (cd crates/$$crate && rt test) || exit 1; done
-	@WHOLE=yes SLOTPLAN=$(program) python3 -m tests.lib.run tests.test_refused tests.outside.test_store_refused tests.outside.test_crates_refused
+	@WHOLE=yes SLOTPLAN=$(program) python3 -m tests.runner.run tests.test_refused tests.outside.test_store_refused tests.outside.test_crates_refused
 
 # Programs in Rattle that try or measure the crates.
-out/programs/%: tests/programs/%.rt.txt tests/lib/rattle.py $(shell find crates $(sources) -print) | toolchain
+out/programs/%: tests/programs/%.rt.txt tests/drivers/rattle.py $(shell find crates $(sources) -print) | toolchain
 	@echo "make: proving and building $@: minutes, and more where crates are still to be proved" >&2
-	@python3 -m tests.lib.rattle $*
+	@python3 -m tests.drivers.rattle $*
 
 store: out/programs/store_files out/programs/store_pages
-	@python3 -m tests.lib.run tests.outside.test_store_files tests.outside.test_store_pages tests.outside.test_foreign_rows
+	@python3 -m tests.runner.run tests.outside.test_store_files tests.outside.test_store_pages tests.outside.test_foreign_rows
 
 $(plans): clients/archive.py $(shell find clients/slotplan_plans -name '*.py')
 	@python3 -m clients.archive $@

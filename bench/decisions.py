@@ -13,7 +13,7 @@ from texts import seconds
 
 TOP = Path(__file__).resolve().parent.parent
 sys.path.append(str(TOP))
-from tests.lib.rattle import built
+from tests.drivers.rattle import built
 
 FRAMES = (4, 64, 256)
 COUNTS = (1, 64, 128, 256, 512)

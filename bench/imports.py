@@ -11,7 +11,7 @@ from texts import seconds
 
 TOP = Path(__file__).resolve().parent.parent
 sys.path.append(str(TOP))
-from tests.lib.rattle import built
+from tests.drivers.rattle import built
 
 ROWS = 512
 RUNS = 21

@@ -18,9 +18,9 @@ from texts import seconds
 
 TOP = Path(__file__).resolve().parent.parent
 sys.path.append(str(TOP))
-from tests.lib.made import DEPTH, LARGE, suppliers
-from tests.lib.rattle import built
-from tests.lib.schema2 import filled
+from tests.drivers.rattle import built
+from tests.models.made import DEPTH, LARGE, suppliers
+from tests.models.schema2 import filled
 
 RUNS = 7
 SUPPLIERS = 64

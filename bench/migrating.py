@@ -19,8 +19,8 @@ from pathlib import Path
 
 TOP = Path(__file__).resolve().parent.parent
 sys.path.append(str(TOP))
-from tests.lib import schema1
-from tests.lib.made import CYCLES, FRAMES, IMPORT_BYTES, IMPORTS, LARGE, NODES, PLACEMENTS, SIGNALS, SLOTS, SUPPLIERS, VARIANTS, suppliers
+from tests.models import schema1
+from tests.models.made import CYCLES, FRAMES, IMPORTS, IMPORT_BYTES, LARGE, NODES, PLACEMENTS, SIGNALS, SLOTS, SUPPLIERS, VARIANTS, suppliers
 
 MIGRATED = 0, b"", b""
 OPENED = 1, b"", b'{"no":10,"refused":"NoVariant"}\n'

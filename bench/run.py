@@ -1,7 +1,7 @@
 #!/usr/bin/env python3
 """Prints requests per second and peak memory of `slotplan run` beside two programs of python3: run.py [--program FILE] [--lines N] [--suppliers S] [--seed X]
 
-The register is `tests/lib/naive.py`, which answers the same script, by python3's sqlite3 in memory; its answers have to be the
+The register is `tests/models/naive.py`, which answers the same script, by python3's sqlite3 in memory; its answers have to be the
 same. The reader reads the same lines with python3's json and answers nothing. All run in turn, and the best of three runs
 counts. Ratios are those of one run on one machine: they promise nothing."""
 import argparse
@@ -13,7 +13,7 @@ from pathlib import Path
 
 HERE = Path(__file__).resolve().parent
 MIXES = ("refused", "queries", "plan", "place", "imports", "revising", "comparing", "all")
-NAIVE = HERE.parent / "tests/lib/naive.py"
+NAIVE = HERE.parent / "tests/models/naive.py"
 RUNS = 3
 
 READER = r"""

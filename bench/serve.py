@@ -31,11 +31,11 @@ from pathlib import Path
 
 TOP = Path(__file__).resolve().parent.parent
 sys.path.append(str(TOP))
-from tests.lib.clients import connected, descriptors, meanwhile, memory_of, narrow, work_of
-from tests.lib.connections import LONG_CLUSTER, SCHEDULE, fill_long
-from tests.lib.messages import command as command_of
-from tests.lib.messages import head
-from tests.lib.server import HERE, free_port, started
+from tests.drivers.clients import connected, descriptors, meanwhile, memory_of, narrow, work_of
+from tests.drivers.connections import LONG_CLUSTER, SCHEDULE, fill_long
+from tests.drivers.server import HERE, free_port, started
+from tests.models.messages import command as command_of
+from tests.models.messages import head
 
 FRAMES = (4, 64, 256)
 PLACEMENTS = 8

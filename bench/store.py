@@ -14,7 +14,6 @@ count too: what a disk takes is not in them. The ratios hold for their machine: 
 import argparse
 import re
 import shutil
-import sqlite3
 import subprocess
 import sys
 import tempfile
@@ -26,10 +25,10 @@ from texts import seconds
 
 TOP = Path(__file__).resolve().parent.parent
 sys.path.append(str(TOP))
-from tests.lib.made import LARGE, suppliers
-from tests.lib.rattle import built
-from tests.lib.schema2 import connected, filled
-from tests.lib.sql import in_table
+from tests.drivers.rattle import built
+from tests.models.made import LARGE, suppliers
+from tests.models.schema2 import connected, filled
+from tests.models.sql import in_table
 
 PLACEMENTS, SIGNALS, BATCH = 8, 15, 512
 

@@ -1,10 +1,10 @@
 """Explanations and advice over HTTP: what `slotplan explain` and `slotplan check` print, to those who have HTTP alone. The register stays as it was."""
 import subprocess
 
-from tests.lib.messages import UNKNOWN, engine, head, post, put, reply, text
-from tests.lib.program import SECONDS, program
-from tests.lib.registers import RegisterCase
-from tests.lib.server import sent, started
+from tests.drivers.program import SECONDS, program
+from tests.drivers.registers import RegisterCase
+from tests.drivers.server import sent, started
+from tests.models.messages import UNKNOWN, engine, head, post, put, reply, text
 
 NOT_FOUND = engine("404 Not Found")
 ROWS, REQUESTS = "/v1/checks/rows", "/v1/checks/requests"

@@ -11,10 +11,10 @@ from clients.slotplan_plans.autosar import reading, writing
 from clients.slotplan_plans.autosar.proposal import Proposal
 from clients.slotplan_plans.plan import Variant
 from clients.slotplan_plans.reading import read
-from tests.lib.case import Case, for_each
-from tests.lib.descriptions import Shape, Told, reports, requests_of
-from tests.lib.made import DONE
-from tests.lib.plans import examples
+from tests.drivers.descriptions import Shape, Told, reports, requests_of
+from tests.models.made import DONE
+from tests.models.plans import examples
+from tests.runner.case import Case, for_each
 
 # Plans by chance: on one channel and on two, of many counts of cycles, without a payload and with the longest.
 SHAPES = {

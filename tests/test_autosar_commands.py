@@ -6,12 +6,14 @@ from functools import cache
 from pathlib import Path
 
 from clients.slotplan_plans.__main__ import main
-from tests.lib import arxml
-from tests.lib.case import Case, folder_in_memory
-from tests.lib.plans_client import ClientCase
-from tests.lib.following import THERE, follow
-from tests.lib.plans import Register, examples
-from tests.lib.program import TOP, ran
+from tests import TOP
+from tests.drivers.following import THERE, follow
+from tests.drivers.planned_registers import Register
+from tests.drivers.plans_client import ClientCase
+from tests.drivers.program import ran
+from tests.models import arxml
+from tests.models.plans import examples
+from tests.runner.case import Case, folder_in_memory
 
 COUNTS = "suppliers: 2, nodes: 3, grants: 5, frames: 4, placements: 4, signals: 3\n"
 

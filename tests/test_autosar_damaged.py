@@ -3,11 +3,11 @@ import json
 import random
 
 from clients.slotplan_plans.autosar import folder
-from tests.lib import arxml
-from tests.lib.case import for_each
-from tests.lib.damaged import damaged, lost, unsound
-from tests.lib.descriptions import Shape, reports, requests_of
-from tests.lib.made import SUPPLIERS
+from tests.drivers.descriptions import Shape, reports, requests_of
+from tests.models import arxml
+from tests.models.damaged import damaged, lost, unsound
+from tests.models.made import SUPPLIERS
+from tests.runner.case import for_each
 from tests.test_autosar_files import FileCase, exported
 
 OF_EACH = 600

@@ -10,11 +10,11 @@ from clients.slotplan_plans.bits import bits
 from clients.slotplan_plans.faults import Fault
 from clients.slotplan_plans.plan import Grant, Node, Placement, Signal
 from clients.slotplan_plans.reading import read
-from tests.lib import arxml
-from tests.lib.case import Case
-from tests.lib.damaged import lost
-from tests.lib.descriptions import Shape, Told, reports, requests_of
-from tests.lib.made import DONE
+from tests.drivers.descriptions import Shape, Told, reports, requests_of
+from tests.models import arxml
+from tests.models.damaged import lost
+from tests.models.made import DONE
+from tests.runner.case import Case
 
 TABLE = dict(line.split(",") for line in arxml.SUPPLIERS.splitlines()[1:])
 

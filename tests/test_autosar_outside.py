@@ -10,10 +10,10 @@ from itertools import combinations
 from clients.slotplan_plans.autosar import writing
 from clients.slotplan_plans.bits import bits
 from clients.slotplan_plans.reading import read
-from tests.lib import canmatrix_there
-from tests.lib.case import Case, for_each
-from tests.lib.descriptions import Shape, Told, reports
-from tests.lib.plans import examples
+from tests.drivers import canmatrix_there
+from tests.drivers.descriptions import Shape, Told, reports
+from tests.models.plans import examples
+from tests.runner.case import Case, for_each
 
 # canmatrix knows no CYCLE-COUNTER, so repetitions are those that AUTOSAR has a word for. Where names are alike, short names are longer ones.
 SHAPES = {

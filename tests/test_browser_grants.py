@@ -1,8 +1,8 @@
 """The integrator in the planners' page, in a browser: lanes that are granted and revoked by clicks, by drawing over many, by keys and by a pasted
 table; variants, suppliers and keys."""
-from tests.lib.browser import DOWN, ENTER, RIGHT, SHIFT
-from tests.lib.planner import PlannerCase
-from tests.lib.years import BOSS, CAMERA, CLUSTER, REQUESTS
+from tests.drivers.browser import DOWN, ENTER, RIGHT, SHIFT
+from tests.drivers.planner import PlannerCase
+from tests.models.years import BOSS, CAMERA, CLUSTER, REQUESTS
 
 GRANTS = "variants/my29/grants"
 CAMERAS = "front_camera of camtech"

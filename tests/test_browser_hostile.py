@@ -2,7 +2,7 @@
 and no plan is shown of a report that has not its form."""
 import json
 
-from tests.lib.stranger import CLUSTER, GOOD, LISTED, TOLD, StrangerCase
+from tests.drivers.stranger import CLUSTER, GOOD, LISTED, TOLD, StrangerCase
 
 ROWS = GOOD["rows"]
 

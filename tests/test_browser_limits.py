@@ -1,7 +1,7 @@
 """The planners' page with a plan at the limits, in a browser: 1,023 slots on both channels, 64 suppliers with 256 frames each, 130,944 placements.
 
 A register takes minutes to be asked for so many rows, so a server tells the rows of such a plan, which are made here by rule."""
-from tests.lib.stranger import NOT_YOURS, StrangerCase
+from tests.drivers.stranger import NOT_YOURS, StrangerCase
 
 SUPPLIERS, LANES, CYCLES, PLACEMENTS = 64, 2046, 64, 8
 FIGURES = {

@@ -1,9 +1,9 @@
 """The plan in the planners' page, in a browser: what is shown is what the reports say, and frames are placed by mouse, finger and keys."""
 import re
 
-from tests.lib.browser import CONTROL, DOWN, ENTER, ESCAPE, HOME, PAGE_UP, RIGHT
-from tests.lib.planner import CELL, PlannerCase
-from tests.lib.years import BOSS, BRAKES, CAMERA, CLUSTER, COLOURS, REQUESTS, SUPPLIERS
+from tests.drivers.browser import CONTROL, DOWN, ENTER, ESCAPE, HOME, PAGE_UP, RIGHT
+from tests.drivers.planner import CELL, PlannerCase
+from tests.models.years import BOSS, CAMERA, CLUSTER, COLOURS, REQUESTS, SUPPLIERS
 
 # Of each place of the window: the colour that most of the points around it have.
 PAINTED = """

@@ -1,8 +1,8 @@
 """The weeks of docs/TUTORIAL.md in the planners' page, in a browser: a supplier's and an integrator's, each by mouse and by keyboard alone. The
 register has afterwards what the tutorial's reader sees."""
-from tests.lib.browser import ENTER, ESCAPE, HOME, LEFT, RIGHT
-from tests.lib.planner import PlannerCase
-from tests.lib.tutorial import BOSS, BRAKES, LIGHTS, STEERING, printed, requests, saved
+from tests.drivers.browser import ENTER, ESCAPE, HOME, LEFT, RIGHT
+from tests.drivers.planner import PlannerCase
+from tests.models.tutorial import BOSS, BRAKES, LIGHTS, STEERING, printed, requests, saved
 
 SINCE = "variants/sport/since/saloon"
 LAMPS = saved("lamps.csv")

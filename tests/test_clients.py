@@ -15,12 +15,13 @@ from clients.slotplan_plans.faults import Fault
 from clients.slotplan_plans.plan import Cluster, Frame, Grant, Node, Placement, Plan, Signal, Variant
 from clients.slotplan_plans.reading import read
 from clients.slotplan_plans.sources import RegisterFile, Server
-from tests.lib.case import Case
-from tests.lib.following import THERE, blocks_left_out, follow
-from tests.lib.messages import FIRST
-from tests.lib.plans import limits
-from tests.lib.plans_client import ClientCase, TypedSource
-from tests.lib.program import TOP
+from tests import TOP
+from tests.drivers.following import THERE, follow
+from tests.drivers.plans_client import ClientCase, TypedSource
+from tests.models.messages import FIRST
+from tests.models.pages import blocks_left_out
+from tests.models.plans import limits
+from tests.runner.case import Case
 
 # Two suppliers call a frame and a node alike; a frame is sent on A and on B apart; names differ in case alone.
 SCRIPT = """\

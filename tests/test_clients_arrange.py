@@ -11,11 +11,11 @@ from clients.slotplan_plans.plan import Grant, Node
 from clients.slotplan_plans.reading import read
 from clients.slotplan_plans.sources import Server
 from clients.slotplan_plans.tables import grants_of, nodes_of
-from tests.lib.case import Case
-from tests.lib.made import CLUSTER, cluster_file
-from tests.lib.plans import examples
-from tests.lib.plans_client import ClientCase, TypedSource, ended
-from tests.lib.program import ran
+from tests.drivers.plans_client import ClientCase, TypedSource, ended
+from tests.drivers.program import ran
+from tests.models.made import CLUSTER, cluster_file
+from tests.models.plans import examples
+from tests.runner.case import Case
 
 DONE = '{"ok":"done"}'
 REQUESTS = """\

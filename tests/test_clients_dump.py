@@ -11,14 +11,14 @@ from unittest.mock import patch
 from bench.scripts import Plan, cluster_file
 from clients.slotplan_plans.dumping import blocks
 from clients.slotplan_plans.sources import Server
-from tests.lib import schema1
-from tests.lib.case import WHOLE
-from tests.lib.each import each
-from tests.lib.messages import FIRST
-from tests.lib.mixtures import mixture
-from tests.lib.plans import examples
-from tests.lib.plans_client import ClientCase, asked, questions
-from tests.lib.program import ran
+from tests.drivers.plans_client import ClientCase, asked, questions
+from tests.drivers.program import ran
+from tests.models import schema1
+from tests.models.messages import FIRST
+from tests.models.mixtures import mixture
+from tests.models.plans import examples
+from tests.runner.case import WHOLE
+from tests.runner.each import each
 
 DONE = '{"ok":"done"}'
 CLUSTER = """\

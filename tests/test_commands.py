@@ -11,13 +11,14 @@ import subprocess
 import time
 from contextlib import closing
 
-from tests.lib import formats, schema1
-from tests.lib.messages import (
+from tests import TOP
+from tests.drivers.program import BY_RATTLE, PROVED, SECONDS, UNPROVED, program, ran
+from tests.drivers.registers import RegisterCase
+from tests.drivers.server import HERE, free_port, sent
+from tests.models import formats, schema1
+from tests.models.messages import (
     CLUSTER, CONTINUE, DONE, FIGURE_LINES, UNKNOWN, command, done, engine, first_requests, head, html, in_cycles, json, post, read, refused, text,
 )
-from tests.lib.program import BY_RATTLE, PROVED, SECONDS, TOP, UNPROVED, program, ran
-from tests.lib.registers import RegisterCase
-from tests.lib.server import HERE, free_port, sent
 
 KILLS = 50
 DELAYS = 0, 0, 0.5, 1, 2  # from a whole line to the kill behind it, by the time that the line before took

@@ -6,16 +6,16 @@ import json
 from collections import Counter
 from itertools import product
 
-from tests.lib import messages, naive
-from tests.lib.each import each
-from tests.lib.made import CLUSTER, IMPORT_BYTES, IMPORT_ROWS, LARGE, answers, done, refused, request, script, suppliers, told
-from tests.lib.messages import CONTINUE, DONE, UNKNOWN, command, engine, head, post, put, text
-from tests.lib.messages import refused as refused_bytes
-from tests.lib.mixtures import mixture
-from tests.lib.program import ran
-from tests.lib.registers import RegisterCase
-from tests.lib.server import sent
-from tests.lib.starts import Start, StartCase, answered, difference
+from tests.drivers.program import ran
+from tests.drivers.registers import RegisterCase
+from tests.drivers.server import sent
+from tests.drivers.starts import Start, StartCase, answered, difference
+from tests.models import messages, naive
+from tests.models.made import CLUSTER, IMPORT_BYTES, IMPORT_ROWS, LARGE, answers, done, refused, request, script, suppliers, told
+from tests.models.messages import CONTINUE, DONE, UNKNOWN, command, engine, head, post, put, text
+from tests.models.messages import refused as refused_bytes
+from tests.models.mixtures import mixture
+from tests.runner.each import each
 
 INTEGRATOR, KEY, OTHER = "integrator1", "supplier01", "supplier02"
 IN_V1, IN_V2, SINCE_V1 = dict(variant="v1"), dict(variant="v2"), dict(variant="v2", **{"from": "v1"})

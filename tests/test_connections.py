@@ -11,16 +11,16 @@ from contextlib import closing, suppress
 from functools import partial
 from itertools import product
 
-from tests.lib import made
-from tests.lib.clients import (
+from tests.drivers.clients import (
     comes_to, connected, has_arrived, interrupt, is_heard, limited, meanwhile, memory_of, narrow, open_at, received, reset, waited,
 )
-from tests.lib.connections import FRAMES, NOTHING, SCHEDULE, ConnectionCase, LongCase, PlannedCase, add_frame, adds, long_schedule
-from tests.lib.messages import CLUSTER, CONTINUE, DONE, engine, head, json, post, refused, text
-from tests.lib.preload import Pieces
-from tests.lib.program import SECONDS
-from tests.lib.registers import RegisterCase
-from tests.lib.server import sent
+from tests.drivers.connections import FRAMES, NOTHING, SCHEDULE, ConnectionCase, LongCase, PlannedCase, add_frame, adds, long_schedule
+from tests.drivers.preload import Pieces
+from tests.drivers.program import SECONDS
+from tests.drivers.registers import RegisterCase
+from tests.drivers.server import sent
+from tests.models import made
+from tests.models.messages import CLUSTER, CONTINUE, DONE, engine, head, json, post, refused, text
 
 # For how many seconds the server reads what is still sent where it has replied before it read the whole request.
 REST = 1

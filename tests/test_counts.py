@@ -4,11 +4,11 @@ What is wanted was typed by hand from docs/FORMATS.md, comes from another regist
 output."""
 import random
 
-from tests.lib import naive
-from tests.lib.each import each
-from tests.lib.made import CLUSTER, DONE, done, refused, request, script, suppliers
-from tests.lib.mixtures import mixture
-from tests.lib.starts import Start, StartCase, answered, faulty
+from tests.drivers.starts import Start, StartCase, answered, faulty
+from tests.models import naive
+from tests.models.made import CLUSTER, DONE, done, refused, request, script, suppliers
+from tests.models.mixtures import mixture
+from tests.runner.each import each
 
 COUNTS = range(8, 65, 2)
 PAIRED = (12, 48, 60, 64)

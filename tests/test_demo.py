@@ -7,10 +7,11 @@ import subprocess
 import sys
 
 from examples.demo import CLUSTER, REQUESTS
-from tests.lib.case import Case
-from tests.lib.plans import Register
-from tests.lib.program import SECONDS, TOP, program
-from tests.lib.server import HERE, free_port
+from tests import TOP
+from tests.drivers.planned_registers import Register
+from tests.drivers.program import SECONDS, program
+from tests.drivers.server import HERE, free_port
+from tests.runner.case import Case
 
 # The demo, whose files lie in the folder of the test.
 BEGUN = "import sys; from pathlib import Path; from examples import demo; demo.FOLDER = Path(sys.argv[1]); demo.main(*sys.argv[2:])"

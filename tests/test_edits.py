@@ -1,9 +1,9 @@
 """Wrong bodies, as the prover is asked of them: each text that an edit replaces stands once in its file. It needs nothing built."""
 import re
 
-from tests.lib.case import Case
-from tests.lib.program import TOP
-from tests.lib.wrong import NotJudged, Told, groups, read_edit, texts_with, told_alone, told_of
+from tests import TOP
+from tests.runner.case import Case
+from tools.wrong import NotJudged, Told, groups, read_edit, texts_with, told_alone, told_of
 
 FUNCTION = re.compile(r"\bfn (\w+)")
 

@@ -5,13 +5,14 @@ output, but where what it exports is given back to it."""
 import tomllib
 from itertools import product
 
-from tests.lib import naive
-from tests.lib.each import each
-from tests.lib.made import LARGE, answers, done, imported, request, script, suppliers, told
-from tests.lib.mixtures import mixture
-from tests.lib.program import TOP, ran
-from tests.lib.registers import RegisterCase
-from tests.lib.starts import Start, StartCase
+from tests import TOP
+from tests.drivers.program import ran
+from tests.drivers.registers import RegisterCase
+from tests.drivers.starts import Start, StartCase
+from tests.models import naive
+from tests.models.made import LARGE, answers, done, imported, request, script, suppliers, told
+from tests.models.mixtures import mixture
+from tests.runner.each import each
 
 ROWS, LAST = 512, 4_294_967_295
 IN_V1 = dict(variant="v1")

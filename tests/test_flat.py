@@ -5,15 +5,15 @@ output, but where its reports of two variants are compared with one another."""
 import json
 from itertools import product
 
-from tests.lib import messages, naive
-from tests.lib.each import each
-from tests.lib.made import DEPTH, LARGE, VARIANTS, answers, done, request, script, suppliers
-from tests.lib.messages import DONE, command, head, text
-from tests.lib.messages import refused as refused_bytes
-from tests.lib.mixtures import mixture
-from tests.lib.program import ran
-from tests.lib.registers import RegisterCase
-from tests.lib.starts import Start, StartCase, difference
+from tests.drivers.program import ran
+from tests.drivers.registers import RegisterCase
+from tests.drivers.starts import Start, StartCase, difference
+from tests.models import messages, naive
+from tests.models.made import DEPTH, LARGE, VARIANTS, answers, done, request, script, suppliers
+from tests.models.messages import DONE, command, head, text
+from tests.models.messages import refused as refused_bytes
+from tests.models.mixtures import mixture
+from tests.runner.each import each
 
 INTEGRATOR, KEY, OTHER = "integrator1", "supplier01", "supplier02"
 IN_V1 = dict(variant="v1")

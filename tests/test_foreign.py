@@ -7,10 +7,10 @@ import sqlite3
 from contextlib import closing
 from itertools import islice
 
-from tests.lib import schema1
-from tests.lib.case import TURN, for_each
-from tests.lib.messages import command, head, refused
-from tests.lib.states import ALL, BODY, BOOKS, NOTHING, SECONDS, StateCase, copied, count_in, performed, replied, server_of
+from tests.drivers.states import ALL, BODY, BOOKS, NOTHING, SECONDS, StateCase, copied, count_in, performed, replied, server_of
+from tests.models import schema1
+from tests.models.messages import command, head, refused
+from tests.runner.case import TURN, for_each
 
 SEED = 20_240_229
 CHANGES, OLD_CHANGES = 2_000, 500

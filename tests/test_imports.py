@@ -3,8 +3,8 @@
 What is wanted was typed by hand from docs/FORMATS.md, or is made by its rules."""
 import json
 
-from tests.lib.made import CLUSTER, done, imported, refused, request
-from tests.lib.starts import StartCase, answered
+from tests.drivers.starts import StartCase, answered
+from tests.models.made import CLUSTER, done, imported, refused, request
 
 KEY = "supplier01"
 FRAMES = "frame,node\n"

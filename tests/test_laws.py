@@ -5,10 +5,10 @@ import subprocess
 import sys
 from importlib import import_module
 
-from tests.lib.case import Case
-from tests.lib.heads import CRATES
-from tests.lib.laws import laws, lines_of
-from tests.lib.program import TOP
+from tests import TOP
+from tests.runner.case import Case
+from tools.heads import CRATES
+from tools.laws import laws, lines_of
 
 LAWS = """//! Laws of numbers.
 ghost use Rattle.numbers.specs.Rows.{RowsAreApart};
@@ -91,7 +91,7 @@ FOURTH = """  elsewhere  (crates/numbers/src/laws/more.rt:10)
 
 def printed(*words):
     """The status of the command, and what it prints."""
-    ran = subprocess.run([sys.executable, "-m", "tests.lib.laws", *words], cwd=TOP, capture_output=True, text=True)
+    ran = subprocess.run([sys.executable, "-m", "tools.laws", *words], cwd=TOP, capture_output=True, text=True)
     return ran.returncode, ran.stdout, ran.stderr
 
 

@@ -5,13 +5,13 @@ import sqlite3
 from contextlib import closing
 from itertools import zip_longest
 
-from tests.lib.levels import chain
-from tests.lib.made import CYCLES, DEPTH, FRAMES, IMPORT_ROWS, LARGE, NUMBERS, SLOTS, SUPPLIERS, suppliers, suppliers_of
-from tests.lib.messages import command, csv, head, json, lines, post, put, text
-from tests.lib.picture import KEY, Page
-from tests.lib.registers import RegisterCase
-from tests.lib.schema2 import filled
-from tests.lib.server import sent
+from tests.drivers.registers import RegisterCase
+from tests.drivers.server import sent
+from tests.models.levels import chain
+from tests.models.made import CYCLES, DEPTH, FRAMES, IMPORT_ROWS, LARGE, NUMBERS, SLOTS, SUPPLIERS, suppliers, suppliers_of
+from tests.models.messages import command, csv, head, json, lines, post, put, text
+from tests.models.picture import KEY, Page
+from tests.models.schema2 import filled
 
 CLUSTER = {**LARGE, "suppliers": suppliers(SUPPLIERS)}
 NAMES = [name for name, _ in suppliers_of(CLUSTER)]

@@ -9,14 +9,14 @@ import socket
 import struct
 from contextlib import ExitStack
 
-from tests.lib.case import for_each
-from tests.lib.clients import connected, had, is_heard, put
-from tests.lib.messages import CONTINUE, DONE, FIRST, FIRST_ANSWERS, UNKNOWN, command, engine, head, json, post, refused, text
-from tests.lib.preload import Links
-from tests.lib.program import SECONDS, ran
-from tests.lib.registers import RegisterCase
-from tests.lib.server import HERE
-from tests.lib.states import BODY, replied
+from tests.drivers.clients import connected, had, is_heard, put
+from tests.drivers.preload import Links
+from tests.drivers.program import SECONDS, ran
+from tests.drivers.registers import RegisterCase
+from tests.drivers.server import HERE
+from tests.drivers.states import BODY, replied
+from tests.models.messages import CONTINUE, DONE, FIRST, FIRST_ANSWERS, UNKNOWN, command, engine, head, json, post, refused, text
+from tests.runner.case import for_each
 
 LINE = b'{"do":"add_frame","variant":"v1","frame":"f7","node":"n1"}'
 ADD = command("supplier01", LINE, "Expect: 100-continue")

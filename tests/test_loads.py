@@ -7,10 +7,10 @@ import subprocess
 from contextlib import closing
 from itertools import pairwise, product
 
-from tests.lib import made
-from tests.lib.preload import Library
-from tests.lib.program import SECONDS, program, with_more
-from tests.lib.registers import RegisterCase
+from tests.drivers.preload import Library
+from tests.drivers.program import SECONDS, program, with_more
+from tests.drivers.registers import RegisterCase
+from tests.models import made
 
 SUPPLIERS = [f"s{number}" for number in range(1, made.SUPPLIERS + 1)]
 # Each supplier has so many slots, in which each of its frames has a cell.

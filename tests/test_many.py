@@ -9,17 +9,17 @@ from functools import partial
 from itertools import cycle
 from threading import Thread
 
-from tests.lib.clients import (
+from tests.drivers.clients import (
     LIMIT, SHORT, comes_to, connected, had, is_heard, is_open, limited, meanwhile, memory_of, narrow, open_at, received, stopped, trickled, waited,
     work_of,
 )
-from tests.lib.connections import (
+from tests.drivers.connections import (
     EXISTS, FRAMES, HONEST, NOTHING, READ_FAILED, SCHEDULE, TRUNCATED, WHOLE, HeldCase, LongCase, add_frame, adds, long_schedule, soon,
 )
-from tests.lib.messages import CONTINUE, DONE, UNKNOWN, command, engine, head, json, refused, text
-from tests.lib.preload import Stopper
-from tests.lib.program import SECONDS
-from tests.lib.server import sent
+from tests.drivers.preload import Stopper
+from tests.drivers.program import SECONDS
+from tests.drivers.server import sent
+from tests.models.messages import CONTINUE, DONE, UNKNOWN, command, engine, head, json, refused, text
 
 # How many bytes of replies may be kept beside the last.
 KEPT = 67_108_864

@@ -11,15 +11,15 @@ from itertools import product
 from pathlib import Path
 from tempfile import TemporaryDirectory
 
-from tests.lib import naive, schema1, schema2
-from tests.lib.each import each
-from tests.lib.made import CLUSTER as KEYS
-from tests.lib.messages import CLUSTER, command
-from tests.lib.mixtures import mixture
-from tests.lib.program import ran
-from tests.lib.registers import RegisterCase
-from tests.lib.server import sent
-from tests.lib.states import has_frames
+from tests.drivers.program import ran
+from tests.drivers.registers import RegisterCase
+from tests.drivers.server import sent
+from tests.drivers.states import has_frames
+from tests.models import naive, schema1, schema2
+from tests.models.made import CLUSTER as KEYS
+from tests.models.messages import CLUSTER, command
+from tests.models.mixtures import mixture
+from tests.runner.each import each
 
 WORDS = ["migrate", "car.db"]
 IMPORT = ["import", "car.db", "supplier01", "v1", "a", "header.csv"]

@@ -3,10 +3,10 @@
 What is wanted was typed by hand from docs/FORMATS.md; none of it is the program's own output."""
 import subprocess
 
-from tests.lib.messages import CLUSTER, DONE, FIRST, FIRST_ANSWERS, REQUESTS
-from tests.lib.program import SECONDS, program, ran
-from tests.lib.registers import RegisterCase
-from tests.lib.starts import Start, StartCase, faulty
+from tests.drivers.program import SECONDS, program, ran
+from tests.drivers.registers import RegisterCase
+from tests.drivers.starts import Start, StartCase, faulty
+from tests.models.messages import CLUSTER, DONE, FIRST, FIRST_ANSWERS, REQUESTS
 
 LINE_BYTES = 1_048_576
 

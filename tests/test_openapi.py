@@ -4,11 +4,12 @@ import json
 import re
 from functools import cache
 
-from tests.lib.case import Case
-from tests.lib.formats import FORMATS
-from tests.lib.program import SECONDS, TOP
-from tests.lib.registers import RegisterCase
-from tests.lib.server import HERE
+from tests import TOP
+from tests.drivers.program import SECONDS
+from tests.drivers.registers import RegisterCase
+from tests.drivers.server import HERE
+from tests.models.formats import FORMATS
+from tests.runner.case import Case
 
 try:
     import yaml

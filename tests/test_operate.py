@@ -14,11 +14,12 @@ from contextlib import ExitStack, closing
 from json import loads
 from threading import Thread
 
-from tests.lib.clients import comes_to, connected, had
-from tests.lib.messages import DONE, UNKNOWN, command, head, json, post, refused, text
-from tests.lib.program import SECONDS, TOP, program
-from tests.lib.registers import RegisterCase
-from tests.lib.server import HERE, free_port, listens_on, sent, started
+from tests import TOP
+from tests.drivers.clients import comes_to, connected, had
+from tests.drivers.program import SECONDS, program
+from tests.drivers.registers import RegisterCase
+from tests.drivers.server import HERE, free_port, listens_on, sent, started
+from tests.models.messages import DONE, UNKNOWN, command, head, json, post, refused, text
 
 PAGE = (TOP / "docs/OPERATE.md").read_text()
 SCRIPT = re.search(r"^Put this at `/usr/local/sbin/slotplan-backup`[^\n]*\n\n```sh\n(.*?)```\n", PAGE, re.M | re.DOTALL)[1]

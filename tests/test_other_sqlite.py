@@ -8,10 +8,10 @@ import sqlite3
 import subprocess
 from contextlib import closing
 
-from tests.lib import schema1
-from tests.lib.case import for_each
-from tests.lib.program import SECONDS, ran
-from tests.lib.registers import RegisterCase
+from tests.drivers.program import SECONDS, ran
+from tests.drivers.registers import RegisterCase
+from tests.models import schema1
+from tests.runner.case import for_each
 from tests.test_migrating import FORMS, HEADER, PLANNED
 
 VARIANTS = "v1", "v2", "v3"

@@ -3,9 +3,9 @@
 No clause sees what a job does with the system behind the crates' backs. Who reads these files has read all that can touch a path, a port or a clock."""
 import re
 
-from tests.lib.case import Case
-from tests.lib.heads import CRATES
-from tests.lib.program import TOP
+from tests import TOP
+from tests.runner.case import Case
+from tools.heads import CRATES
 
 # What each file may use, of the crates that are no tests.
 MAY = {

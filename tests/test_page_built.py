@@ -7,8 +7,8 @@ import sys
 import tempfile
 from pathlib import Path
 
-from tests.lib.case import Case
-from tests.lib.program import TOP
+from tests import TOP
+from tests.runner.case import Case
 
 sys.path.insert(0, str(TOP / "page"))
 import build  # noqa: E402

@@ -5,10 +5,10 @@ import hashlib
 import re
 import sys
 
-from tests.lib.messages import engine, head, post, put
-from tests.lib.program import TOP
-from tests.lib.registers import RegisterCase
-from tests.lib.server import sent, started
+from tests import TOP
+from tests.drivers.registers import RegisterCase
+from tests.drivers.server import sent, started
+from tests.models.messages import engine, head, post, put
 
 sys.path.insert(0, str(TOP / "page"))
 import build  # noqa: E402

@@ -3,16 +3,16 @@ import re
 from fnmatch import fnmatch
 from functools import cache
 
-from tests.lib.calls import calls
-from tests.lib.case import Case
-from tests.lib.each import each
-from tests.lib.heads import CRATES, FOLDERS, KINDS, files, head, is_class_of_tests, modules, said_by, sentences
-from tests.lib.program import TOP
+from tests import TOP
+from tests.runner.case import Case
+from tests.runner.each import each
+from tools.calls import calls
+from tools.heads import CRATES, FOLDERS, KINDS, files, head, is_class_of_tests, modules, said_by, sentences
 
 PAGES = [TOP / "README.md", *(path for place in ("docs", "tests", "bench", "examples", "clients") for path in sorted((TOP / place).rglob("*.md")))]
 # Pages on the code, in which a word of code is a word of the sources.
 ON_CODE = [TOP / f"docs/{name}.md" for name in ("PROVED", "DEFINITIONS", "DEVELOPING", "DECISIONS")]
-PLACES = [*(f"crates/*/{folder}" for folder in ("src", "specs", "proofs", "must-fail", "wrong-bodies")), "tests", "bench", "examples", "clients"]
+PLACES = [*(f"crates/*/{folder}" for folder in ("src", "specs", "proofs", "must-fail", "wrong-bodies")), "tests", "tools", "bench", "examples", "clients"]
 # In DEVELOPING this is any file of a reader's own.
 OWN = "crates/NAME/wrong-bodies/WHAT_IT_DOES.edit"
 FILE = re.compile(r"`([\w./*-]+\.(?:rt|antt|edit|py))`")
@@ -22,7 +22,7 @@ LINK = re.compile(r"\]\(([^)#\s]*)(?:#([^)\s]*))?\)")
 HEADING = re.compile(r"^#+ (.*)$", re.M)
 SLOTPLAN = re.compile(r"(?:^|\$ |-- |\| |bin/)slotplan ([a-z]+)", re.M)
 MAKE = re.compile(r"(?:^|\$ )make ((?:[a-z][\w/-]*(?: |$))+)", re.M)
-MODULE = re.compile(r"python3 -m ((?:tests|clients)\.[\w.]+)")
+MODULE = re.compile(r"python3 -m ((?:tests|tools|clients)\.[\w.]+)")
 
 
 def codes(page):
@@ -43,7 +43,7 @@ def anchors(page):
 @cache
 def texts():
     """What the sources say, and beside them the tests, the Makefile, the list of crates and the formats. Each has its file's name before it."""
-    paths = [path for kind in ("crates/*/src/**/*.rt", "crates/*/specs/*.antt", "tests/**/*.py") for path in TOP.glob(kind)]
+    paths = [path for kind in ("crates/*/src/**/*.rt", "crates/*/specs/*.antt", "tests/**/*.py", "tools/*.py") for path in TOP.glob(kind)]
     return [f"{path.stem}\n{path.read_text()}" for path in [*paths, *(TOP / name for name in ("Makefile", "crates.txt", "HANDLES", "docs/FORMATS.md"))]]
 
 

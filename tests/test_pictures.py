@@ -2,9 +2,10 @@
 import json
 import re
 
-from tests.lib.case import Case
-from tests.lib.picture import Page, changes_of, compare
-from tests.lib.plans import Register, examples, limits
+from tests.drivers.planned_registers import Register
+from tests.models.picture import Page, changes_of, compare
+from tests.models.plans import examples, limits
+from tests.runner.case import Case
 
 # How many bytes a page may have at the limits, by itself and for each supplier, lane, placement, frame and signal, as FORMATS says.
 PAGE, SUPPLIER, LANE, PLACEMENT, FRAME, SIGNAL = 28_000, 110, 220, 235, 170, 35

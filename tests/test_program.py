@@ -1,10 +1,10 @@
 """The built program as its users start it: its words, its help, its script's size, its input and its output.
 
 What is wanted was typed by hand from docs/FORMATS.md, the help in tests/help; none of it is the program's own output."""
-from tests.lib.each import each
-from tests.lib.messages import FIRST, FIRST_ANSWERS
-from tests.lib.program import TOP
-from tests.lib.starts import Start, StartCase, faulty
+from tests import TOP
+from tests.drivers.starts import Start, StartCase, faulty
+from tests.models.messages import FIRST, FIRST_ANSWERS
+from tests.runner.each import each
 
 HELP = {file.stem: file.read_bytes() for file in (TOP / "tests/help").glob("*.txt")}
 SCRIPT_BYTES = 16_777_216

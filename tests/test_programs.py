@@ -3,8 +3,8 @@ import shutil
 import subprocess
 from pathlib import Path
 
-from tests.lib.case import Case
-from tests.lib.program import TOP
+from tests import TOP
+from tests.runner.case import Case
 
 PROGRAMS = TOP / "tests/programs"
 

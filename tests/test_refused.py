@@ -12,15 +12,16 @@ import sqlite3
 from contextlib import closing
 from typing import NamedTuple
 
-from tests.lib import messages, naive, schema1
-from tests.lib.case import Case, for_each
-from tests.lib.messages import DONE, FIGURE_LINES, UNKNOWN, command, csv, engine, head, post, put, refused, text
-from tests.lib.picture import compare
-from tests.lib.preload import Refuser, calls_from
-from tests.lib.program import SECONDS, TOP, ran
-from tests.lib.registers import RegisterCase
-from tests.lib.server import sent
-from tests.lib.states import ALL, BOOKS, schema_in
+from tests import TOP
+from tests.drivers.preload import Refuser, calls_from
+from tests.drivers.program import SECONDS, ran
+from tests.drivers.registers import RegisterCase
+from tests.drivers.server import sent
+from tests.drivers.states import ALL, BOOKS, schema_in
+from tests.models import messages, naive, schema1
+from tests.models.messages import DONE, FIGURE_LINES, UNKNOWN, command, csv, engine, head, post, put, refused, text
+from tests.models.picture import compare
+from tests.runner.case import Case, for_each
 
 UNAVAILABLE = refused(28, "Unavailable")
 NO_MEMORY, NOT_MADE, READ_FAILED = b"slotplan: NoMemory\n", b"slotplan: Unavailable\n", b"slotplan: ReadFailed\n"

@@ -1,11 +1,11 @@
 """The built program, whose reads and writes are interrupted as often as it may try them again, and once more.
 
 Small libraries that cc makes, loaded before the C library, interrupt them. The counts are those of docs/FORMATS.md and docs/HTTP.md."""
-from tests.lib.messages import FIRST, FIRST_ANSWERS, head, json, post, text
-from tests.lib.preload import Interrupts, Links
-from tests.lib.program import ran
-from tests.lib.registers import RegisterCase
-from tests.lib.server import sent
+from tests.drivers.preload import Interrupts, Links
+from tests.drivers.program import ran
+from tests.drivers.registers import RegisterCase
+from tests.drivers.server import sent
+from tests.models.messages import FIRST, FIRST_ANSWERS, head, json, post, text
 
 RETRIES = 1_000  # for each text that is printed
 KEY_READS = 100_000

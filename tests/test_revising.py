@@ -4,16 +4,16 @@ What is wanted was typed by hand from docs/FORMATS.md and docs/HTTP.md, or comes
 import re
 from itertools import product
 
-from tests.lib import naive
-from tests.lib.each import each
-from tests.lib.made import CLUSTER, answers, done, refused, refused_row, request, script, suppliers
-from tests.lib.messages import CONTINUE, DONE, UNKNOWN, command, csv, engine, head, json, put, text
-from tests.lib.messages import refused as refused_bytes
-from tests.lib.mixtures import mixture
-from tests.lib.program import ran
-from tests.lib.registers import RegisterCase
-from tests.lib.server import sent
-from tests.lib.starts import Start, StartCase, answered
+from tests.drivers.program import ran
+from tests.drivers.registers import RegisterCase
+from tests.drivers.server import sent
+from tests.drivers.starts import Start, StartCase, answered
+from tests.models import naive
+from tests.models.made import CLUSTER, answers, done, refused, refused_row, request, script, suppliers
+from tests.models.messages import CONTINUE, DONE, UNKNOWN, command, csv, engine, head, json, put, text
+from tests.models.messages import refused as refused_bytes
+from tests.models.mixtures import mixture
+from tests.runner.each import each
 
 INTEGRATOR, KEY, OTHER = "integrator1", "supplier01", "supplier02"
 IN_V1 = dict(variant="v1")

@@ -8,11 +8,11 @@ import tomllib
 from functools import cache
 from http import HTTPStatus
 
-from tests.lib import messages
-from tests.lib.messages import command, csv, head, post, put
-from tests.lib.program import TOP
-from tests.lib.registers import RegisterCase
-from tests.lib.server import sent
+from tests import TOP
+from tests.drivers.registers import RegisterCase
+from tests.drivers.server import sent
+from tests.models import messages
+from tests.models.messages import command, csv, head, post, put
 
 NAME = re.compile(r"[A-Za-z][A-Za-z0-9_]{0,31}")
 KEY = re.compile(rb"[!-~]+")

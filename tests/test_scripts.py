@@ -1,17 +1,17 @@
 """Scripts that `run` answers, and the faults of those that it does not.
 
-What is wanted was typed by hand from docs/FORMATS.md, is made by its rules in tests/lib/made.py, or comes from another register; none of it is the
+What is wanted was typed by hand from docs/FORMATS.md, is made by its rules in tests/models/made.py, or comes from another register; none of it is the
 program's own output."""
-from tests.lib import naive
-from tests.lib.each import each
-from tests.lib.made import (
-    CLUSTER, DONE, LARGE, answers, at_the_limits, cluster_file, imports_of_rows, imports_that_are_kept, refused, script, suppliers, suppliers_that_join,
-    with_a_stranger,
+from tests import TOP
+from tests.drivers.starts import Start, StartCase, answered, faulty
+from tests.models import naive
+from tests.models.made import (
+    CLUSTER, DONE, LARGE, answers, at_the_limits, cluster_file, imports_of_rows, imports_that_are_kept, refused, script, suppliers,
+    suppliers_that_join, with_a_stranger,
 )
-from tests.lib.messages import FIRST, FIRST_ANSWERS
-from tests.lib.mixtures import mixture
-from tests.lib.program import TOP
-from tests.lib.starts import Start, StartCase, answered, faulty
+from tests.models.messages import FIRST, FIRST_ANSWERS
+from tests.models.mixtures import mixture
+from tests.runner.each import each
 
 OPEN = 'integrator1 {"do":"open_variant","variant":"v1"}'
 OPENED = [(OPEN, DONE)]

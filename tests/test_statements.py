@@ -5,10 +5,10 @@ import re
 import sqlite3
 from contextlib import closing
 
-from tests.lib.case import Case
-from tests.lib.levels import LEVELS, SHOWN, frames_found
-from tests.lib.schema2 import statements, tables
-from tests.lib.sql import TEXT, sources
+from tests.models.levels import LEVELS, SHOWN, frames_found
+from tests.models.schema2 import statements, tables
+from tests.models.sql import TEXT, sources
+from tests.runner.case import Case
 
 READ_WHOLE = {"register", "cluster", "cluster2", "suppliers", "variants"}
 # Registers of an earlier schema have its row; now none is added.

@@ -15,15 +15,16 @@ from concurrent.futures import ThreadPoolExecutor
 from contextlib import closing, contextmanager
 from pathlib import Path
 
-from tests.lib import schema1
-from tests.lib.case import TURN, folder_in_memory, for_each
-from tests.lib.messages import DONE, command, head, json, refused, text
-from tests.lib.preload import Stopper, calls_from
-from tests.lib.program import TOP, program
-from tests.lib.states import (
+from tests import TOP
+from tests.drivers.preload import Stopper, calls_from
+from tests.drivers.program import program
+from tests.drivers.states import (
     ALL, BOOKS, NOTHING, NOT_YOURS, PLACED, REQUESTS, SECONDS, UNAVAILABLE, StateCase, copied, count_in, ended_after, lined, performed, replied,
     schema_in, server_of,
 )
+from tests.models import schema1
+from tests.models.messages import DONE, command, head, json, refused, text
+from tests.runner.case import TURN, folder_in_memory, for_each
 
 ENDS, FAILS = ("end", "half"), ("EIO", "ENOSPC")
 WAYS = (*ENDS, *FAILS, "short")
@@ -368,7 +369,7 @@ class FullDisk(FileCase):
 
     def as_root(self):
         """The same test once more, where this user may mount: in a namespace of its own."""
-        words = ["unshare", "--user", "--map-root-user", "--mount", sys.executable, "-m", "tests.lib.run", "--alone", self.id()]
+        words = ["unshare", "--user", "--map-root-user", "--mount", sys.executable, "-m", "tests.runner.run", "--alone", self.id()]
         ran = subprocess.run(words, cwd=TOP, capture_output=True, text=True)
         self.see("the test in a namespace of its own", 0, (ran.returncode, ran.stdout, ran.stderr) if ran.returncode else 0)
 

@@ -10,12 +10,12 @@ import time
 from contextlib import closing, contextmanager, suppress
 from pathlib import Path
 
-from tests.lib import schema1
-from tests.lib.messages import DONE, command, head, json, refused, text
-from tests.lib.preload import Failing
-from tests.lib.program import SECONDS, program, with_more
-from tests.lib.registers import RegisterCase
-from tests.lib.server import HERE, free_port, sent
+from tests.drivers.preload import Failing
+from tests.drivers.program import SECONDS, program, with_more
+from tests.drivers.registers import RegisterCase
+from tests.drivers.server import HERE, free_port, sent
+from tests.models import schema1
+from tests.models.messages import DONE, command, head, json, refused, text
 
 BEGUN = (
     b'integrator1 {"do":"open_variant","variant":"v1"}',

@@ -2,8 +2,8 @@
 has words for all refusals. It needs nothing built."""
 import re
 
-from tests.lib.case import Case
-from tests.lib.program import TOP
+from tests import TOP
+from tests.runner.case import Case
 
 ROW = re.compile(r"^\| (\d+) \| `(\w+)` \|", re.M)
 ANSWER = re.compile(r'"no":(\d+),"refused":"(\w+)"')

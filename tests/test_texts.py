@@ -7,10 +7,11 @@ import re
 
 import yaml
 
-from tests.lib.messages import head
-from tests.lib.program import TOP, ran
-from tests.lib.registers import RegisterCase
-from tests.lib.server import sent
+from tests import TOP
+from tests.drivers.program import ran
+from tests.drivers.registers import RegisterCase
+from tests.drivers.server import sent
+from tests.models.messages import head
 
 REQUESTS = (
     "open_variant, release, add_supplier, set_key, add_node, grant, revoke, add_frame, drop_frame, place, unplace, add_signal, drop_signal, import, replace, try, "

@@ -7,11 +7,12 @@ import shutil
 import subprocess
 from html.parser import HTMLParser
 
-from tests.lib.formats import FORMATS
-from tests.lib.messages import CLUSTER
-from tests.lib.plans import Register, examples
-from tests.lib.program import ran
-from tests.lib.registers import RegisterCase
+from tests.drivers.planned_registers import Register
+from tests.drivers.program import ran
+from tests.drivers.registers import RegisterCase
+from tests.models.formats import FORMATS
+from tests.models.messages import CLUSTER
+from tests.models.plans import examples
 
 LONG = b"secret" * 11  # 66 letters, two too many
 # Lines of requests, each with a key that is none, or in a text that is none. Each key has the word secret in it.

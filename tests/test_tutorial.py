@@ -1,9 +1,10 @@
 """docs/TUTORIAL.md, docs/HTTP.md and README.md, followed with the built program as a reader does."""
 import shutil
 
-from tests.lib.case import Case
-from tests.lib.following import THERE, blocks_left_out, follow
-from tests.lib.program import TOP
+from tests import TOP
+from tests.drivers.following import THERE, follow
+from tests.models.pages import blocks_left_out
+from tests.runner.case import Case
 
 
 class Following(Case):

@@ -5,16 +5,16 @@ program's own output, but where what it exports is given back to it."""
 import json
 from itertools import product
 
-from tests.lib import messages, naive
-from tests.lib.each import each
-from tests.lib.made import CLUSTER, FRAMES, IMPORT_BYTES, IMPORT_ROWS, LARGE, answers, done, refused_row, request, script, suppliers
-from tests.lib.messages import CONTINUE, DONE, UNKNOWN, command, csv, engine, head, put, text
-from tests.lib.messages import refused as refused_bytes
-from tests.lib.mixtures import mixture
-from tests.lib.program import ran
-from tests.lib.registers import RegisterCase
-from tests.lib.server import sent
-from tests.lib.starts import Start, StartCase, difference
+from tests.drivers.program import ran
+from tests.drivers.registers import RegisterCase
+from tests.drivers.server import sent
+from tests.drivers.starts import Start, StartCase, difference
+from tests.models import messages, naive
+from tests.models.made import FRAMES, IMPORT_BYTES, IMPORT_ROWS, LARGE, answers, done, refused_row, request, script, suppliers
+from tests.models.messages import CONTINUE, DONE, UNKNOWN, command, csv, engine, head, put, text
+from tests.models.messages import refused as refused_bytes
+from tests.models.mixtures import mixture
+from tests.runner.each import each
 
 INTEGRATOR, KEY, OTHER = "integrator1", "supplier01", "supplier02"
 IN_V1 = dict(variant="v1")

@@ -13,13 +13,15 @@ from clients.slotplan_plans.sources import RegisterFile, Server
 from clients.wireshark import capture, tables
 from clients.wireshark.packing import packed
 from clients.wireshark.plan import Cell, Frame, Plan, read
-from tests.lib import tshark
-from tests.lib.case import Case
-from tests.lib.following import THERE, follow
-from tests.lib.made import CLUSTER, DONE, IMPORT_ROWS, LARGE, SIGNALS, cluster_file
-from tests.lib.plans import Register, examples
-from tests.lib.program import SECONDS, TOP, program, ran
-from tests.lib.registers import RegisterCase
+from tests import TOP
+from tests.drivers import tshark
+from tests.drivers.following import THERE, follow
+from tests.drivers.planned_registers import Register
+from tests.drivers.program import SECONDS, program, ran
+from tests.drivers.registers import RegisterCase
+from tests.models.made import CLUSTER, DONE, IMPORT_ROWS, LARGE, SIGNALS, cluster_file
+from tests.models.plans import examples
+from tests.runner.case import Case
 
 PAGE = "clients/wireshark/README.md"
 FIGURES = {"payload_words": 8, "cycles": 64, "macroticks_per_cycle": 100, "slot_macroticks": 10}

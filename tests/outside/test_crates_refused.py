@@ -4,10 +4,11 @@
 import subprocess
 from itertools import count
 
-from tests.lib.case import Case
-from tests.lib.each import each
-from tests.lib.preload import Refuser, can_compile
-from tests.lib.program import TOP, NoProgram, with_more
+from tests import TOP
+from tests.drivers.preload import Refuser, can_compile
+from tests.drivers.program import NoProgram, with_more
+from tests.runner.case import Case
+from tests.runner.each import each
 
 CRATES = "fr_tests", "fr_tests_registers", "fr_tests_program"
 WORDS = (b"AllocError", b"NoMemory", b"Unavailable", b'error: "memory"', b'error: "no memory"', b"AllocFailed")

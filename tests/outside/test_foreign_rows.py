@@ -1,9 +1,9 @@
 """Registers in files whose rows another hand changed, so that they have not their form or make no page, opened by a program over `fr_store`."""
 from contextlib import closing
 
-from tests.lib.each import each
-from tests.lib.schema2 import connected, filled
-from tests.lib.stores import PageCase
+from tests.drivers.stores import PageCase
+from tests.models.schema2 import connected, filled
+from tests.runner.each import each
 
 PLANNED = [
     "INSERT INTO nodes VALUES ('s1', 'n1'), ('s2', 'n2')",

@@ -7,11 +7,11 @@ import sqlite3
 import subprocess
 from contextlib import closing
 
-from tests.lib import schema1, schema2
-from tests.lib.each import each
-from tests.lib.made import CLUSTER, LARGE, cluster_file, suppliers, suppliers_of
-from tests.lib.schema2 import connected, filled, made_by, of_cluster
-from tests.lib.stores import SECONDS, StoreCase
+from tests.drivers.stores import SECONDS, StoreCase
+from tests.models import schema1, schema2
+from tests.models.made import CLUSTER, LARGE, cluster_file, suppliers, suppliers_of
+from tests.models.schema2 import connected, filled, made_by, of_cluster
+from tests.runner.each import each
 
 # The rows that this puts into a register, each table's after those that they refer to.
 PLANNED = {

@@ -6,11 +6,11 @@ by rule."""
 from contextlib import closing
 from itertools import zip_longest
 
-from tests.lib.formats import overlay_query
-from tests.lib.levels import LEVELS, SHOWN, chain
-from tests.lib.made import DEPTH, FRAMES, LARGE, NODES, PLACEMENTS, SIGNALS, SLOTS, VARIANTS, cluster_file, suppliers
-from tests.lib.schema2 import connected, filled, of_cluster, tables
-from tests.lib.stores import PageCase
+from tests.drivers.stores import PageCase
+from tests.models.formats import overlay_query
+from tests.models.levels import LEVELS, SHOWN, chain
+from tests.models.made import DEPTH, FRAMES, LARGE, NODES, PLACEMENTS, SIGNALS, SLOTS, VARIANTS, cluster_file, suppliers
+from tests.models.schema2 import connected, filled, of_cluster, tables
 
 CLUSTER = {**LARGE, "cycles": "48", "suppliers": suppliers(64)}
 # The bytes of an import are not read where it is kept.

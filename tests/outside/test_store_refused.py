@@ -6,10 +6,10 @@ import subprocess
 import tempfile
 from pathlib import Path
 
-from tests.lib.each import each
-from tests.lib.preload import Refuser, calls_from, can_compile
-from tests.lib.program import with_more
-from tests.lib.stores import SECONDS, StoreCase
+from tests.drivers.preload import Refuser, calls_from, can_compile
+from tests.drivers.program import with_more
+from tests.drivers.stores import SECONDS, StoreCase
+from tests.runner.each import each
 
 PARTS = 4
 
