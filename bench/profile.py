@@ -10,13 +10,16 @@ import argparse
 import os
 import re
 import subprocess
+import sys
 import tempfile
 from pathlib import Path
 
-from scripts import cluster_file
 from turns import FRAMES, change, in_turn, plan, schedule
 
 HERE = Path(__file__).resolve().parent
+sys.path.append(str(HERE.parent))
+from tests.models.random_scripts import cluster_file
+
 # By these the C library copies and clears memory in steps of many bytes. By its string instructions, which it takes for
 # more than 2,048 bytes, valgrind would count each byte as an instruction.
 STEPS = "glibc.cpu.x86_rep_stosb_threshold=1073741824:glibc.cpu.x86_rep_movsb_threshold=1073741824"

@@ -14,11 +14,13 @@ import sys
 import tempfile
 from pathlib import Path
 
-from scripts import FRAMES, SLOTS, cluster_file, key_of
 from turns import CYCLES, PLACEMENTS, RUNS, line, processor_seconds
 
 HERE = Path(__file__).resolve().parent
 TOP = HERE.parent
+sys.path.append(str(TOP))
+from tests.models.random_scripts import FRAMES, SLOTS, cluster_file, key_of
+
 NODE = dict(supplier="s0", node="node0")
 KEY = key_of("s0")
 ROWS = 512

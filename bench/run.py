@@ -12,6 +12,9 @@ import time
 from pathlib import Path
 
 HERE = Path(__file__).resolve().parent
+sys.path.append(str(HERE.parent))
+from tests.models.random_scripts import random_script
+
 MIXES = ("refused", "queries", "plan", "place", "imports", "revising", "comparing", "all")
 NAIVE = HERE.parent / "tests/models/naive.py"
 RUNS = 3
@@ -78,8 +81,7 @@ def main():
     for mix in MIXES:
         with tempfile.TemporaryDirectory() as room:
             script, answers, expected, nothing = (Path(room) / name for name in ("script", "answers", "expected", "nothing"))
-            made = [sys.executable, HERE / "scripts.py", mix, "--lines", str(given.lines), "--suppliers", str(given.suppliers), "--seed", str(given.seed)]
-            script.write_bytes(subprocess.run(made, check=True, stdout=subprocess.PIPE).stdout)
+            script.write_bytes(random_script(mix, given.lines, given.suppliers, given.seed))
             runs = {name: [] for name in ("ours", "register", "reader")}
             for _ in range(RUNS):
                 runs["ours"].append(measured([given.program, "run"], script, answers))

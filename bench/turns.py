@@ -15,9 +15,10 @@ import subprocess
 import sys
 from pathlib import Path
 
-from scripts import cluster_file, key_of
-
 HERE = Path(__file__).resolve().parent
+sys.path.append(str(HERE.parent))
+from tests.models.random_scripts import cluster_file, key_of
+
 PLACEMENTS = 8
 CYCLES = 64
 RUNS = 3

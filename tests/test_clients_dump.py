@@ -8,15 +8,14 @@ import tomllib
 from contextlib import closing
 from unittest.mock import patch
 
-from bench.scripts import Plan, cluster_file
 from clients.slotplan_plans.dumping import blocks
 from clients.slotplan_plans.sources import Server
 from tests.drivers.plans_client import ClientCase, asked, questions
 from tests.drivers.program import ran
 from tests.models import schema1
 from tests.models.messages import FIRST
-from tests.models.mixtures import mixture
 from tests.models.plans import examples
+from tests.models.random_scripts import Plan, cluster_file, random_script
 from tests.runner.case import WHOLE
 from tests.runner.each import each
 
@@ -371,7 +370,7 @@ class Random(Dumps):
     @each("joining", "revising", "comparing", "all")
     def test_mixture(self, mix):
         for seed in range(1, 5 if WHOLE else 2):
-            self.made_of(mixture(mix, 600, suppliers=3, seed=seed).decode(), db=f"{seed}.db")
+            self.made_of(random_script(mix, 600, suppliers=3, seed=seed).decode(), db=f"{seed}.db")
             self.makes_again(f"{mix} {seed}", f"{seed}.db")
 
     def test_chain(self):

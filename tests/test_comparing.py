@@ -14,7 +14,7 @@ from tests.models import messages, naive
 from tests.models.made import CLUSTER, IMPORT_BYTES, IMPORT_ROWS, LARGE, answers, done, refused, request, script, suppliers, told
 from tests.models.messages import CONTINUE, DONE, UNKNOWN, command, engine, head, post, put, text
 from tests.models.messages import refused as refused_bytes
-from tests.models.mixtures import mixture
+from tests.models.random_scripts import random_script
 from tests.runner.each import each
 
 INTEGRATOR, KEY, OTHER = "integrator1", "supplier01", "supplier02"
@@ -311,7 +311,7 @@ class Differences(StartCase):
         return lines, opened, released, list(parents)
 
     def tried(self, seed):
-        cluster, _, requests = mixture("comparing", 700, 3, seed).partition(b"---\n")
+        cluster, _, requests = random_script("comparing", 700, 3, seed).partition(b"---\n")
         lines, opened, released, variants = self.with_differences(requests.splitlines())
         variants = variants[:2] + variants[-6:]
         asks = [line for key in KEYS for variant in variants for line in self.reports(key, variant)]
@@ -406,7 +406,7 @@ class Tries(StartCase):
 
     @each("imports", "all", "revising", "comparing")
     def test_mixture(self, mix):
-        self.tried(mixture(mix, 1500, 4, seed=9))
+        self.tried(random_script(mix, 1500, 4, seed=9))
 
 
 # ---- over files: commands and a server

@@ -7,7 +7,7 @@ import random
 from tests.drivers.starts import Start, StartCase, answered, faulty
 from tests.models import naive
 from tests.models.made import CLUSTER, DONE, done, refused, request, script, suppliers
-from tests.models.mixtures import mixture
+from tests.models.random_scripts import random_script
 from tests.runner.each import each
 
 COUNTS = range(8, 65, 2)
@@ -214,7 +214,7 @@ class MixturesWithCycles(StartCase):
     @each(*COUNTS)
     def test_cycles(self, count):
         for mix, lines in MIXES.items():
-            given = mixture(mix, lines, 4, count, count)
+            given = random_script(mix, lines, 4, count, count)
             self.ends(Start(f"the mixture {mix} with {count} cycles", given, naive.answers(given)))
 
 

@@ -11,7 +11,7 @@ from tests.drivers.registers import RegisterCase
 from tests.drivers.starts import Start, StartCase
 from tests.models import naive
 from tests.models.made import LARGE, answers, done, imported, request, script, suppliers, told
-from tests.models.mixtures import mixture
+from tests.models.random_scripts import random_script
 from tests.runner.each import each
 
 ROWS, LAST = 512, 4_294_967_295
@@ -245,7 +245,7 @@ class Files(RegisterCase):
         self.goes_back(name, (TOP / f"examples/{name}.script").read_bytes())
 
     def test_mixture(self):
-        self.goes_back("a mixture", mixture("revising", 400, 2, 7))
+        self.goes_back("a mixture", random_script("revising", 400, 2, 7))
 
 
 # ---- replacements beside another register

@@ -12,7 +12,7 @@ from tests.models import messages, naive
 from tests.models.made import DEPTH, LARGE, VARIANTS, answers, done, request, script, suppliers
 from tests.models.messages import DONE, command, head, text
 from tests.models.messages import refused as refused_bytes
-from tests.models.mixtures import mixture
+from tests.models.random_scripts import random_script
 from tests.runner.each import each
 
 INTEGRATOR, KEY, OTHER = "integrator1", "supplier01", "supplier02"
@@ -111,7 +111,7 @@ class SameRows(StartCase):
             yield request(key, "diff", variant=other, **{"from": variant})
 
     def tried(self, seed):
-        cluster, _, requests = mixture("comparing", 1500, 3, seed).partition(b"---\n")
+        cluster, _, requests = random_script("comparing", 1500, 3, seed).partition(b"---\n")
         lines, looks = [], []
         for line in requests.decode().splitlines():
             lines.append(line)

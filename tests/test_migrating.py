@@ -18,7 +18,7 @@ from tests.drivers.states import has_frames
 from tests.models import naive, schema1, schema2
 from tests.models.made import CLUSTER as KEYS
 from tests.models.messages import CLUSTER, command
-from tests.models.mixtures import mixture
+from tests.models.random_scripts import random_script
 from tests.runner.each import each
 
 WORDS = ["migrate", "car.db"]
@@ -275,7 +275,7 @@ class MigratingMixtures(MigratingCase):
     def begun(self, mix):
         """The other register after the lines of a mixture that come before the migration, and the lines that come then."""
         owners, lines, before = MIXTURES[mix]
-        cluster, _, asked = mixture(mix, lines, owners, 35).partition(b"---\n")
+        cluster, _, asked = random_script(mix, lines, owners, 35).partition(b"---\n")
         asked = asked.splitlines(keepends=True)
         return asked_before(cluster + b"---\n" + b"".join(asked[:before])), [line.decode().rstrip("\n") for line in asked[before:]]
 

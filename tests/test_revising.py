@@ -12,7 +12,7 @@ from tests.models import naive
 from tests.models.made import CLUSTER, answers, done, refused, refused_row, request, script, suppliers
 from tests.models.messages import CONTINUE, DONE, UNKNOWN, command, csv, engine, head, json, put, text
 from tests.models.messages import refused as refused_bytes
-from tests.models.mixtures import mixture
+from tests.models.random_scripts import random_script
 from tests.runner.each import each
 
 INTEGRATOR, KEY, OTHER = "integrator1", "supplier01", "supplier02"
@@ -183,11 +183,11 @@ class Alone(StartCase):
 
     @each("s0", "s1", "s2", "s3")
     def test_revising(self, supplier):
-        self.tried(supplier, mixture("revising", 1200, 4, 11))
+        self.tried(supplier, random_script("revising", 1200, 4, 11))
 
     @each("s0", "s1", "s2", "s3")
     def test_comparing(self, supplier):
-        self.tried(supplier, mixture("comparing", 1200, 4, 12))
+        self.tried(supplier, random_script("comparing", 1200, 4, 12))
 
 
 # ---- over files: commands and a server

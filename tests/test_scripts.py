@@ -10,7 +10,7 @@ from tests.models.made import (
     suppliers_that_join, with_a_stranger,
 )
 from tests.models.messages import FIRST, FIRST_ANSWERS
-from tests.models.mixtures import mixture
+from tests.models.random_scripts import random_script
 from tests.runner.each import each
 
 OPEN = 'integrator1 {"do":"open_variant","variant":"v1"}'
@@ -49,7 +49,7 @@ class AnotherRegister(StartCase):
     @each("plan", "refused", "queries", "place", "imports", "joining", "revising", "comparing", "all")
     def test_mixture(self, mix):
         for seed in 1, 2, 3:
-            given = mixture(mix, 2000, seed=seed)
+            given = random_script(mix, 2000, seed=seed)
             self.ends(Start(f"made with {seed}", given, naive.answers(given)))
 
 

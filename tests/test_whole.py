@@ -13,7 +13,7 @@ from tests.models import messages, naive
 from tests.models.made import FRAMES, IMPORT_BYTES, IMPORT_ROWS, LARGE, answers, done, refused_row, request, script, suppliers
 from tests.models.messages import CONTINUE, DONE, UNKNOWN, command, csv, engine, head, put, text
 from tests.models.messages import refused as refused_bytes
-from tests.models.mixtures import mixture
+from tests.models.random_scripts import random_script
 from tests.runner.each import each
 
 INTEGRATOR, KEY, OTHER = "integrator1", "supplier01", "supplier02"
@@ -169,7 +169,7 @@ class WhatYouTake(StartCase):
 
     def tried(self, seed):
         """Before each such file, behind it and behind it again, all rows, and the exports of its supplier."""
-        cluster, _, requests = mixture("revising", 900, 3, seed).partition(b"---\n")
+        cluster, _, requests = random_script("revising", 900, 3, seed).partition(b"---\n")
         lines, files = [], []
         for line in requests.splitlines():
             asked, key = fields_of(line) if b"{" in line else {}, line.partition(b" ")[0].decode()

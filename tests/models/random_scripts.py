@@ -1,5 +1,6 @@
-#!/usr/bin/env python3
-"""Prints a script of many requests, the same one for the same arguments: scripts.py MIX [--lines N] [--suppliers S] [--seed X] [--cycles C]
+"""Scripts of many requests by chance, the same one for the same arguments.
+
+python3 -m tests.models.random_scripts MIX [--lines N] [--suppliers S] [--seed X] [--cycles C] prints one.
 
 MIX is one of
   plan      each command but add_supplier and set_key, as integrator and suppliers plan; few are refused
@@ -442,7 +443,7 @@ class Plan:
         return self.line(actor, query, variant=self.variants[0], **fields)
 
 
-def script(mix, lines, suppliers, seed, cycles=None):
+def lines_of(mix, lines, suppliers, seed, cycles=None):
     names = [f"s{n}" for n in range(suppliers)]
     plan = Plan(list(names), seed, cycles or 64)
     variants, frames = {"plan": (4, 4), "place": (1, 60), "joining": (4, 4), "revising": (3, 4), "comparing": (3, 4), "all": (4, 4)}.get(mix, (1, 4))
@@ -464,6 +465,11 @@ def script(mix, lines, suppliers, seed, cycles=None):
     return cluster_file(names, cycles) + opening[:lines] + list(more)
 
 
+def random_script(mix, lines, suppliers=8, seed=1, cycles=None):
+    """A script of so many lines."""
+    return ("\n".join(lines_of(mix, lines, suppliers, seed, cycles)) + "\n").encode()
+
+
 def main():
     words = argparse.ArgumentParser(description=__doc__, formatter_class=argparse.RawDescriptionHelpFormatter)
     words.add_argument("mix", choices=("plan", "refused", "queries", "place", "imports", "joining", "revising", "comparing", "all"))
@@ -472,7 +478,7 @@ def main():
     words.add_argument("--seed", type=int, default=1)
     words.add_argument("--cycles", type=int, choices=range(8, 65, 2), metavar="8..64")
     given = words.parse_args()
-    sys.stdout.write("\n".join(script(given.mix, given.lines, given.suppliers, given.seed, given.cycles)) + "\n")
+    sys.stdout.buffer.write(random_script(given.mix, given.lines, given.suppliers, given.seed, given.cycles))
 
 
 if __name__ == "__main__":
