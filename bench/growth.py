@@ -23,9 +23,9 @@ HERE = Path(__file__).resolve().parent
 TOP = HERE.parent
 sys.path.append(str(TOP))
 from tests.drivers.server import sent, started
-from tests.models.made import LARGE, suppliers
 from tests.models.messages import command, head
 from tests.models.schema2 import filled
+from tests.models.scripts import LARGE, suppliers
 
 MOST, LEAST_TIME, TRIES = 3, 1e-4, 3
 ASKED, FEWEST, ENOUGH = 5, 2, 1.0  # how often a request is asked; how often at least, where that takes so many seconds

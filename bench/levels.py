@@ -19,8 +19,8 @@ from texts import seconds
 TOP = Path(__file__).resolve().parent.parent
 sys.path.append(str(TOP))
 from tests.drivers.rattle import built
-from tests.models.made import DEPTH, LARGE, suppliers
 from tests.models.schema2 import filled
+from tests.models.scripts import DEPTH, LARGE, suppliers
 
 RUNS = 7
 SUPPLIERS = 64

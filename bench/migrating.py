@@ -20,7 +20,7 @@ from pathlib import Path
 TOP = Path(__file__).resolve().parent.parent
 sys.path.append(str(TOP))
 from tests.models import schema1
-from tests.models.made import CYCLES, FRAMES, IMPORTS, IMPORT_BYTES, LARGE, NODES, PLACEMENTS, SIGNALS, SLOTS, SUPPLIERS, VARIANTS, suppliers
+from tests.models.scripts import CYCLES, FRAMES, IMPORTS, IMPORT_BYTES, LARGE, NODES, PLACEMENTS, SIGNALS, SLOTS, SUPPLIERS, VARIANTS, suppliers
 
 MIGRATED = 0, b"", b""
 OPENED = 1, b"", b'{"no":10,"refused":"NoVariant"}\n'

@@ -31,8 +31,8 @@ from pathlib import Path
 
 TOP = Path(__file__).resolve().parent.parent
 sys.path.append(str(TOP))
-from tests.drivers.clients import connected, descriptors, meanwhile, memory_of, narrow, work_of
 from tests.drivers.connections import LONG_CLUSTER, SCHEDULE, fill_long
+from tests.drivers.http_clients import connected, descriptors, meanwhile, memory_of, narrow, work_of
 from tests.drivers.server import HERE, free_port, started
 from tests.models.messages import command as command_of
 from tests.models.messages import head

@@ -26,8 +26,8 @@ from texts import seconds
 TOP = Path(__file__).resolve().parent.parent
 sys.path.append(str(TOP))
 from tests.drivers.rattle import built
-from tests.models.made import LARGE, suppliers
 from tests.models.schema2 import connected, filled
+from tests.models.scripts import LARGE, suppliers
 from tests.models.sql import in_table
 
 PLACEMENTS, SIGNALS, BATCH = 8, 15, 512

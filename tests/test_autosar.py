@@ -11,10 +11,11 @@ from clients.slotplan_plans.autosar import reading, writing
 from clients.slotplan_plans.autosar.proposal import Proposal
 from clients.slotplan_plans.plan import Variant
 from clients.slotplan_plans.reading import read
-from tests.drivers.descriptions import Shape, Told, reports, requests_of
-from tests.models.made import DONE
+from tests.drivers.autosar_registers import Shape, Told, reports, requests_of
 from tests.models.plans import examples
-from tests.runner.case import Case, for_each
+from tests.models.scripts import DONE
+from tests.runner.case import Case
+from tests.runner.parameters import for_each
 
 # Plans by chance: on one channel and on two, of many counts of cycles, without a payload and with the longest.
 SHAPES = {

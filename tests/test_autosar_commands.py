@@ -7,7 +7,7 @@ from pathlib import Path
 
 from clients.slotplan_plans.__main__ import main
 from tests import TOP
-from tests.drivers.following import THERE, follow
+from tests.drivers.followed_pages import THERE, follow
 from tests.drivers.planned_registers import Register
 from tests.drivers.plans_client import ClientCase
 from tests.drivers.program import ran

@@ -3,11 +3,11 @@ import json
 import random
 
 from clients.slotplan_plans.autosar import folder
-from tests.drivers.descriptions import Shape, reports, requests_of
+from tests.drivers.autosar_registers import Shape, reports, requests_of
 from tests.models import arxml
 from tests.models.damaged import damaged, lost, unsound
-from tests.models.made import SUPPLIERS
-from tests.runner.case import for_each
+from tests.models.scripts import SUPPLIERS
+from tests.runner.parameters import for_each
 from tests.test_autosar_files import FileCase, exported
 
 OF_EACH = 600

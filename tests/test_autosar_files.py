@@ -10,10 +10,10 @@ from clients.slotplan_plans.bits import bits
 from clients.slotplan_plans.faults import Fault
 from clients.slotplan_plans.plan import Grant, Node, Placement, Signal
 from clients.slotplan_plans.reading import read
-from tests.drivers.descriptions import Shape, Told, reports, requests_of
+from tests.drivers.autosar_registers import Shape, Told, reports, requests_of
 from tests.models import arxml
 from tests.models.damaged import lost
-from tests.models.made import DONE
+from tests.models.scripts import DONE
 from tests.runner.case import Case
 
 TABLE = dict(line.split(",") for line in arxml.SUPPLIERS.splitlines()[1:])

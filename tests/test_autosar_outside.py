@@ -11,9 +11,10 @@ from clients.slotplan_plans.autosar import writing
 from clients.slotplan_plans.bits import bits
 from clients.slotplan_plans.reading import read
 from tests.drivers import canmatrix_there
-from tests.drivers.descriptions import Shape, Told, reports
+from tests.drivers.autosar_registers import Shape, Told, reports
 from tests.models.plans import examples
-from tests.runner.case import Case, for_each
+from tests.runner.case import Case
+from tests.runner.parameters import for_each
 
 # canmatrix knows no CYCLE-COUNTER, so repetitions are those that AUTOSAR has a word for. Where names are alike, short names are longer ones.
 SHAPES = {

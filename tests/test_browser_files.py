@@ -1,7 +1,7 @@
 """Files and differences in the planners' page, in a browser: files as spreadsheets write them, files of many rows, exports, and what differs."""
 from tests.drivers.planner import PlannerCase
+from tests.models.demo_plan import BOSS, CAMERA, CHANGED, CLUSTER, REQUESTS
 from tests.models.workbook import workbook
-from tests.models.years import BOSS, CAMERA, CHANGED, CLUSTER, REQUESTS
 
 HEADER = "frame,node,slot,channels,base,repetition\n"
 SIGNALS = "frame,signal,start,length,order\n"

@@ -2,7 +2,7 @@
 table; variants, suppliers and keys."""
 from tests.drivers.browser import DOWN, ENTER, RIGHT, SHIFT
 from tests.drivers.planner import PlannerCase
-from tests.models.years import BOSS, CAMERA, CLUSTER, REQUESTS
+from tests.models.demo_plan import BOSS, CAMERA, CLUSTER, REQUESTS
 
 GRANTS = "variants/my29/grants"
 CAMERAS = "front_camera of camtech"

@@ -2,7 +2,7 @@
 and no plan is shown of a report that has not its form."""
 import json
 
-from tests.drivers.stranger import CLUSTER, GOOD, LISTED, TOLD, StrangerCase
+from tests.drivers.stub_register import CLUSTER, GOOD, LISTED, TOLD, StubCase
 
 ROWS = GOOD["rows"]
 
@@ -65,7 +65,7 @@ TRACES = """
 NO_TRACES = {"hacked": None, "elements": 0, "scripts": 0, "handlers": 0}
 
 
-class HostileCase(StrangerCase):
+class HostileCase(StubCase):
     """A page that was sent what no register sends."""
 
     def plan_of_one(self):

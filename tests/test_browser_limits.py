@@ -1,7 +1,7 @@
 """The planners' page with a plan at the limits, in a browser: 1,023 slots on both channels, 64 suppliers with 256 frames each, 130,944 placements.
 
 A register takes minutes to be asked for so many rows, so a server tells the rows of such a plan, which are made here by rule."""
-from tests.drivers.stranger import NOT_YOURS, StrangerCase
+from tests.drivers.stub_register import NOT_YOURS, StubCase
 
 SUPPLIERS, LANES, CYCLES, PLACEMENTS = 64, 2046, 64, 8
 FIGURES = {
@@ -58,7 +58,7 @@ def reports():
     return told, count
 
 
-class AtTheLimits(StrangerCase):
+class AtTheLimits(StubCase):
     """Such a plan is shown, scrolled and searched without a pause that hinders work. What the page's own work took is printed."""
 
     seconds = 120

@@ -1,11 +1,11 @@
 """The planners' page as such, in a browser: where the key is, what the browser refuses the page, who is asked, names for those who hear it, sizes."""
 import time
 
-from tests.drivers.answering import Answering, serving
 from tests.drivers.browser import ESCAPE
 from tests.drivers.planner import PlannerCase
+from tests.drivers.stub_server import Answering, serving
+from tests.models.demo_plan import BOSS, CAMERA, CLUSTER, COLOURS, REQUESTS, SUPPLIERS
 from tests.models.workbook import workbook
-from tests.models.years import BOSS, CAMERA, CLUSTER, COLOURS, REQUESTS, SUPPLIERS
 
 # So many seconds a connection may take.
 CONNECTION = 10

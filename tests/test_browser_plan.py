@@ -3,7 +3,7 @@ import re
 
 from tests.drivers.browser import CONTROL, DOWN, ENTER, ESCAPE, HOME, PAGE_UP, RIGHT
 from tests.drivers.planner import CELL, PlannerCase
-from tests.models.years import BOSS, CAMERA, CLUSTER, COLOURS, REQUESTS, SUPPLIERS
+from tests.models.demo_plan import BOSS, CAMERA, CLUSTER, COLOURS, REQUESTS, SUPPLIERS
 
 # Of each place of the window: the colour that most of the points around it have.
 PAINTED = """

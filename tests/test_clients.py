@@ -16,7 +16,7 @@ from clients.slotplan_plans.plan import Cluster, Frame, Grant, Node, Placement, 
 from clients.slotplan_plans.reading import read
 from clients.slotplan_plans.sources import RegisterFile, Server
 from tests import TOP
-from tests.drivers.following import THERE, follow
+from tests.drivers.followed_pages import THERE, follow
 from tests.drivers.plans_client import ClientCase, TypedSource
 from tests.models.messages import FIRST
 from tests.models.pages import blocks_left_out

@@ -13,8 +13,8 @@ from clients.slotplan_plans.sources import Server
 from clients.slotplan_plans.tables import grants_of, nodes_of
 from tests.drivers.plans_client import ClientCase, TypedSource, ended
 from tests.drivers.program import ran
-from tests.models.made import CLUSTER, cluster_file
 from tests.models.plans import examples
+from tests.models.scripts import CLUSTER, cluster_file
 from tests.runner.case import Case
 
 DONE = '{"ok":"done"}'

@@ -17,7 +17,7 @@ from tests.models.messages import FIRST
 from tests.models.plans import examples
 from tests.models.random_scripts import Plan, cluster_file, random_script
 from tests.runner.case import WHOLE
-from tests.runner.each import each
+from tests.runner.parameters import for_values
 
 DONE = '{"ok":"done"}'
 CLUSTER = """\
@@ -367,7 +367,7 @@ class Random(Dumps):
 
     seconds = 30
 
-    @each("joining", "revising", "comparing", "all")
+    @for_values("joining", "revising", "comparing", "all")
     def test_mixture(self, mix):
         for seed in range(1, 5 if WHOLE else 2):
             self.made_of(random_script(mix, 600, suppliers=3, seed=seed).decode(), db=f"{seed}.db")

@@ -6,16 +6,16 @@ import json
 from collections import Counter
 from itertools import product
 
+from tests.drivers.invocations import Invocation, InvocationCase, answered, difference
 from tests.drivers.program import ran
 from tests.drivers.registers import RegisterCase
 from tests.drivers.server import sent
-from tests.drivers.starts import Start, StartCase, answered, difference
 from tests.models import messages, naive
-from tests.models.made import CLUSTER, IMPORT_BYTES, IMPORT_ROWS, LARGE, answers, done, refused, request, script, suppliers, told
 from tests.models.messages import CONTINUE, DONE, UNKNOWN, command, engine, head, post, put, text
 from tests.models.messages import refused as refused_bytes
 from tests.models.random_scripts import random_script
-from tests.runner.each import each
+from tests.models.scripts import CLUSTER, IMPORT_BYTES, IMPORT_ROWS, LARGE, answers, done, refused, request, script, suppliers, told
+from tests.runner.parameters import for_values
 
 INTEGRATOR, KEY, OTHER = "integrator1", "supplier01", "supplier02"
 IN_V1, IN_V2, SINCE_V1 = dict(variant="v1"), dict(variant="v2"), dict(variant="v2", **{"from": "v1"})
@@ -119,7 +119,7 @@ def misformed():
         yield f'{KEY} {{"do":"try","variant":"v2","body":"","replace":{form}}}'
 
 
-class Misformed(StartCase):
+class Misformed(InvocationCase):
     """Of a request each field of another kind is `BadText`, whoever asks, and so is a word that names none; nothing changes."""
 
     def test_fields(self):
@@ -168,14 +168,14 @@ def combined():
     yield request(INTEGRATOR, "diff", **SINCE_V1)
 
 
-class BesideAnotherRegister(StartCase):
+class BesideAnotherRegister(InvocationCase):
     """Differences and tries are answered as by another register, naive.py: where several refusals apply, at the limits, and where a file is cut."""
 
     seconds = 20
 
     def asked(self, name, cluster, lines):
         given = script(cluster, [(line, None) for line in lines])
-        self.ends(Start(name, given, naive.answers(given)))
+        self.ends(Invocation(name, given, naive.answers(given)))
 
     def test_combined(self):
         lines = [line for line, _ in PLANNED] + [request(INTEGRATOR, "open_variant", variant="v3"), *combined()]
@@ -213,7 +213,7 @@ class BesideAnotherRegister(StartCase):
                 lines.append(request(KEY, "try", **IN_V2, body="\n".join([kind, *rows]), replace=replaces))
         self.asked("limits of rows", {**CLUSTER, "payload_words": "127"}, [*lines, request(KEY, "export_placements", **IN_V2, part=0)])
 
-    @each(
+    @for_values(
         '\ufeff"frame","node"\r\nf,n1\r\n"k",n1\r\n\r\nk,"n1"',
         '\ufeffframe,node,slot,channels,base,repetition\r\nf,n1,1,"A",2,4\r"g",n1,0001,A,1,2\n\nk,n1,1,A,3,64\nf,n1,1,A,0,32\n',
         'frame,"signal",start,length,order\nf,y,4,10,little\r\n"f",x,0,4,little\rg,"x",0,8,little\n',
@@ -266,7 +266,7 @@ def diff_of(key, old, new):
     return line_of(key, "diff", variant=new, **{"from": old})
 
 
-class Differences(StartCase):
+class Differences(InvocationCase):
     """Rows are what the other reports tell of a variant. A difference is just what the rows of two variants tell apart. Turned round it has the other signs. It is empty right after one was opened from the
     other, and stays as it is where both are released."""
 
@@ -348,7 +348,7 @@ class Differences(StartCase):
         order = [kinds.index(row.split()[1]) for row in rows]
         self.see(f"{what}: kinds in order", sorted(order), order)
 
-    @each(1, 2, 3)
+    @for_values(1, 2, 3)
     def test_mixture(self, seed):
         self.tried(seed)
 
@@ -372,7 +372,7 @@ def told_by(fates, word):
     return {"ok": word, "rows": len(fates)}
 
 
-class Tries(StartCase):
+class Tries(InvocationCase):
     """A file is answered as the try before it tells, by the first line that is not `done`; and no other answer changes where each file is tried first."""
 
     seconds = 20
@@ -404,7 +404,7 @@ class Tries(StartCase):
             compared[answer.get("ok", "refused")] += 1
         self.see("files were carried out, and others refused", True, min(compared["refused"], compared["imported"] + compared["replaced"]) > 15)
 
-    @each("imports", "all", "revising", "comparing")
+    @for_values("imports", "all", "revising", "comparing")
     def test_mixture(self, mix):
         self.tried(random_script(mix, 1500, 4, seed=9))
 

@@ -11,15 +11,15 @@ from contextlib import closing, suppress
 from functools import partial
 from itertools import product
 
-from tests.drivers.clients import (
+from tests.drivers.connections import FRAMES, NOTHING, SCHEDULE, ConnectionCase, LongCase, PlannedCase, add_frame, adds, long_schedule
+from tests.drivers.http_clients import (
     comes_to, connected, has_arrived, interrupt, is_heard, limited, meanwhile, memory_of, narrow, open_at, received, reset, waited,
 )
-from tests.drivers.connections import FRAMES, NOTHING, SCHEDULE, ConnectionCase, LongCase, PlannedCase, add_frame, adds, long_schedule
 from tests.drivers.preload import Pieces
 from tests.drivers.program import SECONDS
 from tests.drivers.registers import RegisterCase
 from tests.drivers.server import sent
-from tests.models import made
+from tests.models import scripts
 from tests.models.messages import CLUSTER, CONTINUE, DONE, engine, head, json, post, refused, text
 
 # For how many seconds the server reads what is still sent where it has replied before it read the whole request.
@@ -73,14 +73,14 @@ class Keeping(ConnectionCase):
 
     waits, seconds = False, 30
     keepers = [f"s{number}" for number in range(1, 4)]
-    cluster = made.cluster_file({**made.LARGE, "suppliers": made.suppliers(len(keepers))}).encode()
+    cluster = scripts.cluster_file({**scripts.LARGE, "suppliers": scripts.suppliers(len(keepers))}).encode()
 
     def setUp(self):
         """As many variants as there may be, in each of which each supplier has as many frames and signals as it may."""
         super().setUp()
         self.create()
-        frames, signals = [f"f{number:03}" for number in range(made.FRAMES)], range(made.SIGNALS)
-        variants = [f"v{number}" for number in range(2, made.VARIANTS + 1)]
+        frames, signals = [f"f{number:03}" for number in range(scripts.FRAMES)], range(scripts.SIGNALS)
+        variants = [f"v{number}" for number in range(2, scripts.VARIANTS + 1)]
         with closing(sqlite3.connect(self.folder / "car.db")) as file, file:
             file.execute("INSERT INTO variants VALUES ('v1', NULL, 1, 1, 0)")
             file.executemany("INSERT INTO variants VALUES (?, 'v1', 2, 0, 1)", [(name,) for name in variants])
@@ -91,7 +91,7 @@ class Keeping(ConnectionCase):
         self.variants = ["v1", *variants]
 
     def test_memory(self):
-        wanted = text("".join(f"{8 * at:04} 08 little x{at} {name}\n" for name in self.keepers for at in range(made.SIGNALS)).encode())
+        wanted = text("".join(f"{8 * at:04} 08 little x{at} {name}\n" for name in self.keepers for at in range(scripts.SIGNALS)).encode())
         with self.served("--count", str(2 + len(self.variants))) as (server, port):
             self.see("before a page is read", NOTHING[1], sent(port, NOTHING[0]))
             before = memory_of(server)

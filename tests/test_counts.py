@@ -4,11 +4,11 @@ What is wanted was typed by hand from docs/FORMATS.md, comes from another regist
 output."""
 import random
 
-from tests.drivers.starts import Start, StartCase, answered, faulty
+from tests.drivers.invocations import Invocation, InvocationCase, answered, faulty
 from tests.models import naive
-from tests.models.made import CLUSTER, DONE, done, refused, request, script, suppliers
 from tests.models.random_scripts import random_script
-from tests.runner.each import each
+from tests.models.scripts import CLUSTER, DONE, done, refused, request, script, suppliers
+from tests.runner.parameters import for_values
 
 COUNTS = range(8, 65, 2)
 PAIRED = (12, 48, 60, 64)
@@ -105,7 +105,7 @@ FAULTS = [
 ]
 
 
-class CountsByHand(StartCase):
+class CountsByHand(InvocationCase):
     """Placements of 10, 12 and 48 cycles, and which counts a cluster may have, are as worked out by hand."""
 
     def plan(self, count, pairs):
@@ -190,16 +190,16 @@ def rooms(variant, count):
         yield request(KEY, "room", variant=variant, frame=f"f{repetition % 30}", repetition=repetition)
 
 
-class Repetitions(StartCase):
+class Repetitions(InvocationCase):
     """With each count of cycles each repetition is answered as by another register; those that divide the count, and those that do not."""
 
     def asked(self, cluster, cycles):
         lines = [line for line, _ in opened(range(1, SLOTS + 1))]
         lines += [*each_repetition(cycles), *planned(cycles)]
         given = script({**cluster, "static_slots": str(SLOTS), "macroticks_per_cycle": "220"}, [(line, None) for line in lines])
-        self.ends(Start(f"repetitions of {cycles} cycles", given, naive.answers(given)))
+        self.ends(Invocation(f"repetitions of {cycles} cycles", given, naive.answers(given)))
 
-    @each(*COUNTS)
+    @for_values(*COUNTS)
     def test_cycles(self, count):
         self.asked(with_cycles(count), count)
 
@@ -208,14 +208,14 @@ class Repetitions(StartCase):
         self.asked(CLUSTER, 64)
 
 
-class MixturesWithCycles(StartCase):
+class MixturesWithCycles(InvocationCase):
     """With each count of cycles mixtures of many requests are answered as by another register."""
 
-    @each(*COUNTS)
+    @for_values(*COUNTS)
     def test_cycles(self, count):
         for mix, lines in MIXES.items():
             given = random_script(mix, lines, 4, count, count)
-            self.ends(Start(f"the mixture {mix} with {count} cycles", given, naive.answers(given)))
+            self.ends(Invocation(f"the mixture {mix} with {count} cycles", given, naive.answers(given)))
 
 
 # ---- two sets of cycles
@@ -247,9 +247,9 @@ def beside_each_other(count):
         yield place("f", 1, *one, "unplace"), DONE
 
 
-class SetsOfCycles(StartCase):
+class SetsOfCycles(InvocationCase):
     """Of two sets of cycles the cell that is taken is the first in which a plain loop finds both; with 12, 48, 60 and 64 cycles, all pairs."""
 
-    @each(*PAIRED)
+    @for_values(*PAIRED)
     def test_cycles(self, count):
         self.ends(answered(f"all pairs of sets of {count} cycles", with_cycles(count), [*opened([1]), *beside_each_other(count)]))

@@ -9,19 +9,20 @@ from contextlib import ExitStack, suppress
 from random import Random
 from threading import Event, Thread
 
-from tests.drivers.clients import (
-    LATE, SHORT, comes_to, connected, descriptors, had, interrupt, is_heard, is_open, limited, narrow, open_at, put, received, reset, stopped,
-    work_of,
-)
 from tests.drivers.connections import (
     EXISTS, FRAMES, HONEST, NOTHING, READ_FAILED, SCHEDULE, TRUNCATED, WHOLE, HeldCase, LongCase, PlannedCase, add_frame, adds, long_schedule, soon,
+)
+from tests.drivers.http_clients import (
+    LATE, SHORT, comes_to, connected, descriptors, had, interrupt, is_heard, is_open, limited, narrow, open_at, put, received, reset, stopped,
+    work_of,
 )
 from tests.drivers.preload import Stopper, calls_from
 from tests.drivers.program import SECONDS
 from tests.drivers.server import sent
 from tests.drivers.states import UNAVAILABLE, server_of
 from tests.models.messages import DONE, command, head, json, text
-from tests.runner.case import TURN, for_each
+from tests.runner.case import TURN
+from tests.runner.parameters import for_each
 
 # How many connections may be open, and within how many seconds so many are served, on a slow machine too.
 OPEN, ALL_SOON = 1_024, 20

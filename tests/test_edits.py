@@ -3,7 +3,7 @@ import re
 
 from tests import TOP
 from tests.runner.case import Case
-from tools.wrong import NotJudged, Told, groups, read_edit, texts_with, told_alone, told_of
+from tools.wrong_bodies import NotJudged, Told, groups, read_edit, texts_with, told_alone, told_of
 
 FUNCTION = re.compile(r"\bfn (\w+)")
 

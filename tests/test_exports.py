@@ -6,13 +6,13 @@ import tomllib
 from itertools import product
 
 from tests import TOP
+from tests.drivers.invocations import Invocation, InvocationCase
 from tests.drivers.program import ran
 from tests.drivers.registers import RegisterCase
-from tests.drivers.starts import Start, StartCase
 from tests.models import naive
-from tests.models.made import LARGE, answers, done, imported, request, script, suppliers, told
 from tests.models.random_scripts import random_script
-from tests.runner.each import each
+from tests.models.scripts import LARGE, answers, done, imported, request, script, suppliers, told
+from tests.runner.parameters import for_values
 
 ROWS, LAST = 512, 4_294_967_295
 IN_V1 = dict(variant="v1")
@@ -141,7 +141,7 @@ def in_parts():
         yield from exported(key_of("s1"), kind, parts_of(kind, "s1"), variant="v2")
 
 
-class Parts(StartCase):
+class Parts(InvocationCase):
     """A part of an export takes whole frames, as many as give at most 512 records; the parts together have each record once, and behind them is a header alone."""
 
     seconds = 30
@@ -157,7 +157,7 @@ class Parts(StartCase):
 
     def test_parts(self):
         pairs = list(in_parts())
-        self.ends(Start("exports in parts", script({**LARGE, "suppliers": suppliers(3)}, pairs), answers(pairs)))
+        self.ends(Invocation("exports in parts", script({**LARGE, "suppliers": suppliers(3)}, pairs), answers(pairs)))
 
 
 # ---- files that go back, and to another register
@@ -240,7 +240,7 @@ class Files(RegisterCase):
         for file in self.folder.glob("other.db*"):
             file.unlink()
 
-    @each("first", "powertrain", "chassis", "assistance", "ten_cycles")
+    @for_values("first", "powertrain", "chassis", "assistance", "ten_cycles")
     def test_example(self, name):
         self.goes_back(name, (TOP / f"examples/{name}.script").read_bytes())
 
@@ -284,14 +284,14 @@ def again(kind):
     yield request("supplier01", "replace", **IN_V1, body=file_of("signals", ["f1,x,0,8,little", "f2,x,15,4,big"]))
 
 
-class BesideAnotherRegister(StartCase):
+class BesideAnotherRegister(InvocationCase):
     """Files that take the place of earlier ones are answered as by another register, naive.py, and leave the same rows."""
 
     def asked(self, name, cluster, lines):
         given = script(cluster, [(line, None) for line in lines])
-        self.ends(Start(name, given, naive.answers(given)))
+        self.ends(Invocation(name, given, naive.answers(given)))
 
-    @each(*REVISIONS)
+    @for_values(*REVISIONS)
     def test_cut_at_each_byte(self, kind):
         """A file that is cut anywhere is another file, of which all rows are carried out or none."""
         whole = REVISIONS[kind]
@@ -300,7 +300,7 @@ class BesideAnotherRegister(StartCase):
             lines += [request("supplier01", "replace", **IN_V1, body=whole[:end]), *shown(), *again(kind)]
         self.asked(f"a file of {kind}, cut", {**LARGE, "suppliers": suppliers(2)}, lines)
 
-    @each("frame,node", "frame,node,slot,channels,base,repetition", "frame,signal,start,length,order")
+    @for_values("frame,node", "frame,node,slot,channels,base,repetition", "frame,signal,start,length,order")
     def test_headers(self, header):
         """A header of another kind is none: with a field more, less or changed, and that of an export of all."""
         fields = header.split(",")

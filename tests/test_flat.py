@@ -5,15 +5,15 @@ output, but where its reports of two variants are compared with one another."""
 import json
 from itertools import product
 
+from tests.drivers.invocations import Invocation, InvocationCase, difference
 from tests.drivers.program import ran
 from tests.drivers.registers import RegisterCase
-from tests.drivers.starts import Start, StartCase, difference
 from tests.models import messages, naive
-from tests.models.made import DEPTH, LARGE, VARIANTS, answers, done, request, script, suppliers
 from tests.models.messages import DONE, command, head, text
 from tests.models.messages import refused as refused_bytes
 from tests.models.random_scripts import random_script
-from tests.runner.each import each
+from tests.models.scripts import DEPTH, LARGE, VARIANTS, answers, done, request, script, suppliers
+from tests.runner.parameters import for_values
 
 INTEGRATOR, KEY, OTHER = "integrator1", "supplier01", "supplier02"
 IN_V1 = dict(variant="v1")
@@ -30,14 +30,14 @@ def released(variant):
 # ---- beside another register
 
 
-class BesideAnotherRegister(StartCase):
+class BesideAnotherRegister(InvocationCase):
     """Flat openings are answered as by another register, naive.py."""
 
     seconds = 20
 
     def asked(self, name, lines):
         given = script({**LARGE, "suppliers": suppliers(2)}, [(line, None) for line in lines])
-        self.ends(Start(name, given, naive.answers(given)))
+        self.ends(Invocation(name, given, naive.answers(given)))
 
     def chain(self):
         """Variants up to the deepest, all released; and one that is open."""
@@ -96,7 +96,7 @@ class BesideAnotherRegister(StartCase):
 KEYS = "integrator1", "keyfors0", "keyfors1"
 
 
-class SameRows(StartCase):
+class SameRows(InvocationCase):
     """Right after a flat opening each report of the new variant is that of the other one, to each who reads it, and nothing differs. So it is of a variant
     that is opened from the flat one."""
 
@@ -131,7 +131,7 @@ class SameRows(StartCase):
             self.see(f"{asked}: it is opened", DONE, told[at - 1])
             self.see(f"{asked}: its reports", told[at + count : at + 2 * count], told[at : at + count])
 
-    @each(1, 2, 3)
+    @for_values(1, 2, 3)
     def test_mixture(self, seed):
         self.tried(seed)
 

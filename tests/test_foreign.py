@@ -10,7 +10,8 @@ from itertools import islice
 from tests.drivers.states import ALL, BODY, BOOKS, NOTHING, SECONDS, StateCase, copied, count_in, performed, replied, server_of
 from tests.models import schema1
 from tests.models.messages import command, head, refused
-from tests.runner.case import TURN, for_each
+from tests.runner.case import TURN
+from tests.runner.parameters import for_each
 
 SEED = 20_240_229
 CHANGES, OLD_CHANGES = 2_000, 500

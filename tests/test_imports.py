@@ -3,8 +3,8 @@
 What is wanted was typed by hand from docs/FORMATS.md, or is made by its rules."""
 import json
 
-from tests.drivers.starts import StartCase, answered
-from tests.models.made import CLUSTER, done, imported, refused, request
+from tests.drivers.invocations import InvocationCase, answered
+from tests.models.scripts import CLUSTER, done, imported, refused, request
 
 KEY = "supplier01"
 FRAMES = "frame,node\n"
@@ -126,7 +126,7 @@ def more_frames():
     yield request(KEY, "import", variant="v1", label="one", body=FRAMES + "f256,n1\n"), bad_row(2, LIMIT)
 
 
-class ImportFiles(StartCase):
+class ImportFiles(InvocationCase):
     """A file of an import is carried out whole, or its first wrong row is told; by its line and its own refusal, and then nothing changes."""
 
     def test_forms(self):

@@ -8,10 +8,10 @@ from itertools import zip_longest
 from tests.drivers.registers import RegisterCase
 from tests.drivers.server import sent
 from tests.models.levels import chain
-from tests.models.made import CYCLES, DEPTH, FRAMES, IMPORT_ROWS, LARGE, NUMBERS, SLOTS, SUPPLIERS, suppliers, suppliers_of
 from tests.models.messages import command, csv, head, json, lines, post, put, text
 from tests.models.picture import KEY, Page
 from tests.models.schema2 import filled
+from tests.models.scripts import CYCLES, DEPTH, FRAMES, IMPORT_ROWS, LARGE, NUMBERS, SLOTS, SUPPLIERS, suppliers, suppliers_of
 
 CLUSTER = {**LARGE, "suppliers": suppliers(SUPPLIERS)}
 NAMES = [name for name, _ in suppliers_of(CLUSTER)]

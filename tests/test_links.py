@@ -9,14 +9,14 @@ import socket
 import struct
 from contextlib import ExitStack
 
-from tests.drivers.clients import connected, had, is_heard, put
+from tests.drivers.http_clients import connected, had, is_heard, put
 from tests.drivers.preload import Links
 from tests.drivers.program import SECONDS, ran
 from tests.drivers.registers import RegisterCase
 from tests.drivers.server import HERE
 from tests.drivers.states import BODY, replied
 from tests.models.messages import CONTINUE, DONE, FIRST, FIRST_ANSWERS, UNKNOWN, command, engine, head, json, post, refused, text
-from tests.runner.case import for_each
+from tests.runner.parameters import for_each
 
 LINE = b'{"do":"add_frame","variant":"v1","frame":"f7","node":"n1"}'
 ADD = command("supplier01", LINE, "Expect: 100-continue")

@@ -9,12 +9,12 @@ from functools import partial
 from itertools import cycle
 from threading import Thread
 
-from tests.drivers.clients import (
-    LIMIT, SHORT, comes_to, connected, had, is_heard, is_open, limited, meanwhile, memory_of, narrow, open_at, received, stopped, trickled, waited,
-    work_of,
-)
 from tests.drivers.connections import (
     EXISTS, FRAMES, HONEST, NOTHING, READ_FAILED, SCHEDULE, TRUNCATED, WHOLE, HeldCase, LongCase, add_frame, adds, long_schedule, soon,
+)
+from tests.drivers.http_clients import (
+    LIMIT, SHORT, comes_to, connected, had, is_heard, is_open, limited, meanwhile, memory_of, narrow, open_at, received, stopped, trickled, waited,
+    work_of,
 )
 from tests.drivers.preload import Stopper
 from tests.drivers.program import SECONDS

@@ -16,10 +16,10 @@ from tests.drivers.registers import RegisterCase
 from tests.drivers.server import sent
 from tests.drivers.states import has_frames
 from tests.models import naive, schema1, schema2
-from tests.models.made import CLUSTER as KEYS
 from tests.models.messages import CLUSTER, command
 from tests.models.random_scripts import random_script
-from tests.runner.each import each
+from tests.models.scripts import CLUSTER as KEYS
+from tests.runner.parameters import for_values
 
 WORDS = ["migrate", "car.db"]
 IMPORT = ["import", "car.db", "supplier01", "v1", "a", "header.csv"]
@@ -223,14 +223,14 @@ class MigratingByHand(MigratingCase):
     def is_migrated(self, rows):
         self.migrates(asked_before(CLUSTER + b"---\n" + PLANNED.encode()), rows, [line for line, _ in NEXT])
 
-    @each(*FILES)
+    @for_values(*FILES)
     def test_file(self, name):
         rows, pragmas = FILES[name]
         schema1.filled(self.db, rows, KEYS, pragmas)
         self.wrong_before()
         self.is_migrated(rows)
 
-    @each(*IN_ITS_LOG)
+    @for_values(*IN_ITS_LOG)
     def test_log(self, name):
         """As a program leaves a register that was killed: the imports, which came last, are in the log alone."""
         rows, is_tried = IN_ITS_LOG[name]
@@ -245,7 +245,7 @@ class MigratingByHand(MigratingCase):
             self.wrong_before()
         self.is_migrated(rows)
 
-    @each(*FORMS)
+    @for_values(*FORMS)
     def test_known_answers(self, form):
         """What is told of the register once it was migrated, typed by hand."""
         schema1.filled(self.db, FORMS[form])
@@ -283,12 +283,12 @@ class MigratingMixtures(MigratingCase):
         schema1.filled(self.db, rows, cluster_of(register))
         self.migrates(register, rows, following)
 
-    @each(*MIXTURES)
+    @for_values(*MIXTURES)
     def test_copies(self, mix):
         register, following = self.begun(mix)
         self.is_migrated(register, copies(register), following)
 
-    @each(*MIXTURES)
+    @for_values(*MIXTURES)
     def test_laid_over(self, mix):
         register, following = self.begun(mix)
         self.is_migrated(register, laid_over(copies(register)), following)

@@ -15,7 +15,7 @@ from json import loads
 from threading import Thread
 
 from tests import TOP
-from tests.drivers.clients import comes_to, connected, had
+from tests.drivers.http_clients import comes_to, connected, had
 from tests.drivers.program import SECONDS, program
 from tests.drivers.registers import RegisterCase
 from tests.drivers.server import HERE, free_port, listens_on, sent, started

@@ -11,7 +11,7 @@ from contextlib import closing
 from tests.drivers.program import SECONDS, ran
 from tests.drivers.registers import RegisterCase
 from tests.models import schema1
-from tests.runner.case import for_each
+from tests.runner.parameters import for_each
 from tests.test_migrating import FORMS, HEADER, PLANNED
 
 VARIANTS = "v1", "v2", "v3"

@@ -5,7 +5,7 @@ from functools import cache
 
 from tests import TOP
 from tests.runner.case import Case
-from tests.runner.each import each
+from tests.runner.parameters import for_values
 from tools.calls import calls
 from tools.heads import CRATES, FOLDERS, KINDS, files, head, is_class_of_tests, modules, said_by, sentences
 
@@ -105,7 +105,7 @@ class NamesOnPages(Case):
 class Heads(Case):
     """Each file of the sources, the tests and the benchmarks says what it is for."""
 
-    @each(*CRATES)
+    @for_values(*CRATES)
     def test_crates(self, crate):
         """A head of a file of src/ is one or two sentences."""
         for kind in KINDS:
@@ -114,13 +114,13 @@ class Heads(Case):
                 self.see(f"{path.relative_to(TOP)}: it has a head", True, said >= 1)
                 self.see(f"{path.relative_to(TOP)}: it is short", True, said <= 2 or kind.folder != "src")
 
-    @each(*CRATES)
+    @for_values(*CRATES)
     def test_calls(self, crate):
         """Each public call has a text, and a clause."""
         silent = [call.name for call in calls(crate) if not call.text or not call.clauses]
         self.see("calls that say nothing of themselves", [], silent)
 
-    @each(*FOLDERS)
+    @for_values(*FOLDERS)
     def test_modules(self, folder):
         silent = [str(path) for path, module in modules(folder) for it in [module, *filter(is_class_of_tests, module.body)] if not said_by(it)]
         self.see("files and classes that say nothing of themselves", [], silent)

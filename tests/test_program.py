@@ -2,9 +2,9 @@
 
 What is wanted was typed by hand from docs/FORMATS.md, the help in tests/help; none of it is the program's own output."""
 from tests import TOP
-from tests.drivers.starts import Start, StartCase, faulty
+from tests.drivers.invocations import Invocation, InvocationCase, faulty
 from tests.models.messages import FIRST, FIRST_ANSWERS
-from tests.runner.each import each
+from tests.runner.parameters import for_values
 
 HELP = {file.stem: file.read_bytes() for file in (TOP / "tests/help").glob("*.txt")}
 SCRIPT_BYTES = 16_777_216
@@ -47,30 +47,30 @@ NO_REPLACEMENT = usage("try takes --whole only with --replace", "Usage: slotplan
 NO_FILE = usage("check takes one of these: CONFIG, --requests FILE, --rows FILE, --path PATH, --register DB", "Usage: slotplan <COMMAND>", "")
 
 
-class Help(StartCase):
+class Help(InvocationCase):
     """Each command's help is printed whole, and so is the program's."""
 
     def test_program(self):
         for words in ("--help",), ("-h",), ("help",):
-            self.ends(Start(f"the words {words}", written=HELP["slotplan"], words=words))
+            self.ends(Invocation(f"the words {words}", written=HELP["slotplan"], words=words))
 
     def test_each_command(self):
         listed = [line.split()[0] for line in HELP["slotplan"].decode().partition("Commands:\n")[2].partition("\n\n")[0].splitlines()]
         self.see("the commands that have a help here", sorted(listed), sorted({*HELP, "help"} - {"slotplan"}))
         for name in HELP.keys() - {"slotplan"}:
-            self.ends(Start(f"the help of {name}", written=HELP[name], words=(name, "--help")))
+            self.ends(Invocation(f"the help of {name}", written=HELP[name], words=(name, "--help")))
 
-    @each("run", "serve")
+    @for_values("run", "serve")
     def test_other_words(self, name):
         for words in (name, "-h"), ("help", name):
-            self.ends(Start(f"the words {words}", written=HELP[name], words=words))
+            self.ends(Invocation(f"the words {words}", written=HELP[name], words=words))
 
 
-class Words(StartCase):
+class Words(InvocationCase):
     """Words that name no job end with status 2, and standard error says why; the usage comes with it."""
 
     def no_job(self, said, *words, given=FIRST):
-        self.ends(Start(f"the words {words}", given, said=said, status=2, words=words))
+        self.ends(Invocation(f"the words {words}", given, said=said, status=2, words=words))
 
     def test_no_words(self):
         self.no_job(HELP["slotplan"], given=b"")
@@ -84,7 +84,7 @@ class Words(StartCase):
         for more in "run", "x":
             self.no_job(usage(f"unexpected argument '{more}' found", "Usage: slotplan run [OPTIONS]", ""), "run", more)
 
-    @each(*REQUIRED)
+    @for_values(*REQUIRED)
     def test_too_few(self, name):
         wanted = REQUIRED[name].split()
         options = [] if name != "room" else ["--supplier <NAME>"]
@@ -127,7 +127,7 @@ class Words(StartCase):
             self.no_job(NOT_UTF8, *words)
 
 
-class Sizes(StartCase):
+class Sizes(InvocationCase):
     """A script has at most 16,777,216 bytes; a longer one is `TooLong`, and one that memory cannot hold `NoMemory`."""
 
     feeds = b"\n" * SCRIPT_BYTES
@@ -137,7 +137,7 @@ class Sizes(StartCase):
 
     def test_first_script(self):
         longest = FIRST + self.feeds[len(FIRST) :]
-        self.ends(Start("the first script, as long as a script may be", longest, FIRST_ANSWERS))
+        self.ends(Invocation("the first script, as long as a script may be", longest, FIRST_ANSWERS))
         self.ends(faulty("the first script, one byte longer", longest + b"\n", "TooLong"))
 
     def test_without_end(self):
@@ -147,7 +147,7 @@ class Sizes(StartCase):
         self.ends(faulty("a script that memory cannot hold", self.feeds, "NoMemory", line='ulimit -v 16384; exec "$@"'))
 
 
-class Streams(StartCase):
+class Streams(InvocationCase):
     """Input that cannot be read is `ReadFailed`; output that is closed, full or read by nobody is `WriteFailed`."""
 
     def test_input(self):
@@ -157,14 +157,14 @@ class Streams(StartCase):
     def test_no_reader(self):
         self.ends(faulty("standard output without a reader", FIRST, "WriteFailed", is_read=False))
 
-    @each("run", "--help")
+    @for_values("run", "--help")
     def test_output(self, word):
         for end, is_said in (">&-", True), ("> /dev/full", True), (">&- 2>&-", False), ("> /dev/full 2> /dev/full", False):
             said = b"slotplan: WriteFailed\n" if is_said else b""
-            self.ends(Start(f"{word} {end}", FIRST, said=said, status=1, words=(word,), line=f'exec "$@" {end}'))
+            self.ends(Invocation(f"{word} {end}", FIRST, said=said, status=1, words=(word,), line=f'exec "$@" {end}'))
 
     def test_standard_error(self):
-        self.ends(Start("usage 2> /dev/full", status=2, words=("jump",), line='exec "$@" 2> /dev/full'))
-        self.ends(Start("usage 2>&-", status=2, words=("jump",), line='exec "$@" 2>&-'))
-        self.ends(Start("usage >&-", said=unknown("jump"), status=2, words=("jump",), line='exec "$@" >&-'))
-        self.ends(Start("no separator 2> /dev/full", b"x\n", status=1, line='exec "$@" 2> /dev/full'))
+        self.ends(Invocation("usage 2> /dev/full", status=2, words=("jump",), line='exec "$@" 2> /dev/full'))
+        self.ends(Invocation("usage 2>&-", status=2, words=("jump",), line='exec "$@" 2>&-'))
+        self.ends(Invocation("usage >&-", said=unknown("jump"), status=2, words=("jump",), line='exec "$@" >&-'))
+        self.ends(Invocation("no separator 2> /dev/full", b"x\n", status=1, line='exec "$@" 2> /dev/full'))

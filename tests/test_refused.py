@@ -21,7 +21,8 @@ from tests.drivers.states import ALL, BOOKS, schema_in
 from tests.models import messages, naive, schema1
 from tests.models.messages import DONE, FIGURE_LINES, UNKNOWN, command, csv, engine, head, post, put, refused, text
 from tests.models.picture import compare
-from tests.runner.case import Case, for_each
+from tests.runner.case import Case
+from tests.runner.parameters import for_each
 
 UNAVAILABLE = refused(28, "Unavailable")
 NO_MEMORY, NOT_MADE, READ_FAILED = b"slotplan: NoMemory\n", b"slotplan: Unavailable\n", b"slotplan: ReadFailed\n"

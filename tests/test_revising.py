@@ -4,16 +4,16 @@ What is wanted was typed by hand from docs/FORMATS.md and docs/HTTP.md, or comes
 import re
 from itertools import product
 
+from tests.drivers.invocations import Invocation, InvocationCase, answered
 from tests.drivers.program import ran
 from tests.drivers.registers import RegisterCase
 from tests.drivers.server import sent
-from tests.drivers.starts import Start, StartCase, answered
 from tests.models import naive
-from tests.models.made import CLUSTER, answers, done, refused, refused_row, request, script, suppliers
 from tests.models.messages import CONTINUE, DONE, UNKNOWN, command, csv, engine, head, json, put, text
 from tests.models.messages import refused as refused_bytes
 from tests.models.random_scripts import random_script
-from tests.runner.each import each
+from tests.models.scripts import CLUSTER, answers, done, refused, refused_row, request, script, suppliers
+from tests.runner.parameters import for_values
 
 INTEGRATOR, KEY, OTHER = "integrator1", "supplier01", "supplier02"
 IN_V1 = dict(variant="v1")
@@ -70,7 +70,7 @@ def misformed():
         yield f'{KEY} {{"do":"room","variant":"v1","frame":"h","repetition":{form}}}'
 
 
-class Misformed(StartCase):
+class Misformed(InvocationCase):
     """Of a request each field of another kind is `BadText`, whoever asks, and so is a word that names none; nothing changes."""
 
     def test_fields(self):
@@ -86,7 +86,7 @@ class Misformed(StartCase):
         given = script(CLUSTER, [*PLANNED, *((line, None) for line in lines)])
         wanted = naive.answers(given)
         self.see("answers of naive.py that are refusals", 0, wanted.count(b"refused"))
-        self.ends(Start("whole requests", given, wanted))
+        self.ends(Invocation("whole requests", given, wanted))
 
 
 # ---- refusals, in their order
@@ -113,7 +113,7 @@ def combined():
         yield request(INTEGRATOR, "set_key", supplier="s3", key="supplier03")
 
 
-class Refusals(StartCase):
+class Refusals(InvocationCase):
     """Where several refusals apply the first is answered, as by another register, naive.py: of queries and changes, in open and released variants."""
 
     seconds = 20
@@ -128,7 +128,7 @@ class Refusals(StartCase):
         ]
         lines = [*(line for line, _ in PLANNED), *more, *combined()]
         given = script({**CLUSTER, "suppliers": suppliers(3)}, [(line, None) for line in lines])
-        self.ends(Start("refusals in their order", given, naive.answers(given)))
+        self.ends(Invocation("refusals in their order", given, naive.answers(given)))
 
     def test_one_channel(self):
         """In a cluster of one channel there are no lanes of the other, and no room on both."""
@@ -137,7 +137,7 @@ class Refusals(StartCase):
             lines += [request(who, "load", **IN_V1) for who in (KEY, OTHER, INTEGRATOR)]
             lines += [request(KEY, "room", **IN_V1, frame="h", repetition=repetition) for repetition in (1, 2, 4, 8)]
             given = script({**CLUSTER, "channels": f'"{channel}"'}, [(line, None) for line in lines])
-            self.ends(Start(f"loads and rooms of channel {channel}", given, naive.answers(given)))
+            self.ends(Invocation(f"loads and rooms of channel {channel}", given, naive.answers(given)))
 
     def test_room_is_where_place_is_done(self):
         """Each placement of a repetition is asked for, and taken back: it is done where the room has it, and nowhere else."""
@@ -162,7 +162,7 @@ class Refusals(StartCase):
 # ---- as if alone
 
 
-class Alone(StartCase):
+class Alone(InvocationCase):
     """Each supplier is answered as by a register of its own, naive.py, which gets its requests and the integrator's accepted ones that concern it."""
 
     def tried(self, supplier, given):
@@ -181,11 +181,11 @@ class Alone(StartCase):
         for (line, answer), right in zip(heard, naive.answers(alone).splitlines(), strict=True):
             self.see(f"{line[:120]!r}", right, answer)
 
-    @each("s0", "s1", "s2", "s3")
+    @for_values("s0", "s1", "s2", "s3")
     def test_revising(self, supplier):
         self.tried(supplier, random_script("revising", 1200, 4, 11))
 
-    @each("s0", "s1", "s2", "s3")
+    @for_values("s0", "s1", "s2", "s3")
     def test_comparing(self, supplier):
         self.tried(supplier, random_script("comparing", 1200, 4, 12))
 

@@ -1,35 +1,35 @@
 """Scripts that `run` answers, and the faults of those that it does not.
 
-What is wanted was typed by hand from docs/FORMATS.md, is made by its rules in tests/models/made.py, or comes from another register; none of it is the
+What is wanted was typed by hand from docs/FORMATS.md, is made by its rules in tests/models/scripts.py, or comes from another register; none of it is the
 program's own output."""
 from tests import TOP
-from tests.drivers.starts import Start, StartCase, answered, faulty
+from tests.drivers.invocations import Invocation, InvocationCase, answered, faulty
 from tests.models import naive
-from tests.models.made import (
+from tests.models.messages import FIRST, FIRST_ANSWERS
+from tests.models.random_scripts import random_script
+from tests.models.scripts import (
     CLUSTER, DONE, LARGE, answers, at_the_limits, cluster_file, imports_of_rows, imports_that_are_kept, refused, script, suppliers,
     suppliers_that_join, with_a_stranger,
 )
-from tests.models.messages import FIRST, FIRST_ANSWERS
-from tests.models.random_scripts import random_script
-from tests.runner.each import each
+from tests.runner.parameters import for_values
 
 OPEN = 'integrator1 {"do":"open_variant","variant":"v1"}'
 OPENED = [(OPEN, DONE)]
 
 
-class ByHand(StartCase):
+class ByHand(InvocationCase):
     """Scripts of examples/ and tests/rows/ are answered as was typed by hand; a stranger's lines between them change no answer."""
 
     def test_files(self):
         for file in sorted([*TOP.glob("tests/rows/*.script"), *TOP.glob("examples/*.script")]):
-            self.ends(Start(str(file.relative_to(TOP)), file.read_bytes(), file.with_suffix(".answers").read_bytes()))
+            self.ends(Invocation(str(file.relative_to(TOP)), file.read_bytes(), file.with_suffix(".answers").read_bytes()))
 
     def test_stranger(self):
         lines = FIRST.decode().partition("---\n")[2].splitlines()
         self.ends(answered("a stranger's lines", CLUSTER, with_a_stranger(list(zip(lines, FIRST_ANSWERS.decode().splitlines())))))
 
 
-class Limits(StartCase):
+class Limits(InvocationCase):
     """A supplier gets all that it may have, and one more of each is refused; nodes, grants, frames, placements, signals, variants, imports."""
 
     def test_plan(self):
@@ -43,14 +43,14 @@ class Limits(StartCase):
             self.ends(answered(imports.__name__, CLUSTER, imports()))
 
 
-class AnotherRegister(StartCase):
+class AnotherRegister(InvocationCase):
     """Mixtures of 2,000 requests are answered as by another register; it is that of naive.py, over the SQLite of python3."""
 
-    @each("plan", "refused", "queries", "place", "imports", "joining", "revising", "comparing", "all")
+    @for_values("plan", "refused", "queries", "place", "imports", "joining", "revising", "comparing", "all")
     def test_mixture(self, mix):
         for seed in 1, 2, 3:
             given = random_script(mix, 2000, seed=seed)
-            self.ends(Start(f"made with {seed}", given, naive.answers(given)))
+            self.ends(Invocation(f"made with {seed}", given, naive.answers(given)))
 
 
 # ---- cluster files
@@ -105,10 +105,10 @@ FAULTLESS = [
 ]
 
 
-class ClusterFiles(StartCase):
+class ClusterFiles(InvocationCase):
     """Each fault of a cluster file has its word, also before those that come later; a file without one is taken."""
 
-    @each(*FAULTS)
+    @for_values(*FAULTS)
     def test_fault(self, word):
         for changes in FAULTS[word]:
             self.ends(faulty(f"a cluster file with {changes}", script({**CLUSTER, **changes}, OPENED), word))
@@ -129,16 +129,16 @@ class ClusterFiles(StartCase):
         self.ends(faulty("a text of a cluster file that is not UTF-8", not_utf8, "BadToml"))
 
 
-class Separators(StartCase):
+class Separators(InvocationCase):
     """The line --- ends a cluster file, and nothing else does; nothing is written where nothing does."""
 
     cluster = cluster_file(CLUSTER).encode()
 
     def test_ends(self):
         for end in b"---", b"---\n", b"---\r\n", b"---\n\n\r\n\n":
-            self.ends(Start(f"the cluster file ends with {end}", self.cluster + end))
+            self.ends(Invocation(f"the cluster file ends with {end}", self.cluster + end))
         for end in b"---\n" + OPEN.encode(), b"# ---\n---\r\n" + OPEN.encode() + b"\r\n", b"---\n\n\n" + OPEN.encode() + b"\n\n":
-            self.ends(Start(f"the cluster file ends with {end}", self.cluster + end, answers(OPENED)))
+            self.ends(Invocation(f"the cluster file ends with {end}", self.cluster + end, answers(OPENED)))
 
     def test_no_end(self):
         for end in b"", OPEN.encode(), b"--- \n", b" ---\n", b"----\n", b"--\n-\n", b"---x\n", b"---\r", b"---\r\r\n", b"\xef\xbb\xbf---\n":
@@ -190,20 +190,20 @@ TEXTS = [
 ]
 
 
-class Requests(StartCase):
+class Requests(InvocationCase):
     """A request's line is a key, a space and JSON; one whose bytes are not is refused, by what it lacks first."""
 
     begun = cluster_file(CLUSTER).encode() + b"---\n"
 
     def test_spaces(self):
         long = OPEN.replace(":", " " * 5000 + ":\t")
-        self.ends(Start("a request of 10,000 spaces", self.begun + long.encode(), answers(OPENED)))
+        self.ends(Invocation("a request of 10,000 spaces", self.begun + long.encode(), answers(OPENED)))
 
     def test_lines(self):
         wanted = "".join(f"{refused(*answer)}\n" for answer in LINES.values()).encode()
         for end in b"\n", b"\r\n":
-            self.ends(Start(f"lines that end with {end}", self.begun + end.join(LINES) + end, wanted))
-        self.ends(Start("a last line of one carriage return", self.begun + b"\r", f"{refused(1, 'BadText')}\n".encode()))
+            self.ends(Invocation(f"lines that end with {end}", self.begun + end.join(LINES) + end, wanted))
+        self.ends(Invocation("a last line of one carriage return", self.begun + b"\r", f"{refused(1, 'BadText')}\n".encode()))
 
     def test_texts(self):
         self.ends(answered("texts and numbers of requests", CLUSTER, TEXTS))
@@ -211,4 +211,4 @@ class Requests(StartCase):
     def test_longest_gap(self):
         longest = script({**CLUSTER, "dynamic_macroticks": "15940", "macroticks_per_cycle": "16000"}, []) + FIRST.partition(b"---\n")[2]
         gap = b'supplier01 {"do":"gaps","variant":"v1"}\n'
-        self.ends(Start("the longest gap", longest + gap, FIRST_ANSWERS + b'{"lines":["GAP 1024000 f1"],"ok":"gaps"}\n'))
+        self.ends(Invocation("the longest gap", longest + gap, FIRST_ANSWERS + b'{"lines":["GAP 1024000 f1"],"ok":"gaps"}\n'))

@@ -24,7 +24,8 @@ from tests.drivers.states import (
 )
 from tests.models import schema1
 from tests.models.messages import DONE, command, head, json, refused, text
-from tests.runner.case import TURN, folder_in_memory, for_each
+from tests.runner.case import TURN, folder_in_memory
+from tests.runner.parameters import for_each
 
 ENDS, FAILS = ("end", "half"), ("EIO", "ENOSPC")
 WAYS = (*ENDS, *FAILS, "short")

@@ -2,7 +2,7 @@
 import shutil
 
 from tests import TOP
-from tests.drivers.following import THERE, follow
+from tests.drivers.followed_pages import THERE, follow
 from tests.models.pages import blocks_left_out
 from tests.runner.case import Case
 

@@ -5,16 +5,16 @@ program's own output, but where what it exports is given back to it."""
 import json
 from itertools import product
 
+from tests.drivers.invocations import Invocation, InvocationCase, difference
 from tests.drivers.program import ran
 from tests.drivers.registers import RegisterCase
 from tests.drivers.server import sent
-from tests.drivers.starts import Start, StartCase, difference
 from tests.models import messages, naive
-from tests.models.made import FRAMES, IMPORT_BYTES, IMPORT_ROWS, LARGE, answers, done, refused_row, request, script, suppliers
 from tests.models.messages import CONTINUE, DONE, UNKNOWN, command, csv, engine, head, put, text
 from tests.models.messages import refused as refused_bytes
 from tests.models.random_scripts import random_script
-from tests.runner.each import each
+from tests.models.scripts import FRAMES, IMPORT_BYTES, IMPORT_ROWS, LARGE, answers, done, refused_row, request, script, suppliers
+from tests.runner.parameters import for_values
 
 INTEGRATOR, KEY, OTHER = "integrator1", "supplier01", "supplier02"
 IN_V1 = dict(variant="v1")
@@ -67,16 +67,16 @@ def tried(body, variant="v1", who=KEY):
 # ---- beside another register
 
 
-class BesideAnotherRegister(StartCase):
+class BesideAnotherRegister(InvocationCase):
     """Files that are sent whole are answered as by another register, naive.py, and leave the same rows."""
 
     seconds = 20
 
     def asked(self, name, lines, **changes):
         given = script({**LARGE, "suppliers": suppliers(3), **changes}, [(line, None) for line in [*(line for line, _ in PLANNED), *lines]])
-        self.ends(Start(name, given, naive.answers(given)))
+        self.ends(Invocation(name, given, naive.answers(given)))
 
-    @each(*FILES)
+    @for_values(*FILES)
     def test_cut_at_each_byte(self, kind):
         """A file that is cut anywhere is another file, of which all is carried out or nothing, and that is what a try of it tells."""
         lines = []
@@ -85,7 +85,7 @@ class BesideAnotherRegister(StartCase):
             lines += [tried(body), whole(body), request(KEY, "rows", **IN_V1), *(whole(file_of(*it)) for it in THERE.items())]
         self.asked(f"a file of {kind}, cut", [*lines, request(INTEGRATOR, "rows", **IN_V1)])
 
-    @each(*HEADERS)
+    @for_values(*HEADERS)
     def test_headers(self, kind):
         """Below a header alone all of its kind goes; what is no header takes nothing away."""
         header, lines = HEADERS[kind], []
@@ -161,7 +161,7 @@ def fields_of(line):
     return json.loads(line.partition(b" ")[2])
 
 
-class WhatYouTake(StartCase):
+class WhatYouTake(InvocationCase):
     """What you take afterwards is what you sent: behind a file that was sent whole its kind's exports have its rows, and no others. Of other kinds there is
     what was there, but for frames that went, and for those that came; others' rows stay; and the same file again changes nothing."""
 
@@ -214,7 +214,7 @@ class WhatYouTake(StartCase):
             self.see(f"{other} behind {kinds[at]}", old[other], new[other])
         return True
 
-    @each(1, 2, 3)
+    @for_values(1, 2, 3)
     def test_mixture(self, seed):
         self.tried(seed)
 

@@ -15,12 +15,12 @@ from clients.wireshark.packing import packed
 from clients.wireshark.plan import Cell, Frame, Plan, read
 from tests import TOP
 from tests.drivers import tshark
-from tests.drivers.following import THERE, follow
+from tests.drivers.followed_pages import THERE, follow
 from tests.drivers.planned_registers import Register
 from tests.drivers.program import SECONDS, program, ran
 from tests.drivers.registers import RegisterCase
-from tests.models.made import CLUSTER, DONE, IMPORT_ROWS, LARGE, SIGNALS, cluster_file
 from tests.models.plans import examples
+from tests.models.scripts import CLUSTER, DONE, IMPORT_ROWS, LARGE, SIGNALS, cluster_file
 from tests.runner.case import Case
 
 PAGE = "clients/wireshark/README.md"

@@ -1,5 +1,5 @@
 """All wrong bodies: those that the gate tries (crates/NAME/must-fail) and those that it leaves out (crates/NAME/wrong-bodies).
-In a copy of the tree the prover has to refuse each: at once with others what tools/wrong.py can tell apart, and the rest alone, with what was proved
+In a copy of the tree the prover has to refuse each: at once with others what tools/wrong_bodies.py can tell apart, and the rest alone, with what was proved
 of the crate as it stands, or from nothing where that comes to no verdict. With names of crates, theirs alone."""
 import os
 import re
@@ -13,7 +13,7 @@ from pathlib import Path
 from tests import TOP
 from tests.runner.steps import PROCESSORS
 
-from .wrong import NotJudged, groups, read_edit, texts_with, told_alone, told_of
+from .wrong_bodies import NotJudged, groups, read_edit, texts_with, told_alone, told_of
 
 TRIED = re.compile(r"rt: must-fail \w+/(\S+\.edit): (.*)")
 REFUSED = "refused, as it must be"

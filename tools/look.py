@@ -15,9 +15,9 @@ from tests.drivers.browser import ESCAPE, LACKS, Browser
 from tests.drivers.planned_registers import SECONDS, Register
 from tests.drivers.server import HERE, started
 from tests.drivers.user import User
+from tests.models.demo_plan import BOSS, CAMERA, CLUSTER, REQUESTS
 from tests.models.picture import read
 from tests.models.plans import examples, limits
-from tests.models.years import BOSS, CAMERA, CLUSTER, REQUESTS
 
 from .png import packed
 

@@ -4,7 +4,7 @@ import time
 from contextlib import closing
 from itertools import product
 
-from tests.models import made
+from tests.models import scripts
 from tests.models.messages import command, engine, head, json, refused, text
 
 from .registers import RegisterCase
@@ -20,8 +20,8 @@ HONEST, SOON = 10, 4
 
 # A supplier with a frame in each static slot, in all cycles on both channels; names are as long as may be.
 SLOTS, IN_A_FRAME = 64, 8
-LONG = {**made.CLUSTER, "static_slots": str(SLOTS), "macroticks_per_cycle": str(10 * SLOTS + 60), "suppliers": '{%s = "supplier01"}' % ("s" * 32)}
-LONG_CLUSTER = made.cluster_file(LONG).encode()
+LONG = {**scripts.CLUSTER, "static_slots": str(SLOTS), "macroticks_per_cycle": str(10 * SLOTS + 60), "suppliers": '{%s = "supplier01"}' % ("s" * 32)}
+LONG_CLUSTER = scripts.cluster_file(LONG).encode()
 SUPPLIER, NODE = "s" * 32, "n" * 32
 
 

@@ -9,11 +9,11 @@ import sys
 from tests import TOP
 from tests.runner.case import Case
 
-from .answering import serving
 from .browser import LACKS, Browser
 from .planned_registers import Register
 from .program import SECONDS
 from .server import HERE, started
+from .stub_server import serving
 from .user import User
 
 sys.path.insert(0, str(TOP / "page"))

@@ -9,8 +9,8 @@ from pathlib import Path
 from typing import NamedTuple
 
 from tests.models import schema1
-from tests.models.made import CLUSTER as KEYS
 from tests.models.messages import CLUSTER, DONE, command, json, post, put, refused
+from tests.models.scripts import CLUSTER as KEYS
 from tests.runner.case import Case, folder_in_memory
 
 from .program import ran

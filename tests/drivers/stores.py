@@ -1,7 +1,7 @@
 """Tests of a program in Rattle over registers in files, out/programs/NAME, beside the SQLite of python3."""
 import subprocess
 
-from tests.models.made import CLUSTER, cluster_file
+from tests.models.scripts import CLUSTER, cluster_file
 from tests.runner.case import Case
 
 from .rattle import built

@@ -2,7 +2,7 @@
 
 The rows are those of docs/FORMATS.md, and what each variant shows is worked out by hand."""
 from .formats import overlay_query
-from .made import DEPTH
+from .scripts import DEPTH
 
 # Each of v2, v3 and v4 is laid over the one before, v6 over none, and v5 has its own rows alone.
 # v2 has another f2 and a new f5, and drops f3. v3 drops f1, f4 and f5, and adds f3 and f4 again. v4 differs in nothing.

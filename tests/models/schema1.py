@@ -4,7 +4,7 @@ Their statements stay here as they were, whatever the schema is by now."""
 import sqlite3
 from contextlib import closing
 
-from .made import CLUSTER, cluster_numbers, suppliers_of
+from .scripts import CLUSTER, cluster_numbers, suppliers_of
 
 STATEMENTS = """
 CREATE TABLE register (

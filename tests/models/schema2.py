@@ -4,7 +4,7 @@ import sqlite3
 from contextlib import closing
 
 from .formats import FORMATS
-from .made import CLUSTER, cluster_numbers, suppliers_of
+from .scripts import CLUSTER, cluster_numbers, suppliers_of
 
 
 def plain(statement):

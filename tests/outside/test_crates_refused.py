@@ -8,7 +8,7 @@ from tests import TOP
 from tests.drivers.preload import Refuser, can_compile
 from tests.drivers.program import NoProgram, with_more
 from tests.runner.case import Case
-from tests.runner.each import each
+from tests.runner.parameters import for_values
 
 CRATES = "fr_tests", "fr_tests_registers", "fr_tests_program"
 WORDS = (b"AllocError", b"NoMemory", b"Unavailable", b'error: "memory"', b'error: "no memory"', b"AllocFailed")
@@ -31,7 +31,7 @@ class CratesRefused(Case):
 
     is_apart = True
 
-    @each(*CRATES)
+    @for_values(*CRATES)
     def test_crate(self, crate):
         if not can_compile():
             self.skipTest("there is no C compiler cc")

@@ -3,7 +3,7 @@ from contextlib import closing
 
 from tests.drivers.stores import PageCase
 from tests.models.schema2 import connected, filled
-from tests.runner.each import each
+from tests.runner.parameters import for_values
 
 PLANNED = [
     "INSERT INTO nodes VALUES ('s1', 'n1'), ('s2', 'n2')",
@@ -165,7 +165,7 @@ class ForeignRows(PageCase):
                 self.answers(statements, path, question)
             self.see(f"{statements}: the file stays", True, content(path) == before)
 
-    @each(*COUNTS)
+    @for_values(*COUNTS)
     def test_cycles(self, count):
         path = changed(self.folder / "counted.db", f"UPDATE cluster2 SET cycles = {count}")
         for question in TOLD:

@@ -9,9 +9,9 @@ from contextlib import closing
 
 from tests.drivers.stores import SECONDS, StoreCase
 from tests.models import schema1, schema2
-from tests.models.made import CLUSTER, LARGE, cluster_file, suppliers, suppliers_of
 from tests.models.schema2 import connected, filled, made_by, of_cluster
-from tests.runner.each import each
+from tests.models.scripts import CLUSTER, LARGE, cluster_file, suppliers, suppliers_of
+from tests.runner.parameters import for_values
 
 # The rows that this puts into a register, each table's after those that they refer to.
 PLANNED = {
@@ -116,15 +116,15 @@ class MadeHere(StoreFileCase):
         self.says("opened again", printed(cluster), "open", path, end=end)
         return path
 
-    @each(*CLUSTERS)
+    @for_values(*CLUSTERS)
     def test_closed(self, kind):
         self.is_made(kind, "close")
 
-    @each(*CLUSTERS)
+    @for_values(*CLUSTERS)
     def test_left(self, kind):
         self.is_made(kind, "leave")
 
-    @each("close", "leave")
+    @for_values("close", "leave")
     def test_planned(self, end):
         self.planned_by_sqlite(self.is_made("two_suppliers", end))
 

@@ -9,8 +9,8 @@ from itertools import zip_longest
 from tests.drivers.stores import PageCase
 from tests.models.formats import overlay_query
 from tests.models.levels import LEVELS, SHOWN, chain
-from tests.models.made import DEPTH, FRAMES, LARGE, NODES, PLACEMENTS, SIGNALS, SLOTS, VARIANTS, cluster_file, suppliers
 from tests.models.schema2 import connected, filled, of_cluster, tables
+from tests.models.scripts import DEPTH, FRAMES, LARGE, NODES, PLACEMENTS, SIGNALS, SLOTS, VARIANTS, cluster_file, suppliers
 
 CLUSTER = {**LARGE, "cycles": "48", "suppliers": suppliers(64)}
 # The bytes of an import are not read where it is kept.

@@ -9,7 +9,7 @@ from pathlib import Path
 from tests.drivers.preload import Refuser, calls_from, can_compile
 from tests.drivers.program import with_more
 from tests.drivers.stores import SECONDS, StoreCase
-from tests.runner.each import each
+from tests.runner.parameters import for_values
 
 PARTS = 4
 
@@ -111,7 +111,7 @@ class StoreRefused(StoreCase):
             return wrong or "it did not come to its end"
         return self.left_wrong(path, done, any(call == "create: done" for call, _ in calls)) if status else None
 
-    @each(*range(PARTS))
+    @for_values(*range(PARTS))
     def test_part(self, part):
         """Every fourth allocation, from another one on in each part, until a run comes to none."""
         for call in calls_from(part, PARTS * self.each):

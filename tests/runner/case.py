@@ -1,6 +1,5 @@
 """What each test is: it has a folder of its own, and its checks are counted."""
 import os
-import re
 import tempfile
 import unittest
 from pathlib import Path
@@ -58,20 +57,3 @@ class Case(unittest.TestCase):
             if wanted != got:
                 with self.subTest(what):
                     self.fail(f"wanted {wanted!r:.300}, got {got!r:.300}")
-
-
-def for_each(cases):
-    """Gives a class a test of each case, which its method `tried` is given. A case begins with the test's name, of which `tried` gets the rest."""
-
-    def with_tests(kind):
-        for name, *case in cases:
-            test = "test_" + re.sub(r"\W+", "_", name)
-            assert not hasattr(kind, test), test
-            setattr(kind, test, test_of(case))
-        return kind
-
-    return with_tests
-
-
-def test_of(case):
-    return lambda self: self.tried(*case)

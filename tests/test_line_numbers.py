@@ -3,9 +3,9 @@
 What is wanted was typed by hand from docs/FORMATS.md; none of it is the program's own output."""
 import subprocess
 
+from tests.drivers.invocations import Invocation, InvocationCase, faulty
 from tests.drivers.program import SECONDS, program, ran
 from tests.drivers.registers import RegisterCase
-from tests.drivers.starts import Start, StartCase, faulty
 from tests.models.messages import CLUSTER, DONE, FIRST, FIRST_ANSWERS, REQUESTS
 
 LINE_BYTES = 1_048_576
@@ -95,14 +95,14 @@ class Asked(RegisterCase):
         self.see("lines with faults", (1, [5, 6, 9, 10]), (status, sorted({int(line.split()[1].rstrip(b":")) for line in said.splitlines()})))
 
 
-class Run(StartCase):
+class Run(InvocationCase):
     """Each answer of `run --lines` begins with the number of its line in the script."""
 
     # The lines above the first request: those of the cluster file, and the separator.
     above = CLUSTER.count(b"\n") + 1
 
     def ends_numbered(self, name, given, answers, above):
-        self.ends(Start(name, given, numbered(answers, above), words=("run", "--lines")), Start(f"{name}, without numbers", given, plain(answers)))
+        self.ends(Invocation(name, given, numbered(answers, above), words=("run", "--lines")), Invocation(f"{name}, without numbers", given, plain(answers)))
 
     def test_first_script(self):
         self.see("the lines above", 14, self.above)
@@ -117,5 +117,5 @@ class Run(StartCase):
         self.ends_numbered("a cluster file of other ends", cluster + b"---\r\n" + LINES, ANSWERS, self.above + 3)
 
     def test_no_request(self):
-        self.ends(Start("no line behind the separator", CLUSTER + b"---", words=("run", "--lines")))
+        self.ends(Invocation("no line behind the separator", CLUSTER + b"---", words=("run", "--lines")))
         self.ends(faulty("no separator", CLUSTER + REQUESTS, "NoSeparator", words=("run", "--lines")))

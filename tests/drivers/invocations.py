@@ -4,16 +4,16 @@ import subprocess
 from itertools import zip_longest
 from typing import NamedTuple, Sequence
 
-from tests.models.made import answers, script
+from tests.models.scripts import answers, script
 from tests.runner.case import Case
 
 from .program import program
 
-# How many seconds a start may take.
+# How many seconds one may take.
 SECONDS = 120
 
 
-class Start(NamedTuple):
+class Invocation(NamedTuple):
     """How the program is started, and what is then wanted of it."""
 
     name: str
@@ -27,21 +27,21 @@ class Start(NamedTuple):
 
 
 def faulty(name, given, word, **more):
-    return Start(name, given, said=f"slotplan: {word}\n".encode(), status=1, **more)
+    return Invocation(name, given, said=f"slotplan: {word}\n".encode(), status=1, **more)
 
 
 def answered(name, cluster, pairs):
     """A script over this cluster of pairs of a request and its answer."""
     pairs = list(pairs)
-    return Start(name, script(cluster, pairs), answers(pairs))
+    return Invocation(name, script(cluster, pairs), answers(pairs))
 
 
-class StartCase(Case):
-    """A test of how the program ends: status, what it writes and what it says are compared with what is wanted. Each start is one check."""
+class InvocationCase(Case):
+    """A test of how the program ends: status, what it writes and what it says are compared with what is wanted. Each invocation is one check."""
 
-    def ends(self, *starts):
-        for start in starts:
-            self.see(start.name, [], differences(start, self.folder))
+    def ends(self, *invocations):
+        for it in invocations:
+            self.see(it.name, [], differences(it, self.folder))
 
 
 def unread_pipe():
@@ -50,11 +50,11 @@ def unread_pipe():
     return os.fdopen(writer, "wb", buffering=0)
 
 
-def ended(start, folder):
+def ended(it, folder):
     """The status, and what was written and said."""
-    output = subprocess.PIPE if start.is_read else unread_pipe()
-    line = ["sh", "-c", start.line, "sh", program(), *start.words]
-    got = subprocess.run(line, cwd=folder, input=start.given, stdout=output, stderr=subprocess.PIPE, timeout=SECONDS)
+    output = subprocess.PIPE if it.is_read else unread_pipe()
+    line = ["sh", "-c", it.line, "sh", program(), *it.words]
+    got = subprocess.run(line, cwd=folder, input=it.given, stdout=output, stderr=subprocess.PIPE, timeout=SECONDS)
     return got.returncode, got.stdout or b"", got.stderr
 
 
@@ -67,10 +67,10 @@ def difference(what, wanted, got):
     return [f"{what}, line {at}: wanted {str(line)[:200]}, got {str(other)[:200]}"]
 
 
-def differences(start, folder):
+def differences(it, folder):
     try:
-        status, written, said = ended(start, folder)
+        status, written, said = ended(it, folder)
     except (OSError, subprocess.TimeoutExpired) as error:
         return [str(error)[:200]]
-    wrong = [] if status == start.status else [f"status: wanted {start.status}, got {status}"]
-    return [*wrong, *difference("standard output", start.written, written), *difference("standard error", start.said, said)]
+    wrong = [] if status == it.status else [f"status: wanted {it.status}, got {status}"]
+    return [*wrong, *difference("standard output", it.written, written), *difference("standard error", it.said, said)]

@@ -10,11 +10,11 @@ from itertools import pairwise, product
 from tests.drivers.preload import Library
 from tests.drivers.program import SECONDS, program, with_more
 from tests.drivers.registers import RegisterCase
-from tests.models import made
+from tests.models import scripts
 
-SUPPLIERS = [f"s{number}" for number in range(1, made.SUPPLIERS + 1)]
+SUPPLIERS = [f"s{number}" for number in range(1, scripts.SUPPLIERS + 1)]
 # Each supplier has so many slots, in which each of its frames has a cell.
-SLOTS = made.SLOTS // made.SUPPLIERS
+SLOTS = scripts.SLOTS // scripts.SUPPLIERS
 # The report that measures what one reading takes, and how often each may read the rows of its variants, with its fields but for these.
 MEASURE = "gaps"
 REPORTS = [
@@ -54,7 +54,7 @@ def cell(supplier, frame):
 class Loads(RegisterCase):
     """A report of all suppliers reads each one's rows once for each of its variants."""
 
-    cluster = made.cluster_file({**made.LARGE, "suppliers": made.suppliers(made.SUPPLIERS)}).encode()
+    cluster = scripts.cluster_file({**scripts.LARGE, "suppliers": scripts.suppliers(scripts.SUPPLIERS)}).encode()
 
     def setUp(self):
         """v1 has as many frames as there may be, each with a placement. The other variants, one for each reading, have its frames and grants."""
@@ -62,7 +62,7 @@ class Loads(RegisterCase):
         self.create()
         self.counter = Counter(self.folder)
         self.variants = [f"v{number}" for number in range(2, len(REPORTS) + 5)]
-        cells = [(name, f"f{frame:03}", *cell(at, frame)) for (at, name), frame in product(enumerate(SUPPLIERS), range(made.FRAMES))]
+        cells = [(name, f"f{frame:03}", *cell(at, frame)) for (at, name), frame in product(enumerate(SUPPLIERS), range(scripts.FRAMES))]
         grants = sorted({(slot, name) for name, _, slot, _ in cells})
         with closing(sqlite3.connect(self.folder / "car.db")) as file, file:
             file.execute("INSERT INTO variants VALUES ('v1', NULL, 1, 1, 0)")
@@ -77,7 +77,7 @@ class Loads(RegisterCase):
         measured, new, old, *others = self.variants
         asked = [(do, readings, {"variant": variant, **fields}) for variant, (do, readings, fields) in zip(others, REPORTS, strict=True)]
         asked.append(("diff", 2, {"variant": new, "from": old}))
-        requests = [made.request("integrator1", do, **fields) for do, _, fields in [(MEASURE, 1, {"variant": measured}), *asked]]
+        requests = [scripts.request("integrator1", do, **fields) for do, _, fields in [(MEASURE, 1, {"variant": measured}), *asked]]
         one, *taken = self.allocated(requests)
         for (do, readings, _), count in zip(asked, taken, strict=True):
             self.see(f"the readings of {do}", True, readings - BESIDE < count / one < readings + BESIDE or count / one)

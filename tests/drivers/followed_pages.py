@@ -1,4 +1,4 @@
-"""Follows a page for people, as its reader does: python3 -m tests.drivers.following PAGE writes the page with what its commands print now
+"""Follows a page for people, as its reader does: python3 -m tests.drivers.followed_pages PAGE writes the page with what its commands print now
 
 A block behind the words "Save this as `NAME`:" is saved under that name. In a block of the console each line that begins with
 '$ ' is a command, and the lines behind it are what it prints. All commands of a page run in one shell, in a folder that begins

@@ -1,4 +1,4 @@
-"""What users of the built program stumbled over, each as it was seen.
+"""Mishaps of users of the built program, each as it was seen: a file that is put away, a full disk, closed streams, lines that are too long, ..
 
 What is wanted was typed by hand from docs/FORMATS.md, docs/OPERATE.md and docs/HTTP.md; none of it is the program's own output."""
 import os
@@ -49,7 +49,7 @@ def idle(process):
         time.sleep(0.02)
 
 
-class StumbleCase(RegisterCase):
+class MishapCase(RegisterCase):
     """A test with registers that were begun, and with a process that is asked step by step."""
 
     def begun(self, db="car.db"):
@@ -84,7 +84,7 @@ class StumbleCase(RegisterCase):
         self.tell(["variants", db], written)
 
 
-class CannotGoOn(StumbleCase):
+class CannotGoOn(MishapCase):
     """A program whose register a fault has shut says so and ends."""
 
     def setUp(self):
@@ -159,7 +159,7 @@ class CannotGoOn(StumbleCase):
         self.left(["v1", "v2"])
 
 
-class Watched(StumbleCase):
+class Watched(MishapCase):
     """A program sees that its register's file is put away, or is no longer where its path leads."""
 
     def put(self, here, there):
@@ -225,7 +225,7 @@ class Watched(StumbleCase):
             self.ends_with(server, 0, b"")
 
 
-class LongLines(StumbleCase):
+class LongLines(MishapCase):
     """A line of `ask` has at most 1,048,576 bytes, and takes no more memory than FORMATS says."""
 
     def setUp(self):
@@ -244,7 +244,7 @@ class LongLines(StumbleCase):
             self.ends_line('ulimit -v 524288; exec "$1" ask car.db', wanted, b"integrator1 [" + b'{"a":0},' * count + b"0]\n")
 
 
-class Keys(StumbleCase):
+class Keys(MishapCase):
     """A register's keys are read by its owner alone, and an import may take its key from standard input."""
 
     def mode(self, name):
@@ -296,7 +296,7 @@ class Keys(StumbleCase):
         self.ends_line('exec "$1" import car.db - v1 a rows.csv < /', (1, b"", b"slotplan: ReadFailed\n"))
 
 
-class Accepted(StumbleCase):
+class Accepted(MishapCase):
     """A connection that is gone before it is accepted is passed over, and where there is room for no more the server waits; else it ends."""
 
     def setUp(self):
@@ -317,7 +317,7 @@ class Accepted(StumbleCase):
             self.ends_with(server, 1, b"slotplan: CannotListen\n")
 
 
-class Streams(StumbleCase):
+class Streams(MishapCase):
     """Standard streams that were closed stay so, and no client gets what is meant for them; a file that may not grow is `Unavailable`."""
 
     def setUp(self):
@@ -368,7 +368,7 @@ class Streams(StumbleCase):
         self.ends_line("""trap '' XFSZ; ulimit -f 1; exec "$1" create new.db cluster.toml""", (1, b"", SHUT))
 
 
-class Words(StumbleCase):
+class Words(MishapCase):
     """A supplier that is not there is `NoSupplier` for each report, and a refusal's number is explained as its name."""
 
     def test_supplier_that_is_not_there(self):
@@ -389,7 +389,7 @@ class Words(StumbleCase):
             self.see(f"the status of explain {word}", 1, self.shell(f'exec "$1" explain {word}')[0])
 
 
-class Hindrances(StumbleCase):
+class Hindrances(MishapCase):
     """`check --register` tells what stands in the way of using a register, each case as it is made, and changes nothing."""
 
     def setUp(self):

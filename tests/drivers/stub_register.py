@@ -3,8 +3,8 @@ import urllib.request
 
 from tests.models.messages import CLUSTER as SMALL
 
-from .answering import Answering, serving
 from .planner import PlannerCase
+from .stub_server import Answering, serving
 
 CLUSTER = """\
 channels AB
@@ -44,7 +44,7 @@ END = """return !document.body.hasAttribute('aria-busy') && Boolean(document.que
     || document.getElementById('login-fault').textContent || document.getElementById('message').textContent);"""
 
 
-class Stranger(Answering):
+class StubRegister(Answering):
     """A server that has the page, and answers of its own, by the last word of a path; one that is None ends the connection."""
 
     def answer(self):
@@ -60,7 +60,7 @@ class Stranger(Answering):
         return self.reply(status, [("content-type", kind)], body.encode())
 
 
-class StrangerCase(PlannerCase):
+class StubCase(PlannerCase):
     """The page before such a server, as the program has it."""
 
     page = None
@@ -73,7 +73,7 @@ class StrangerCase(PlannerCase):
                 fields = [(name, value) for name, value in reply.getheaders() if name not in ("content-length", "connection")]
                 type(self).page = fields, reply.read()
         self.answers = {}
-        self.url = f"http://127.0.0.1:{self.enterContext(serving(Stranger, answers=self.answers, page=self.page))}/"
+        self.url = f"http://127.0.0.1:{self.enterContext(serving(StubRegister, answers=self.answers, page=self.page))}/"
 
     def answer(self, **changed):
         """A key is shown to a server that answers so."""
