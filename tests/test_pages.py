@@ -120,6 +120,10 @@ class Heads(Case):
         silent = [call.name for call in calls(crate) if not call.text or not call.clauses]
         self.see("calls that say nothing of themselves", [], silent)
 
+    def test_calls_of_lib(self):
+        """lib.rt of fr_page has its calls itself."""
+        self.see("calls of fr_page", ["planner_page", "policy"], [call.name for call in calls("fr_page")])
+
     @for_values(*FOLDERS)
     def test_modules(self, folder):
         silent = [str(path) for path, module in modules(folder) for it in [module, *filter(is_class_of_tests, module.body)] if not said_by(it)]

@@ -1,8 +1,8 @@
 """What the public calls of crates promise: python3 -m tools.calls CRATE.. prints each call that a user of the crate can name, with its text, and its
 clauses as they stand in the source. `make calls CRATES='fr_base ..'` runs it.
 
-A call is one that lib.rt exports, or a public module that it names; a method of a type, or of a trait, that is exported so. Its clauses are those that a
-caller may cite: `requires`, under which it may be called, and `ensures`, each with its name. A method of a trait has those of the trait."""
+A call is one that lib.rt has or exports, or a public module that it names; a method of a type, or of a trait, that is exported so. Its clauses are
+those that a caller may cite: `requires`, under which it may be called, and `ensures`, each with its name. A method of a trait has those of the trait."""
 import re
 import signal
 import sys
@@ -16,6 +16,7 @@ ITEM = re.compile(r"^(?P<indent> *)(?P<public>pub )?(?:const )?fn (?P<name>\w+)"
 BLOCK = re.compile(r"^(?:pub )?(?P<kind>impl|trait)\b(?P<rest>[^{]*)\{", re.M)
 USE = re.compile(r"^pub use ([\w:]+?)::(?:(\w+)|\{([^}]*)\});", re.M)
 END = re.compile(r"\s*(?:(?=requires |ensures )|\{|;)")
+OWN = re.compile(r"^pub (?:const )?(?:fn|struct|enum|trait) (\w+)", re.M)
 MODULE = re.compile(r"^pub mod (\w+);", re.M)
 CLAUSE = re.compile(r"\s*(requires|ensures)(?: (\w+))? \{")
 QUOTED = re.compile(r"//[^\n]*|\"(?:\\.|[^\"\\])*\"|'(?:\\[^\n]+?|[^\\\n])'")
@@ -33,11 +34,11 @@ class Call(NamedTuple):
 
 
 def exported(source):
-    """What lib.rt exports by name, and its public modules, by the files that have them."""
+    """What lib.rt has or exports by name, and its public modules, by the files that have them."""
     lib = source / "lib.rt"
     text = lib.read_text() if lib.exists() else ""
     names = {name.strip() for _, one, many in USE.findall(text) for name in (one or many).split(",") if name.strip()}
-    return names, set(MODULE.findall(text))
+    return names | set(OWN.findall(text)), set(MODULE.findall(text))
 
 
 def masked(text):
