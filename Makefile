@@ -65,9 +65,9 @@ demo-unproved: $(unproved)
 	@python3 -m examples.demo $(unproved) $(PORT)
 
 # The files below src/ are all that is compiled without proof.
-$(unproved): tests/unproved.py $(shell find crates -name out -prune -o -name '*.rt' -print) crates.txt | toolchain
+$(unproved): tools/unproved.py $(shell find crates -name out -prune -o -name '*.rt' -print) crates.txt | toolchain
 	@echo "make: compiling without proof: three to six minutes" >&2
-	@python3 tests/unproved.py $@
+	@python3 tools/unproved.py $@
 
 test: toolchain
 	@python3 -m tools.quick

@@ -12,7 +12,7 @@ CRATES = "fr_tests_registers", "fr_tests_program", "fr_tests"
 # What needs no program. The program comes first; the rest of the tests stands behind it.
 COMPILED = [
     Step("the program, compiled", ["make", "--no-print-directory", "-s", PROGRAM], compiles=True, count=by_status),
-    *(Step(f"the tests of {crate}", [sys.executable, "tests/unproved.py", "--test", crate], compiles=True, count=by_tests) for crate in CRATES),
+    *(Step(f"the tests of {crate}", [sys.executable, "tools/unproved.py", "--test", crate], compiles=True, count=by_tests) for crate in CRATES),
 ]
 
 
