@@ -8,7 +8,7 @@ use Rattle.fr_base.specs.Tables.{get}
 use Rattle.fr_base.specs.Names.{is_name, is_key, same_text}
 use Rattle.fr_base.specs.Channels.{has_channel, channel_of_text}
 use Rattle.fr_base.specs.Changes.{in_rows}
-use Rattle.fr_base.specs.Checks.{is_integrator, asking, key, name, slot, channel, placement, signal, beginning, query, check}
+use Rattle.fr_base.specs.Checks.{is_integrator, asking, key, name, slot, channel, placement, purpose, signal, beginning, query, check}
 use Rattle.fr_base.specs.Book.{Variant, Book}
 use Rattle.fr_base.specs.Alone.{concerns, is_another, holder_at}
 use Rattle.fr_base.specs.declared.channel.Channel.{Channel}
@@ -50,12 +50,10 @@ pub record SaysAlike (actor : Actor) (request : Request) (command : Command) : T
   pub against : (s : Name) (b : Book) → against s b command ≡ refused_beside s b actor request
   pub frames : of_frame command ≡ true → is_integrator actor ≡ false
 
--- an import, a replacement or a trial is of the supplier that asks; and no query of the integrator's concerns a supplier
+-- a file is delivered by the supplier that asks; and no query of the integrator's concerns a supplier
 abbrev pub Says : Actor → Request → Checked → Type 0
 Says actor request (checked.Command command) = SaysAlike actor request command
-Says actor request (checked.Import i) = actor ≡ Supplier i.supplier
-Says actor request (checked.Replace r) = actor ≡ Supplier r.supplier
-Says actor request (checked.Try t) = actor ≡ Supplier t.supplier
+Says actor request (checked.Deliver d) = actor ≡ Supplier d.supplier
 Says actor request (checked.Query query) = is_integrator actor ≡ true → (s : Name) → concerns s request ≡ false
 
 by_integrator : (actor : Actor) (request : Request) (command : Command) → is_integrator actor ≡ true →
@@ -164,16 +162,10 @@ check-says p actor (request.DropSignal variant frame named) =
     gives_each _ (name variant) _ (λ v _.
     gives_each _ (name frame) _ (λ f _.
     gives_each _ (name named) _ (λ n _. by_supplier actor _ t v f _ is))))
-check-says p actor (request.Import variant label body) =
+check-says p actor (request.Deliver variant how body) =
     gives_bind _ _ (asking actor) _ (asking-is actor) (λ t is.
     gives_each _ (name variant) _ (λ v _.
-    gives_each _ (name label) _ (λ l _. is)))
-check-says p actor (request.Replace variant whole body) =
-    gives_bind _ _ (asking actor) _ (asking-is actor) (λ t is.
-    gives_each _ (name variant) _ (λ v _. is))
-check-says p actor (request.Try variant how body) =
-    gives_bind _ _ (asking actor) _ (asking-is actor) (λ t is.
-    gives_each _ (name variant) _ (λ v _. is))
+    gives_each _ (purpose how) _ (λ h _. is)))
 check-says p actor (request.Query asked) =
     gives_when _ _ _ _ (λ _.
     gives_each _ (query asked) _ (λ q _.

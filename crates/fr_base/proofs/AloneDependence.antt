@@ -7,7 +7,7 @@ use Rattle.fr_base.specs.Tables.{get}
 use Rattle.fr_base.specs.Cluster.{Cluster}
 use Rattle.fr_base.specs.Book.{Book}
 use Rattle.fr_base.specs.Queries.{reply}
-use Rattle.fr_base.specs.Step.{Outcome, knows, common, add_supplier, set_key, add_node, change_rows, done, perform, import, replace, try, act, outcome, step}
+use Rattle.fr_base.specs.Step.{Outcome, knows, common, add_supplier, set_key, add_node, change_rows, done, perform, import, replace, try, act, deliver, outcome, step}
 use Rattle.fr_base.specs.Sound.{IsSound}
 use Rattle.fr_base.specs.Alone.{rows_of, concerns, is_another, holder_at, another_has, is_full, beside}
 use Rattle.fr_base.specs.declared.name.Name.{Name}
@@ -22,11 +22,12 @@ use Rattle.fr_base.specs.declared.request.Request.TheVariants as request
 use Rattle.fr_base.specs.declared.query.Query.{Query}
 use Rattle.fr_base.specs.declared.request.Command.{Command}
 use Rattle.fr_base.specs.declared.request.Command.TheVariants.{Common, AddSupplier, SetKey, AddNode, Rows}
-use Rattle.fr_base.specs.declared.request.Import.{Import}
-use Rattle.fr_base.specs.declared.request.Replacement.{Replacement}
-use Rattle.fr_base.specs.declared.request.Trial.{Trial}
+use Rattle.fr_base.specs.declared.delivery.Delivery.{Delivery}
 use Rattle.fr_base.specs.declared.request.Checked.{Checked}
 use Rattle.fr_base.specs.declared.request.Checked.TheVariants as checked
+use Rattle.fr_base.specs.declared.delivery.Purpose.{Purpose}
+use Rattle.fr_base.specs.declared.delivery.Purpose.TheVariants as purpose
+use Rattle.fr_base.specs.declared.delivery.Manner.{Manner}
 use Rattle.fr_base.proofs.SoundRows.{same_text-is}
 use Rattle.fr_base.proofs.SoundRefusing.{gives_each, gives_unless}
 use Rattle.fr_base.proofs.AloneRefusing.{map_ok, alike_when, alike_bind}
@@ -69,20 +70,26 @@ module _ (c : Cluster) (b : Book) (s : Name) where
       shown-own (reply c.params b (Supplier s) query)
       ∙ ap (λ r. (r >>= (λ rows. Ok (record { book = rows_of s b; answer = rows }))) >>= unless (Ok tt)) (reply-own c.params s b query)
 
-  import-alone : (i : Import) → s ≡ i.supplier → IsSound c b → Beside (Ok tt) (import c.params b i (get b.imports (i.supplier, i.label))) (import c.params (rows_of s b) i (get (rows_of s b).imports (i.supplier, i.label)))
-  import-alone i is sound =
-      subst (λ u. map_ok (seen u) (import c.params b i (get b.imports (i.supplier, i.label))) ≡ (import c.params (rows_of u b) i (get (rows_of u b).imports (i.supplier, i.label)) >>= unless (Ok tt))) (sym is)
-      (import-own i c b sound (get b.imports (i.supplier, i.label))
-      ∙ ap (import c.params (rows_of i.supplier b) i) (sym (rows_of-import i.supplier b i.label))
+  import-alone : (i : Delivery) (label : Name) → s ≡ i.supplier → IsSound c b → Beside (Ok tt) (import c.params b i label (get b.imports (i.supplier, label))) (import c.params (rows_of s b) i label (get (rows_of s b).imports (i.supplier, label)))
+  import-alone i label is sound =
+      subst (λ u. map_ok (seen u) (import c.params b i label (get b.imports (i.supplier, label))) ≡ (import c.params (rows_of u b) i label (get (rows_of u b).imports (i.supplier, label)) >>= unless (Ok tt))) (sym is)
+      (import-own i label c b sound (get b.imports (i.supplier, label))
+      ∙ ap (import c.params (rows_of i.supplier b) i label) (sym (rows_of-import i.supplier b label))
       ∙ sym (unless_none _))
 
-  replace-alone : (r : Replacement) → s ≡ r.supplier → IsSound c b → Beside (Ok tt) (replace c.params b r) (replace c.params (rows_of s b) r)
-  replace-alone r is sound =
-      subst (λ u. map_ok (seen u) (replace c.params b r) ≡ (replace c.params (rows_of u b) r >>= unless (Ok tt))) (sym is) (replace-own r c b sound ∙ sym (unless_none _))
+  replace-alone : (r : Delivery) (whole : Bool) → s ≡ r.supplier → IsSound c b → Beside (Ok tt) (replace c.params b r whole) (replace c.params (rows_of s b) r whole)
+  replace-alone r whole is sound =
+      subst (λ u. map_ok (seen u) (replace c.params b r whole) ≡ (replace c.params (rows_of u b) r whole >>= unless (Ok tt))) (sym is) (replace-own r whole c b sound ∙ sym (unless_none _))
 
-  try-alone : (t : Trial) → s ≡ t.supplier → IsSound c b → Beside (Ok tt) (try c.params b t) (try c.params (rows_of s b) t)
-  try-alone t is sound =
-      subst (λ u. map_ok (seen u) (try c.params b t) ≡ (try c.params (rows_of u b) t >>= unless (Ok tt))) (sym is) (try-own t c b sound ∙ sym (unless_none _))
+  try-alone : (t : Delivery) (how : Manner) → s ≡ t.supplier → IsSound c b → Beside (Ok tt) (try c.params b t how) (try c.params (rows_of s b) t how)
+  try-alone t how is sound =
+      subst (λ u. map_ok (seen u) (try c.params b t how) ≡ (try c.params (rows_of u b) t how >>= unless (Ok tt))) (sym is) (try-own t how c b sound ∙ sym (unless_none _))
+
+  deliver-alone : (d : Delivery) (how : Purpose Name) → s ≡ d.supplier → IsSound c b → Beside (Ok tt) (deliver c.params b d how) (deliver c.params (rows_of s b) d how)
+  unfolding deliver
+  deliver-alone d (purpose.Import label) = import-alone d label
+  deliver-alone d (purpose.Replacement whole) = replace-alone d whole
+  deliver-alone d (purpose.Trial how) = try-alone d how
 
   act-own : (actor : Actor) (request : Request) → (is_integrator actor ≡ false → IsSound c b) → asked_of s actor request ≡ true → (what : Checked) → Says actor request what →
       Beside (refused_beside s b actor request) (act c b actor what) (act c (rows_of s b) actor what)
@@ -90,13 +97,8 @@ module _ (c : Cluster) (b : Book) (s : Name) where
   act-own actor request sound asked (checked.Command command) says =
       perform-own c b s command (λ frame. sound (says.frames frame)) (says.names s ∙ asked)
       ∙ ap (λ t. perform c (rows_of s b) command >>= unless t) (says.against s b)
-  act-own Integrator request sound asked (checked.Import i) says = cc
-  act-own (Supplier t) request sound asked (checked.Import i) says =
-      import-alone i (sym (same_text-is t s asked) ∙ supplier-is says) (sound refl)
-  act-own Integrator request sound asked (checked.Replace r) says = cc
-  act-own (Supplier t) request sound asked (checked.Replace r) says = replace-alone r (sym (same_text-is t s asked) ∙ supplier-is says) (sound refl)
-  act-own Integrator request sound asked (checked.Try t) says = cc
-  act-own (Supplier u) request sound asked (checked.Try t) says = try-alone t (sym (same_text-is u s asked) ∙ supplier-is says) (sound refl)
+  act-own Integrator request sound asked (checked.Deliver d) says = cc
+  act-own (Supplier t) request sound asked (checked.Deliver d) says = deliver-alone d d.how (sym (same_text-is t s asked) ∙ supplier-is says) (sound refl)
   act-own Integrator request sound asked (checked.Query query) says = let none = says refl s in cc
   act-own (Supplier t) request sound asked (checked.Query query) says =
       subst (λ u. Beside (Ok tt) (act c b (Supplier u) (checked.Query query)) (act c (rows_of s b) (Supplier u) (checked.Query query))) (sym (same_text-is t s asked)) (query-own query)
@@ -129,9 +131,7 @@ module _ (c : Cluster) (b : Book) (s : Name) where
   act-answer : (request : Request) → concerns s request ≡ true → (d : Book) (what : Checked) → Says Integrator request what → IfOk (act c d Integrator what) (λ o. o.answer ≡ answer.Done)
   unfolding act
   act-answer request asked d (checked.Command command) says = perform-done c d command
-  act-answer request asked d (checked.Import i) says = cc
-  act-answer request asked d (checked.Replace r) says = cc
-  act-answer request asked d (checked.Try t) says = cc
+  act-answer request asked d (checked.Deliver file) says = cc
   act-answer request asked d (checked.Query query) says = let none = says refl s in cc
 
   lines-answer : (request : Request) → concerns s request ≡ true → (d : Book) → IfOk (lines c d Integrator request) (λ o. o.answer ≡ answer.Done)

@@ -23,7 +23,7 @@ use Rattle.fr_base.specs.declared.refusal.Refusal.TheVariants.{LabelUsed, NoVari
 use Rattle.fr_base.specs.declared.request.Change.TheVariants as change
 use Rattle.fr_base.specs.declared.request.FrameChange.{FrameChange}
 use Rattle.fr_base.specs.declared.request.FrameChange.TheVariants.{Add, Place, AddSignal}
-use Rattle.fr_base.specs.declared.request.Import.{Import}
+use Rattle.fr_base.specs.declared.delivery.Delivery.{Delivery}
 use Rattle.fr_base.proofs.SoundRefusing.{gives_or, gives_bind, gives_bind_last, gives_each, gives_when, gives_unless}
 use Rattle.fr_base.proofs.ImportForms.{IsFormedRow, IsFormedRead, IsRead, body-form}
 use Rattle.fr_base.proofs.SoundImports.{at_line-gives, framed-sound, read-sound}
@@ -82,17 +82,17 @@ module _ (c : Cluster) (s v : Name) where
 
 -- ---- the supplier's own import
 
-module _ (i : Import) where
-  imported-own : (b : Book) (count : ℕ) (r : Result Book RefusedAt) → seen i.supplier (imported b i count r) ≡ imported (rows_of i.supplier b) i count (map_ok (rows_of i.supplier) r)
+module _ (i : Delivery) (label : Name) where
+  imported-own : (b : Book) (count : ℕ) (r : Result Book RefusedAt) → seen i.supplier (imported b i label count r) ≡ imported (rows_of i.supplier b) i label count (map_ok (rows_of i.supplier) r)
   unfolding imported seen
-  imported-own b count (Ok d) = λ j. record { book = rows_of-more_imports i.supplier d i.label (record { variant = i.variant; body = i.body; rows = count }) j; answer = answer.Imported count }
+  imported-own b count (Ok d) = λ j. record { book = rows_of-more_imports i.supplier d label (record { variant = i.variant; body = i.body; rows = count }) j; answer = answer.Imported count }
   imported-own b count (Err fault) = refl
 
   abbrev LikeOutcome : Result Outcome Refusal → Result Outcome Refusal → Type 0
   LikeOutcome r u = map_ok (seen i.supplier) r ≡ u
 
   -- in a sound book it is refused as alone, and does the same to the supplier's rows
-  pub import-own : (c : Cluster) (b : Book) → IsSound c b → (kept : Option Kept) → LikeOutcome (import c.params b i kept) (import c.params (rows_of i.supplier b) i kept)
+  pub import-own : (c : Cluster) (b : Book) → IsSound c b → (kept : Option Kept) → LikeOutcome (import c.params b i label kept) (import c.params (rows_of i.supplier b) i label kept)
   unfolding import seen own_variant
   import-own c b sound None =
       alike_or LikeOutcome (λ e. refl) (own_variant i.supplier) (get b.variants i.variant) _ (rows_of-variant i.supplier b i.variant) NoVariant _ _ (λ x found.
@@ -100,7 +100,7 @@ module _ (i : Import) where
       alike_when LikeOutcome (λ e. refl) Limit (nat_lt MAX_IMPORT_BYTES (length i.body)) _ refl _ _ (λ _.
       alike_when LikeOutcome (λ e. refl) Limit (nat_le MAX_IMPORTS (len (own i.supplier b.imports))) _ (ap (λ t. nat_le MAX_IMPORTS (len t)) (rows_of-imports i.supplier b)) _ _ (λ _.
       ap Ok (imported-own b _ (act_rows c.params b i.supplier i.variant (rows_of_body c.params i.body))
-      ∙ ap (imported (rows_of i.supplier b) i _) (rows-own c i.supplier i.variant (rows_of_body c.params i.body) b sound (body-form c.params i.body)))))))
+      ∙ ap (imported (rows_of i.supplier b) i label _) (rows-own c i.supplier i.variant (rows_of_body c.params i.body) b sound (body-form c.params i.body)))))))
   import-own c b sound (Some one) =
       alike_when LikeOutcome (λ e. refl) LabelUsed (not (same_text one.variant i.variant && same_text one.body i.body)) _ refl _ _ (λ _. refl)
 
@@ -131,14 +131,14 @@ module _ (p : Params) (s t v : Name) (other : same_text t s ≡ false) where
       gives_bind _ (Leaves b) _ _ (at_line-gives _ read.line _ (gives_each _ read.row _ (λ r _. row-other b r))) (λ d mid.
       gives_bind_last _ (Leaves d) _ (rows-other rest d) (λ e last. last ∙ mid))
 
-module _ (p : Params) (b : Book) (s : Name) (i : Import) (other : same_text i.supplier s ≡ false) where
-  imported-other : (count : ℕ) (r : Result Book RefusedAt) → IfOk r (λ d. rows_of s d ≡ rows_of s b) → rows_of s (imported b i count r).book ≡ rows_of s b
+module _ (p : Params) (b : Book) (s : Name) (i : Delivery) (label : Name) (other : same_text i.supplier s ≡ false) where
+  imported-other : (count : ℕ) (r : Result Book RefusedAt) → IfOk r (λ d. rows_of s d ≡ rows_of s b) → rows_of s (imported b i label count r).book ≡ rows_of s b
   unfolding imported
-  imported-other count (Ok d) h = rows_of-more_imports_other s d i.supplier i.label _ other ∙ h
+  imported-other count (Ok d) h = rows_of-more_imports_other s d i.supplier label _ other ∙ h
   imported-other count (Err fault) h = refl
 
   -- it leaves the supplier's rows as they were
-  pub import-other : (kept : Option Kept) → IfOk (import p b i kept) (λ o. rows_of s o.book ≡ rows_of s b)
+  pub import-other : (kept : Option Kept) → IfOk (import p b i label kept) (λ o. rows_of s o.book ≡ rows_of s b)
   unfolding import
   import-other None =
       gives_or _ (get b.variants i.variant) _ _ (λ x _.

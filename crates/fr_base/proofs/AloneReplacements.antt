@@ -1,5 +1,5 @@
 -- A supplier's replacement, over all rows and over its own; and another supplier's.
-use Rattle.std.proofs.Common.{◌≡◌, ℕ, false, not, List, [], ◌∷◌, length, map, Option, Some, None, Result, Ok, Err, IfOk, refl, sym, ap, ◌∙◌, nat_lt}
+use Rattle.std.proofs.Common.{Bool, ◌≡◌, ℕ, false, not, List, [], ◌∷◌, length, map, Option, Some, None, Result, Ok, Err, IfOk, refl, sym, ap, ◌∙◌, nat_lt}
 use Rattle.std.specs.List.{AllByRecursion}
 use Rattle.fr_base.specs.Refusing.{◌>>=◌}
 use Rattle.fr_base.specs.Tables.{Table, get, contains, settle}
@@ -20,7 +20,7 @@ use Rattle.fr_base.specs.declared.name.Name.{Name}
 use Rattle.fr_base.specs.declared.params.Params.{Params}
 use Rattle.fr_base.specs.declared.refusal.Refusal.{Refusal}
 use Rattle.fr_base.specs.declared.refusal.Refusal.TheVariants.{NoVariant, Released, NoNode, Limit}
-use Rattle.fr_base.specs.declared.request.Replacement.{Replacement}
+use Rattle.fr_base.specs.declared.delivery.Delivery.{Delivery}
 use Rattle.fr_base.proofs.SoundRefusing.{gives_or, gives_bind, gives_bind_last, gives_each, gives_when, gives_unless}
 use Rattle.fr_base.proofs.ImportForms.{IsFormedRow, IsFormedRead, body-form}
 use Rattle.fr_base.proofs.SoundImports.{at_line-gives}
@@ -98,7 +98,7 @@ module _ (c : Cluster) (s v : Name) where
 
 -- ---- the supplier's own replacement
 
-module _ (r : Replacement) where
+module _ (r : Delivery) (all : Bool) where
   replaced-own : (b : Book) (count : ℕ) (u : Result Book RefusedAt) → seen r.supplier (replaced b count u) ≡ replaced (rows_of r.supplier b) count (map_ok (rows_of r.supplier) u)
   unfolding replaced seen
   replaced-own b count (Ok d) = refl
@@ -108,12 +108,12 @@ module _ (r : Replacement) where
   LikeOutcome u w = map_ok (seen r.supplier) u ≡ w
 
   -- in a sound book it is refused as alone, and does the same to the supplier's rows
-  pub replace-own : (c : Cluster) (b : Book) → IsSound c b → LikeOutcome (replace c.params b r) (replace c.params (rows_of r.supplier b) r)
+  pub replace-own : (c : Cluster) (b : Book) → IsSound c b → LikeOutcome (replace c.params b r all) (replace c.params (rows_of r.supplier b) r all)
   unfolding replace seen own_variant
   replace-own c b sound =
       let s : Name = r.supplier in
       let reads : List RowRead = rows_of_body c.params r.body in
-      let whole : Option Header = whole_of r.whole (header_of_body r.body) in
+      let whole : Option Header = whole_of all (header_of_body r.body) in
       alike_or LikeOutcome (λ e. refl) (own_variant s) (get b.variants r.variant) _ (rows_of-variant s b r.variant) NoVariant _ _ (λ x found.
       alike_when LikeOutcome (λ e. refl) Released x.released _ refl _ _ (λ _.
       alike_when LikeOutcome (λ e. refl) Limit (nat_lt MAX_IMPORT_BYTES (length r.body)) _ refl _ _ (λ _.
@@ -169,14 +169,14 @@ module _ (s t : Name) (other : same_text t s ≡ false) where
         gives_bind_last _ (Leaves d) _ (replace_rows-other rest d) (λ e last. last ∙ mid))
 
 -- it leaves the supplier's rows as they were
-pub replace-other : (p : Params) (b : Book) (s : Name) (r : Replacement) → same_text r.supplier s ≡ false → IfOk (replace p b r) (λ o. rows_of s o.book ≡ rows_of s b)
+pub replace-other : (p : Params) (b : Book) (s : Name) (r : Delivery) (all : Bool) → same_text r.supplier s ≡ false → IfOk (replace p b r all) (λ o. rows_of s o.book ≡ rows_of s b)
 unfolding replace
-replace-other p b s r other =
+replace-other p b s r all other =
     gives_or _ (get b.variants r.variant) _ _ (λ x found.
     gives_when _ _ _ _ (λ _.
     gives_when _ _ _ _ (λ _.
     let reads : List RowRead = rows_of_body p r.body in
-    let whole : Option Header = whole_of r.whole (header_of_body r.body) in
+    let whole : Option Header = whole_of all (header_of_body r.body) in
     let mid = rows_of-still s b r.variant x _ found (freed_variant-other s r.supplier other whole reads x) in
     replaced-gives (λ d. rows_of s d ≡ rows_of s b) b refl _ _ (
     gives_bind_last _ (λ e. rows_of s e ≡ rows_of s (with_freed b r.supplier r.variant x whole reads)) _ (replace_rows-other s r.supplier other p r.variant reads _) (λ e last. last ∙ mid)))))

@@ -8,7 +8,7 @@ use Rattle.fr_base.specs.Checks.{check}
 use Rattle.fr_base.specs.Cluster.{Cluster}
 use Rattle.fr_base.specs.Book.{Kept, Book}
 use Rattle.fr_base.specs.Queries.{reply}
-use Rattle.fr_base.specs.Step.{Outcome, knows, common, add_supplier, set_key, add_node, change_rows, done, perform, RefusedAt, imported, import, replaced, replace, act, outcome, step}
+use Rattle.fr_base.specs.Step.{Outcome, knows, common, add_supplier, set_key, add_node, change_rows, done, perform, RefusedAt, imported, import, replaced, replace, act, deliver, outcome, step}
 use Rattle.fr_base.specs.Sound.{IsSound}
 use Rattle.fr_base.specs.Alone.{rows_of, is_done, is_unavailable, is_mine}
 use Rattle.fr_base.specs.declared.name.Name.{Name}
@@ -21,10 +21,11 @@ use Rattle.fr_base.specs.declared.actor.Actor.{Actor}
 use Rattle.fr_base.specs.declared.actor.Actor.TheVariants.{Integrator, Supplier}
 use Rattle.fr_base.specs.declared.request.Request.{Request}
 use Rattle.fr_base.specs.declared.request.Command.TheVariants.{Common, AddSupplier, SetKey, AddNode, Rows}
-use Rattle.fr_base.specs.declared.request.Import.{Import}
-use Rattle.fr_base.specs.declared.request.Replacement.{Replacement}
+use Rattle.fr_base.specs.declared.delivery.Delivery.{Delivery}
 use Rattle.fr_base.specs.declared.request.Checked.{Checked}
 use Rattle.fr_base.specs.declared.request.Checked.TheVariants as checked
+use Rattle.fr_base.specs.declared.delivery.Purpose.{Purpose}
+use Rattle.fr_base.specs.declared.delivery.Purpose.TheVariants as purpose
 use Rattle.fr_base.proofs.SoundRefusing.{gives_bind, gives_bind_last, gives_each, gives_when, gives_unless}
 use Rattle.fr_base.proofs.AloneRefusing.{map_ok}
 use Rattle.fr_base.proofs.AloneChanges.{unless, unless_none}
@@ -52,13 +53,13 @@ done-carried : (actor : Actor) → carried actor answer.Done ≡ true
 done-carried Integrator = refl
 done-carried (Supplier s) = refl
 
-module _ (p : Params) (b : Book) (i : Import) where
-  imported-carried : (count : ℕ) (r : Result Book RefusedAt) → is_unavailable (imported b i count r).answer ≡ false
+module _ (p : Params) (b : Book) (i : Delivery) (label : Name) where
+  imported-carried : (count : ℕ) (r : Result Book RefusedAt) → is_unavailable (imported b i label count r).answer ≡ false
   unfolding imported
   imported-carried count (Ok d) = refl
   imported-carried count (Err fault) = refl
 
-  import-carried : (kept : Option Kept) → IfOk (import p b i kept) (λ o. is_unavailable o.answer ≡ false)
+  import-carried : (kept : Option Kept) → IfOk (import p b i label kept) (λ o. is_unavailable o.answer ≡ false)
   unfolding import
   import-carried None =
       gives_each _ (get b.variants i.variant or NoVariant) _ (λ x _.
@@ -72,12 +73,25 @@ unfolding replaced
 replaced-carried b count (Ok d) = refl
 replaced-carried b count (Err fault) = refl
 
-replace-carried : (p : Params) (b : Book) (r : Replacement) → IfOk (replace p b r) (λ o. is_unavailable o.answer ≡ false)
+replace-carried : (p : Params) (b : Book) (r : Delivery) (whole : Bool) → IfOk (replace p b r whole) (λ o. is_unavailable o.answer ≡ false)
 unfolding replace
-replace-carried p b r =
+replace-carried p b r whole =
     gives_each _ (get b.variants r.variant or NoVariant) _ (λ x _.
     gives_when _ _ _ _ (λ _.
     gives_when _ _ _ _ (λ _. replaced-carried b _ _)))
+
+-- an import or a replacement is always carried out, and a trial changes nothing
+delivered-undone : (p : Params) (b : Book) (d : Delivery) (how : Purpose Name) → IfOk (deliver p b d how) (λ o. is_unavailable o.answer ≡ true → o.book ≡ b)
+unfolding deliver
+delivered-undone p b d (purpose.Import label) =
+    gives_bind_last _ (λ (o : Outcome). is_unavailable o.answer ≡ false) _ (import-carried p b d label (get b.imports (d.supplier, label))) (λ o available undone. absurd (true≢false (sym undone ∙ available)))
+delivered-undone p b d (purpose.Replacement whole) =
+    gives_bind_last _ (λ (o : Outcome). is_unavailable o.answer ≡ false) _ (replace-carried p b d whole) (λ o available undone. absurd (true≢false (sym undone ∙ available)))
+delivered-undone p b d (purpose.Trial how) = gives_bind_last _ (λ (o : Outcome). o.book ≡ b) _ (trial-leaves (λ e. e ≡ b) b refl p d how) (λ o still undone. still)
+
+not_available : (x : Bool) → not x ≡ false → x ≡ true
+not_available true h = refl
+not_available false h = cc
 
 act-undone : (c : Cluster) (b : Book) (actor : Actor) (request : Request) (what : Checked) → Says actor request what → IfOk (act c b actor what) (λ o. carried actor o.answer ≡ false → o.book ≡ b)
 unfolding act perform done
@@ -86,14 +100,9 @@ act-undone c b actor request (checked.Command (AddSupplier s key)) says = gives_
 act-undone c b actor request (checked.Command (SetKey s key)) says = gives_each _ (set_key c b s key) _ (λ after _ undone. absurd (true≢false (sym (done-carried actor) ∙ undone)))
 act-undone c b actor request (checked.Command (AddNode s n)) says = gives_each _ (add_node b s n) _ (λ after _ undone. absurd (true≢false (sym (done-carried actor) ∙ undone)))
 act-undone c b actor request (checked.Command (Rows rows)) says = gives_each _ (change_rows c.params b rows.supplier rows.variant rows.change) _ (λ after _ undone. absurd (true≢false (sym (done-carried actor) ∙ undone)))
-act-undone c b Integrator request (checked.Import i) says = cc
-act-undone c b (Supplier s) request (checked.Import i) says =
-    gives_bind_last (λ (o : Outcome). not (is_unavailable o.answer) ≡ false → o.book ≡ b) (λ (o : Outcome). is_unavailable o.answer ≡ false) _ (import-carried c.params b i (get b.imports (i.supplier, i.label))) (λ o available undone. absurd (true≢false (sym (ap not available) ∙ undone)))
-act-undone c b Integrator request (checked.Replace r) says = cc
-act-undone c b (Supplier s) request (checked.Replace r) says =
-    gives_bind_last (λ (o : Outcome). not (is_unavailable o.answer) ≡ false → o.book ≡ b) (λ (o : Outcome). is_unavailable o.answer ≡ false) _ (replace-carried c.params b r) (λ o available undone. absurd (true≢false (sym (ap not available) ∙ undone)))
-act-undone c b actor request (checked.Try t) says =
-    gives_bind_last (λ (o : Outcome). carried actor o.answer ≡ false → o.book ≡ b) (λ (o : Outcome). o.book ≡ b) _ (trial-leaves (λ d. d ≡ b) b refl c.params t) (λ o still undone. still)
+act-undone c b Integrator request (checked.Deliver d) says = cc
+act-undone c b (Supplier s) request (checked.Deliver d) says =
+    gives_bind_last _ (λ (o : Outcome). is_unavailable o.answer ≡ true → o.book ≡ b) _ (delivered-undone c.params b d d.how) (λ o still undone. still (not_available _ undone))
 act-undone c b actor request (checked.Query query) says = gives_each _ (reply c.params b actor query) _ (λ rows _ undone. refl)
 
 -- what was not carried out has changed nothing
@@ -131,14 +140,17 @@ module _ (c : Cluster) (b : Book) (s : Name) where
       sym (ap (outcome (rows_of s b)) (lines-own c b s (Supplier t) request (λ _. sound) (and_both _ _ h).0 ∙ unless_none (lines c (rows_of s b) (Supplier t) request)))
       ∙ outcome-own s b (lines c b (Supplier t) request)
 
+  delivered-other : (p : Params) (d : Delivery) (how : Purpose Name) → same_text d.supplier s ≡ false → IfOk (deliver p b d how) (λ o. rows_of s o.book ≡ rows_of s b)
+  unfolding deliver
+  delivered-other p d (purpose.Import label) other = import-other p b s d label other (get b.imports (d.supplier, label))
+  delivered-other p d (purpose.Replacement whole) other = replace-other p b s d whole other
+  delivered-other p d (purpose.Trial how) other = trial-leaves (λ e. rows_of s e ≡ rows_of s b) b refl p d how
+
   act-other : (actor : Actor) (request : Request) → asked_of s actor request ≡ false → (what : Checked) → Says actor request what → IfOk (act c b actor what) (λ o. rows_of s o.book ≡ rows_of s b)
   unfolding act
   act-other actor request other (checked.Command command) says = perform-other c b s command (says.names s ∙ other)
-  act-other Integrator request other (checked.Import i) says = cc
-  act-other (Supplier t) request other (checked.Import i) says = import-other c.params b s i (ap (λ u. same_text u s) (sym (supplier-is says)) ∙ other) (get b.imports (i.supplier, i.label))
-  act-other Integrator request other (checked.Replace r) says = cc
-  act-other (Supplier t) request other (checked.Replace r) says = replace-other c.params b s r (ap (λ u. same_text u s) (sym (supplier-is says)) ∙ other)
-  act-other actor request other (checked.Try t) says = trial-leaves (λ d. rows_of s d ≡ rows_of s b) b refl c.params t
+  act-other Integrator request other (checked.Deliver d) says = cc
+  act-other (Supplier t) request other (checked.Deliver d) says = delivered-other c.params d d.how (ap (λ u. same_text u s) (sym (supplier-is says)) ∙ other)
   act-other actor request other (checked.Query query) says = gives_each _ (reply c.params b actor query) _ (λ rows _. refl)
 
   step-other : (actor : Actor) (request : Request) → asked_of s actor request ≡ false → rows_of s (step c b actor request).book ≡ rows_of s b

@@ -19,9 +19,9 @@ use Rattle.fr_base.specs.declared.import.RowRead.{RowRead}
 use Rattle.fr_base.specs.declared.name.Name.{Name}
 use Rattle.fr_base.specs.declared.refusal.Refusal.{Refusal}
 use Rattle.fr_base.specs.declared.refusal.Refusal.TheVariants.{NoVariant, Released, Limit}
-use Rattle.fr_base.specs.declared.request.Manner.{Manner}
-use Rattle.fr_base.specs.declared.request.Manner.TheVariants as manner
-use Rattle.fr_base.specs.declared.request.Trial.{Trial}
+use Rattle.fr_base.specs.declared.delivery.Manner.{Manner}
+use Rattle.fr_base.specs.declared.delivery.Manner.TheVariants as manner
+use Rattle.fr_base.specs.declared.delivery.Delivery.{Delivery}
 use Rattle.fr_base.proofs.ImportForms.{IsFormedRow, IsFormedRead, all_rows-form}
 use Rattle.fr_base.proofs.SoundImports.{row-sound}
 use Rattle.fr_base.proofs.SoundReplacements.{with_freed-sound, replace_row-sound}
@@ -95,7 +95,7 @@ module _ (c : Cluster) (s v : Name) where
 
 -- ---- the trial
 
-module _ (t : Trial) where
+module _ (t : Delivery) (how : Manner) where
   abbrev told : Book → List FateRow → Outcome
   told b rows = record { book = b; answer = answer.Report false (shows.Fates rows) }
 
@@ -103,7 +103,7 @@ module _ (t : Trial) where
   LikeOutcome u w = map_ok (seen t.supplier) u ≡ w
 
   -- in a sound book it is answered as alone
-  pub try-own : (c : Cluster) (b : Book) → IsSound c b → LikeOutcome (try c.params b t) (try c.params (rows_of t.supplier b) t)
+  pub try-own : (c : Cluster) (b : Book) → IsSound c b → LikeOutcome (try c.params b t how) (try c.params (rows_of t.supplier b) t how)
   unfolding try seen own_variant
   try-own c b sound =
       let s : Name = t.supplier in
@@ -114,5 +114,5 @@ module _ (t : Trial) where
       alike_when LikeOutcome (λ e. refl) Released x.released _ refl _ _ (λ _.
       alike_when LikeOutcome (λ e. refl) Limit (nat_lt MAX_IMPORT_BYTES (length t.body)) _ refl _ _ (λ _.
       ap (λ rows. Ok (told (rows_of s b) rows)) (
-      fates-own c s t.variant t.manner all (tried t.manner b s t.variant x header reads) (tried-sound c s t.variant t.manner b sound x found header reads) (all_rows-form c.params t.body)
-      ∙ ap (λ d. fates_of c.params t.manner d s t.variant all) (tried-own c s t.variant t.manner b x header reads)))))
+      fates-own c s t.variant how all (tried how b s t.variant x header reads) (tried-sound c s t.variant how b sound x found header reads) (all_rows-form c.params t.body)
+      ∙ ap (λ d. fates_of c.params how d s t.variant all) (tried-own c s t.variant how b x header reads)))))

@@ -1,9 +1,12 @@
--- What a proof about the check of a request opens. A query whose names are read as texts are is the checked query.
+-- What a proof about the check of a request opens. A query whose names are read as texts are is the checked query, and
+-- so is what a file is delivered for.
 use Rattle.std.proofs.Common.{◌≡◌, ◌∙◌, List, ℕ, Result, Ok, Err, refl, sym, ap}
 use Rattle.std.specs.Prelude.{⊤}
 use Rattle.fr_base.specs.Refusing.{◌>>=◌, ◌>>◌, ◌or◌, refuse◌when◌}
-use Rattle.fr_base.specs.Checks.{asking, key, name, cycles, slot, channel, channels, placement, signal, beginning, report, query, check}
-use Rattle.fr_base.specs.QueryNames.{IsReportRead, IsQueryRead}
+use Rattle.fr_base.specs.Checks.{asking, key, name, cycles, slot, channel, channels, placement, purpose, signal, beginning, report, query, check}
+use Rattle.fr_base.specs.QueryNames.{IsPurposeRead, IsReportRead, IsQueryRead}
+use Rattle.fr_base.specs.declared.delivery.Purpose.{Purpose}
+use Rattle.fr_base.specs.declared.delivery.Purpose.TheVariants.{Import, Replacement, Trial}
 use Rattle.fr_base.specs.declared.name.Name.{Name}
 use Rattle.fr_base.specs.declared.query.Query.{Query}
 use Rattle.fr_base.specs.declared.query.Query.TheVariants.{Register, Variant, Difference}
@@ -12,7 +15,7 @@ use Rattle.fr_base.specs.declared.report.Report.{Report}
 use Rattle.fr_base.specs.declared.report.Report.TheVariants.{Grants, Frames, Schedule, Gaps, Layout, Load, Rows, Room, Export}
 
 unfoldable pub checks_open : ⊤
-unfolding ◌>>=◌ ◌>>◌ ◌or◌ refuse◌when◌ asking key name cycles slot channel channels placement signal beginning report check
+unfolding ◌>>=◌ ◌>>◌ ◌or◌ refuse◌when◌ asking key name cycles slot channel channels placement purpose signal beginning report check
 checks_open = tt
 
 -- the same but what a placement is
@@ -51,3 +54,9 @@ query_read (Variant variant asked) result (Err e, is_name, is) =
 query_read (Difference variant from) result (Ok v, is_name, (other, is_other, is)) =
     is ∙ ap (λ u. u >>= (λ f. Ok (Difference v f))) is_other ∙ ap (λ n. n >>= (λ v. name from >>= (λ f. Ok (Difference v f)))) is_name
 query_read (Difference variant from) result (Err e, is_name, is) = is ∙ ap (λ n. n >>= (λ v. name from >>= (λ f. Ok (Difference v f)))) is_name
+
+pub purpose_read : (how : Purpose (List ℕ)) (result : Result (Purpose Name) Refusal) → IsPurposeRead AsName how result → result ≡ purpose how
+unfolding IsPurposeRead purpose ◌>>=◌
+purpose_read (Import label) result (read, is_name, is) = rw is (rw is_name refl)
+purpose_read (Replacement whole) result is = is
+purpose_read (Trial manner) result is = is

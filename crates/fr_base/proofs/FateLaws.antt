@@ -5,11 +5,11 @@ use Rattle.std.proofs.lemmas.List.Elements.{All-nil, All-cons, All-head, All-tai
 use Rattle.fr_base.specs.Refusing.{◌>>=◌, ◌>>◌, ◌or◌, refuse◌when◌}
 use Rattle.fr_base.specs.Tables.{get}
 use Rattle.fr_base.specs.Names.{is_name}
-use Rattle.fr_base.specs.Checks.{asking, name, check}
+use Rattle.fr_base.specs.Checks.{asking, name, purpose, check}
 use Rattle.fr_base.specs.Cluster.{Cluster}
 use Rattle.fr_base.specs.Book.{Variant, Book}
 use Rattle.fr_base.specs.ImportRows.{row_at, rows_from, header_of, rows_below, rows_of_records, records_of, all_rows_of_body}
-use Rattle.fr_base.specs.Step.{RefusedAt, at_line, act_rows, replace_rows, try_row, fate_of, fates_of, try, act, outcome}
+use Rattle.fr_base.specs.Step.{RefusedAt, at_line, act_rows, replace_rows, try_row, fate_of, fates_of, try, act, deliver, outcome}
 use Rattle.fr_base.specs.FateLaws.{fates_in, trial_told, TrialIsTold, lines_of, LinesAreInTurn, IsLimitBehind, OneTooManyIsLimit, refusal_in, done_rows, try_rows, EachFateIsItsRows, after_fates, IsDoneWithout, RefusedRowsLeaveNothing}
 use Rattle.fr_base.specs.declared.limits.TheConstants.{MAX_ROWS, MAX_IMPORT_BYTES}
 use Rattle.fr_base.specs.declared.answer.Answer.TheVariants.{Report, Refused}
@@ -24,17 +24,18 @@ use Rattle.fr_base.specs.declared.refusal.Refusal.{Refusal}
 use Rattle.fr_base.specs.declared.refusal.Refusal.TheVariants.{NoVariant, Released, BadText, Limit}
 use Rattle.fr_base.specs.declared.actor.Actor.TheVariants.{Supplier}
 use Rattle.fr_base.specs.declared.request.Request.TheVariants as request
-use Rattle.fr_base.specs.declared.request.Manner.{Manner}
-use Rattle.fr_base.specs.declared.request.Manner.TheVariants as manner
-use Rattle.fr_base.specs.declared.request.Trial.{Trial}
+use Rattle.fr_base.specs.declared.delivery.Manner.{Manner}
+use Rattle.fr_base.specs.declared.delivery.Manner.TheVariants as manner
+use Rattle.fr_base.specs.declared.delivery.Delivery.{Delivery}
 use Rattle.fr_base.specs.declared.request.Checked.TheVariants as checked
+use Rattle.fr_base.specs.declared.delivery.Purpose.TheVariants as purpose
 use Rattle.fr_base.proofs.QuerySteps.{acts}
 
 -- ---- the answer
 
 module _ (c : Cluster) (b : Book) (s v : Name) (body : List ℕ) (how : Manner) where
-  abbrev asked : Trial
-  asked = record { supplier = s; variant = v; manner = how; body = body }
+  abbrev asked : Delivery
+  asked = record { supplier = s; variant = v; how = purpose.Trial how; body = body }
 
   by_tests : (frozen long : Bool) (fates : List FateRow) →
       outcome b ((refuse Released when frozen) >> ((refuse Limit when long) >> Ok (record { book = b; answer = Report false (rows.Fates fates) })))
@@ -52,17 +53,17 @@ module _ (c : Cluster) (b : Book) (s v : Name) (body : List ℕ) (how : Manner) 
   by_variant None = refl
   by_variant (Some x) = by_tests x.released (nat_lt MAX_IMPORT_BYTES (length body)) (fates_in c.params how b s v body x)
 
-  asked-checked : IsTrue (is_name v) → check c.params (Supplier s) (request.Try v how body) ≡ Ok (checked.Try asked)
-  unfolding check asking name ◌>>=◌
+  asked-checked : IsTrue (is_name v) → check c.params (Supplier s) (request.Deliver v (purpose.Trial how) body) ≡ Ok (checked.Deliver asked)
+  unfolding check purpose asking name ◌>>=◌
   asked-checked named = rw named refl
 
-  act-told : outcome b (act c b (Supplier s) (checked.Try asked)) ≡ record { book = b; answer = trial_told c.params how b s v body (get b.variants v) }
-  unfolding act try
+  act-told : outcome b (act c b (Supplier s) (checked.Deliver asked)) ≡ record { book = b; answer = trial_told c.params how b s v body (get b.variants v) }
+  unfolding act deliver try
   act-told = by_variant (get b.variants v)
 
 pub trial-told : TrialIsTold
 trial-told c b s v body how known named =
-    acts c b (Supplier s) (request.Try v how body) (checked.Try (asked c b s v body how)) known (asked-checked c b s v body how named)
+    acts c b (Supplier s) (request.Deliver v (purpose.Trial how) body) (checked.Deliver (asked c b s v body how)) known (asked-checked c b s v body how named)
     ∙ act-told c b s v body how
 
 -- ---- lines

@@ -15,12 +15,14 @@ use Rattle.fr_base.specs.declared.channel.Channels.TheVariants as chs
 use Rattle.fr_base.specs.declared.params.Params.{Params}
 use Rattle.fr_base.specs.declared.refusal.Refusal.TheVariants.{NotYours, BadName, BadText, LabelUsed, NoVariant, Released, NoNode, NoFrame, NodeDiffers, NotGranted, Limit, CellTaken, BitTaken}
 use Rattle.fr_base.specs.declared.request.Ask.{Ask}
-use Rattle.fr_base.specs.declared.request.Import as asked
+use Rattle.fr_base.specs.declared.delivery.Delivery.{Delivery}
 use Rattle.fr_base.specs.declared.beginning.Beginning.TheVariants.{Empty, From}
-use Rattle.fr_base.specs.declared.request.Request.TheVariants.{OpenVariant, Release, AddNode, Grant, AddFrame, DropFrame, Import, Query}
+use Rattle.fr_base.specs.declared.request.Request.TheVariants.{OpenVariant, Release, AddNode, Grant, AddFrame, DropFrame, Deliver, Query}
+use Rattle.fr_base.specs.declared.delivery.Purpose.TheVariants as purpose
 use Rattle.fr_base.specs.declared.query.Query.TheVariants.{Variant as OfVariant}
 use Rattle.fr_base.specs.declared.report.Report.TheVariants.{Frames, Layout}
 use Rattle.fr_base.specs.declared.signal.Order.TheVariants as order
+use Rattle.fr_base.specs.declared.name.Name.{Name}
 use Rattle.fr_base.proofs.ImportWorked.{a_small_file, mark}
 use Rattle.fr_base.proofs.WorkedRows.{answers, a_small_register, integrator, s1, s2, Framed, Laid}
 
@@ -40,7 +42,7 @@ granted =
 
 -- an import of `s1` into `v1`
 abbrev pub into : List ℕ → List ℕ → Ask
-into label body = s1 (Import (codes "v1") label body)
+into label body = s1 (Deliver (codes "v1") (purpose.Import label) body)
 
 -- three frames of `n1`, each with a placement; the third one in a slot that is not granted
 abbrev pub not_granted : List ℕ
@@ -102,7 +104,7 @@ pub after_a_release :
     ∷ into (codes "b") (replicate 65537 48)
     ∷ s1 (Query (OfVariant (codes "v1") Frames))
     ∷ integrator (OpenVariant (codes "v2") (From (codes "v1")))
-    ∷ s1 (Import (codes "v2") (codes "a") three_frames)
+    ∷ s1 (Deliver (codes "v2") (purpose.Import (codes "a")) three_frames)
     ∷ [])))
     ≡ Imported 3 ∷ Done ∷ Imported 3 ∷ Done ∷ Imported 3 ∷ Refused Released ∷ Refused Released
     ∷ Framed false (frame (codes "f2") 1 4 ∷ frame (codes "f3") 3 4 ∷ [])
@@ -116,12 +118,12 @@ after_a_release = refl
 pub labels_before_variants :
     drop 4 (answers (granted ++ (
     into (codes "a") three_frames
-    ∷ integrator (Import (codes "1v") (codes "a") three_frames)
-    ∷ s1 (Import (codes "v1") (codes "1a") three_frames)
-    ∷ s1 (Import (codes "1v") (codes "a") three_frames)
-    ∷ s1 (Import (codes "v9") (codes "a") three_frames)
-    ∷ s1 (Import (codes "v9") (codes "b") three_frames)
-    ∷ s2 (Import (codes "v1") (codes "a") (codes "frame,signal,start,length,order\n"))
+    ∷ integrator (Deliver (codes "1v") (purpose.Import (codes "a")) three_frames)
+    ∷ s1 (Deliver (codes "v1") (purpose.Import (codes "1a")) three_frames)
+    ∷ s1 (Deliver (codes "1v") (purpose.Import (codes "a")) three_frames)
+    ∷ s1 (Deliver (codes "v9") (purpose.Import (codes "a")) three_frames)
+    ∷ s1 (Deliver (codes "v9") (purpose.Import (codes "b")) three_frames)
+    ∷ s2 (Deliver (codes "v1") (purpose.Import (codes "a")) (codes "frame,signal,start,length,order\n"))
     ∷ [])))
     ≡ Imported 3 ∷ Refused NotYours ∷ Refused BadName ∷ Refused BadName ∷ Refused LabelUsed ∷ Refused NoVariant ∷ Imported 0 ∷ []
 unfolding a_small_import granted
@@ -187,15 +189,15 @@ a_ninth_placement = refl
 
 -- the thousandth import of a supplier is carried out, where its variant is open and its file not too long; one more is refused,
 -- whatever its file holds
-pub the_thousandth : (p : Params) (b : Book) (i : asked.Import) (x : Variant) → get b.variants i.variant ≡ Some x → x.released ≡ false → nat_lt 65536 (length i.body) ≡ false →
-    len (own i.supplier b.imports) ≡ 999 → import p b i None ≡ Ok (import_rows p b i (rows_of_body p i.body))
+pub the_thousandth : (p : Params) (b : Book) (i : Delivery) (label : Name) (x : Variant) → get b.variants i.variant ≡ Some x → x.released ≡ false → nat_lt 65536 (length i.body) ≡ false →
+    len (own i.supplier b.imports) ≡ 999 → import p b i label None ≡ Ok (import_rows p b i label (rows_of_body p i.body))
 unfolding import ◌>>=◌ ◌>>◌ ◌or◌ refuse◌when◌
-the_thousandth p b i x there still short kept = rw (there, still, short, kept) refl
+the_thousandth p b i label x there still short kept = rw (there, still, short, kept) refl
 
-pub one_more_than_a_thousand : (p : Params) (b : Book) (i : asked.Import) (x : Variant) → get b.variants i.variant ≡ Some x → x.released ≡ false →
-    len (own i.supplier b.imports) ≡ 1000 → import p b i None ≡ Err Limit
+pub one_more_than_a_thousand : (p : Params) (b : Book) (i : Delivery) (label : Name) (x : Variant) → get b.variants i.variant ≡ Some x → x.released ≡ false →
+    len (own i.supplier b.imports) ≡ 1000 → import p b i label None ≡ Err Limit
 unfolding import ◌>>=◌ ◌>>◌ ◌or◌ refuse◌when◌
-one_more_than_a_thousand p b i x there still kept = elim (cases_Bool (nat_lt 65536 (length i.body))) [
+one_more_than_a_thousand p b i label x there still kept = elim (cases_Bool (nat_lt 65536 (length i.body))) [
   | inl long ↦ rw (there, still, long) refl
   | inr short ↦ rw (there, still, short, kept) refl
 ]
@@ -205,7 +207,7 @@ pub a_long_file :
     drop 4 (answers (granted ++ (
     into (codes "a") three_frames
     ∷ into (codes "a") (replicate 65537 48)
-    ∷ s1 (Import (codes "v9") (codes "b") (replicate 65537 48))
+    ∷ s1 (Deliver (codes "v9") (purpose.Import (codes "b")) (replicate 65537 48))
     ∷ into (codes "b") (replicate 65537 48)
     ∷ into (codes "b") (replicate 65536 10)
     ∷ [])))

@@ -9,12 +9,12 @@ use Rattle.fr_base.specs.Tables.{Table, get, contains, len, insert}
 use Rattle.fr_base.specs.Keys.{owned}
 use Rattle.fr_base.specs.Alone.{answers_to, book_after}
 use Rattle.fr_base.specs.Cluster.{Cluster}
-use Rattle.fr_base.specs.Checks.{asking, name, check}
+use Rattle.fr_base.specs.Checks.{asking, name, purpose, check}
 use Rattle.fr_base.specs.Names.{is_name}
 use Rattle.fr_base.specs.Book.{Frame, Variant, Kept, Book, is_of, own}
 use Rattle.fr_base.specs.ExportedLaws.{ReadsAs, File, import_of, MayBeKept}
 use Rattle.fr_base.specs.ImportRows.{rows_of_body}
-use Rattle.fr_base.specs.Step.{Outcome, with_import, act_rows, imported, import, act, outcome, step}
+use Rattle.fr_base.specs.Step.{Outcome, with_import, act_rows, imported, import, act, deliver, outcome, step}
 use Rattle.fr_base.specs.declared.limits.TheConstants.{MAX_IMPORTS, MAX_IMPORT_BYTES}
 use Rattle.fr_base.specs.declared.actor.Actor.TheVariants.{Supplier}
 use Rattle.fr_base.specs.declared.answer.Answer.TheVariants as answer
@@ -23,8 +23,9 @@ use Rattle.fr_base.specs.declared.import.RowRead.{RowRead}
 use Rattle.fr_base.specs.declared.name.Name.{Name}
 use Rattle.fr_base.specs.declared.params.Params.{Params}
 use Rattle.fr_base.specs.declared.request.Ask.{Ask}
-use Rattle.fr_base.specs.declared.request.Import.{Import}
+use Rattle.fr_base.specs.declared.delivery.Delivery.{Delivery}
 use Rattle.fr_base.specs.declared.request.Request.TheVariants as request
+use Rattle.fr_base.specs.declared.delivery.Purpose.TheVariants as purpose
 use Rattle.fr_base.proofs.TableLaws.{equal, get-insert, insert-same}
 use Rattle.fr_base.proofs.SoundTables.{len-within, only-insert}
 use Rattle.fr_base.proofs.AloneCells.{same_text-itself}
@@ -46,8 +47,8 @@ module _ (p : Params) where
 -- ---- the step of an import
 
 step-import : (c : Cluster) (d : Book) (s : Name) (variant label body : List ℕ) → contains d.suppliers s ≡ true → is_name variant ≡ true → is_name label ≡ true →
-    step c d (Supplier s) (request.Import variant label body) ≡ outcome d (import c.params d (record { supplier = s; variant = variant; label = label; body = body }) (get d.imports (s, label)))
-unfolding step act check asking name ◌>>=◌ ◌>>◌ refuse◌when◌
+    step c d (Supplier s) (request.Deliver variant (purpose.Import label) body) ≡ outcome d (import c.params d (record { supplier = s; variant = variant; how = purpose.Import label; body = body }) label (get d.imports (s, label)))
+unfolding step act deliver check purpose asking name ◌>>=◌ ◌>>◌ refuse◌when◌
 step-import c d s variant label body known named labelled = rw (known, named, labelled) refl
 
 short_enough : (n : ℕ) → n ≤ MAX_IMPORT_BYTES → nat_lt MAX_IMPORT_BYTES n ≡ false
@@ -70,29 +71,29 @@ module _ (c : Cluster) (b : Book) (s v : Name) (y : Variant) (open_now : y.relea
     pub there : get d.variants v ≡ Some (with_frames t)
     pub known : contains d.suppliers s ≡ true
 
-  abbrev it : File → Import
-  it file = record { supplier = s; variant = v; label = file.label; body = file.body }
+  abbrev it : File → Delivery
+  it file = record { supplier = s; variant = v; how = purpose.Import file.label; body = file.body }
 
   abbrev count : File → ℕ
   count file = length (rows_of_body c.params file.body)
 
   -- the book after an import
   abbrev after : Book → Table owned Frame → Table owned Frame → File → Book
-  after d t u file = with_import (at c.params d s v (with_frames t) u) (it file) (count file)
+  after d t u file = with_import (at c.params d s v (with_frames t) u) (it file) file.label (count file)
 
   import-passes : (d : Book) (t u : Table owned Frame) (file : File) (files : List File) → Now d t → MayBeKept d s (file ∷ files) →
       run_in c.params d s v (with_frames t) false t (rows_of_body c.params file.body) ≡ Ok u →
-      step c d (Supplier s) (request.Import v file.label file.body) ≡ record { book = after d t u file; answer = answer.Imported (count file) }
+      step c d (Supplier s) (request.Deliver v (purpose.Import file.label) file.body) ≡ record { book = after d t u file; answer = answer.Imported (count file) }
   unfolding import imported outcome lifted
   import-passes d t u file files now may run =
       step-import c d s v file.label file.body now.known named (All-head (λ f. IsTrue (is_name f.label)) file files may.names)
-      ∙ ap (λ o. outcome d (import c.params d (it file) o)) (All-head (λ f. get d.imports (s, f.label) ≡ None) file files may.free)
+      ∙ ap (λ o. outcome d (import c.params d (it file) file.label o)) (All-head (λ f. get d.imports (s, f.label) ≡ None) file files may.free)
       ∙ ap (outcome d) (
       past_or _ _ (with_frames t) _ now.there
       ∙ past_when _ y.released _ open_now
       ∙ past_when _ (nat_lt MAX_IMPORT_BYTES (length file.body)) _ (short_enough (length file.body) (All-head (λ f. length f.body ≤ MAX_IMPORT_BYTES) file files may.bytes))
       ∙ past_when _ (nat_le MAX_IMPORTS (len (own s d.imports))) _ (one_more (len (own s d.imports)) (length files) may.room)
-      ∙ ap (λ r. Ok (imported d (it file) (count file) r)) (
+      ∙ ap (λ r. Ok (imported d (it file) file.label (count file) r)) (
       ap (λ vs. act_rows c.params (record d { variants = vs }) s v (rows_of_body c.params file.body)) (sym (insert-same d.variants v (with_frames t) now.there))
       ∙ act_rows-lift c.params d s v (with_frames t) open_now now.known (rows_of_body c.params file.body) t
       ∙ ap (lifted c.params d s v (with_frames t)) run))
@@ -170,8 +171,8 @@ module _ (c : Cluster) (s v : Name) where
       answers_to c d (map (import_of s v) (files ++ later)) ≡ answers_to c d (map (import_of s v) files) ++ answers_to c (book_after c d (map (import_of s v) files)) (map (import_of s v) later)
   answers-append [] later d = refl
   answers-append (file ∷ files) later d =
-      ap (λ l. (step c d (Supplier s) (request.Import v file.label file.body)).answer ∷ l) (answers-append files later (step c d (Supplier s) (request.Import v file.label file.body)).book)
+      ap (λ l. (step c d (Supplier s) (request.Deliver v (purpose.Import file.label) file.body)).answer ∷ l) (answers-append files later (step c d (Supplier s) (request.Deliver v (purpose.Import file.label) file.body)).book)
 
   pub book-append : (files later : List File) (d : Book) → book_after c d (map (import_of s v) (files ++ later)) ≡ book_after c (book_after c d (map (import_of s v) files)) (map (import_of s v) later)
   book-append [] later d = refl
-  book-append (file ∷ files) later d = book-append files later (step c d (Supplier s) (request.Import v file.label file.body)).book
+  book-append (file ∷ files) later d = book-append files later (step c d (Supplier s) (request.Deliver v (purpose.Import file.label) file.body)).book

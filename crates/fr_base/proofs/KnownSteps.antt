@@ -8,7 +8,7 @@ use Rattle.fr_base.specs.Cluster.{Cluster}
 use Rattle.fr_base.specs.Book.{Kept, Book}
 use Rattle.fr_base.specs.ImportRows.{rows_of_body}
 use Rattle.fr_base.specs.Queries.{reply}
-use Rattle.fr_base.specs.Step.{Outcome, RefusedAt, knows, begun, common, has_key, add_supplier, set_key, add_node, change_rows, done, perform, imported, import, act, outcome, step}
+use Rattle.fr_base.specs.Step.{Outcome, RefusedAt, knows, begun, common, has_key, add_supplier, set_key, add_node, change_rows, done, perform, imported, import, act, deliver, outcome, step}
 use Rattle.fr_base.specs.Run.{IsRun}
 use Rattle.fr_base.specs.Alone.{is_done}
 use Rattle.fr_base.specs.declared.key.Key.{Key}
@@ -26,9 +26,11 @@ use Rattle.fr_base.specs.declared.request.Command.{Command}
 use Rattle.fr_base.specs.declared.request.Command.TheVariants.{Common, AddSupplier, SetKey, AddNode, Rows}
 use Rattle.fr_base.specs.declared.request.CommonCommand.{CommonCommand}
 use Rattle.fr_base.specs.declared.request.CommonCommand.TheVariants.{OpenVariant, Release}
-use Rattle.fr_base.specs.declared.request.Import.{Import}
+use Rattle.fr_base.specs.declared.delivery.Delivery.{Delivery}
 use Rattle.fr_base.specs.declared.request.Checked.{Checked}
 use Rattle.fr_base.specs.declared.request.Checked.TheVariants as checked
+use Rattle.fr_base.specs.declared.delivery.Purpose.TheVariants as purpose
+use Rattle.fr_base.specs.declared.delivery.Purpose.{Purpose}
 use Rattle.fr_base.proofs.AloneChecks.{name-is}
 use Rattle.fr_base.proofs.SoundTables.{contains-more}
 use Rattle.fr_base.proofs.SoundRefusing.{gives_or, gives_bind, gives_bind_last, gives_each, gives_when, gives_unless}
@@ -75,9 +77,7 @@ check-keyed p actor (request.Place variant frame number text base repetition) = 
 check-keyed p actor (request.Unplace variant frame number text base repetition) = gives_each _ _ _ (λ s _. gives_each _ _ _ (λ v _. gives_each _ _ _ (λ f _. gives_each _ _ _ (λ q _. refl))))
 check-keyed p actor (request.AddSignal variant frame named start length text) = gives_each _ _ _ (λ s _. gives_each _ _ _ (λ v _. gives_each _ _ _ (λ f _. gives_each _ _ _ (λ n _. gives_each _ _ _ (λ x _. refl)))))
 check-keyed p actor (request.DropSignal variant frame named) = gives_each _ _ _ (λ s _. gives_each _ _ _ (λ v _. gives_each _ _ _ (λ f _. gives_each _ _ _ (λ n _. refl))))
-check-keyed p actor (request.Import variant label body) = gives_each _ _ _ (λ s _. gives_each _ _ _ (λ v _. gives_each _ _ _ (λ l _. refl)))
-check-keyed p actor (request.Replace variant whole body) = gives_each _ _ _ (λ s _. gives_each _ _ _ (λ v _. refl))
-check-keyed p actor (request.Try variant replaces body) = gives_each _ _ _ (λ s _. gives_each _ _ _ (λ v _. refl))
+check-keyed p actor (request.Deliver variant how body) = gives_each _ _ _ (λ s _. gives_each _ _ _ (λ v _. gives_each _ _ _ (λ h _. refl)))
 check-keyed p actor (request.Query asked) = gives_when _ _ _ _ (λ _. gives_each _ _ _ (λ q _. gives_when _ _ _ _ (λ _. refl)))
 
 -- ---- what a step makes of the suppliers
@@ -129,27 +129,31 @@ module _ (c : Cluster) (b : Book) where
       gives_bind _ _ (change_rows c.params b rows.supplier rows.variant rows.change) _
       (change_rows-keeps c.params b rows.supplier rows.variant rows.change) (λ after keeps. inl keeps.suppliers)
 
-  imported-stays : (i : Import) (count : ℕ) (r : Result Book RefusedAt) → IfOk r (Keeps b) → Stays (imported b i count r).book
+  imported-stays : (i : Delivery) (label : Name) (count : ℕ) (r : Result Book RefusedAt) → IfOk r (Keeps b) → Stays (imported b i label count r).book
   unfolding imported
-  imported-stays i count (Ok d) keeps = keeps.suppliers
-  imported-stays i count (Err fault) keeps = refl
+  imported-stays i label count (Ok d) keeps = keeps.suppliers
+  imported-stays i label count (Err fault) keeps = refl
 
-  import-stays : (p : Params) (i : Import) (kept : Option Kept) → IfOk (import p b i kept) StaysWith
+  import-stays : (p : Params) (i : Delivery) (label : Name) (kept : Option Kept) → IfOk (import p b i label kept) StaysWith
   unfolding import
-  import-stays p i None =
+  import-stays p i label None =
       gives_or _ (get b.variants i.variant) _ _ (λ x _.
       gives_when _ _ _ _ (λ _.
       gives_when _ _ _ _ (λ _.
       gives_when _ _ _ _ (λ _.
-      imported-stays i _ _ (rows-keep p i.supplier i.variant (rows_of_body p i.body) b)))))
-  import-stays p i (Some other) = gives_unless _ _ _ _ (λ _. refl)
+      imported-stays i label _ _ (rows-keep p i.supplier i.variant (rows_of_body p i.body) b)))))
+  import-stays p i label (Some other) = gives_unless _ _ _ _ (λ _. refl)
+
+  delivered-stays : (p : Params) (d : Delivery) (how : Purpose Name) → IfOk (deliver p b d how) StaysWith
+  unfolding deliver
+  delivered-stays p d (purpose.Import label) = import-stays p d label (get b.imports (d.supplier, label))
+  delivered-stays p d (purpose.Replacement whole) = gives_bind_last _ (λ (o : Outcome). Keeps b o.book) _ (replace-keeps p b d whole) (λ o keeps. keeps.suppliers)
+  delivered-stays p d (purpose.Trial how) = trial-leaves Stays b refl p d how
 
   act-becomes : (actor : Actor) (what : Checked) → IfOk (act c b actor what) (Becomes c b (keyed what))
   unfolding act
   act-becomes actor (checked.Command command) = perform-becomes command
-  act-becomes actor (checked.Import i) = gives_bind_last _ StaysWith _ (import-stays c.params i (get b.imports (i.supplier, i.label))) (λ o stays. inl stays)
-  act-becomes actor (checked.Replace r) = gives_bind_last _ (λ (o : Outcome). Keeps b o.book) _ (replace-keeps c.params b r) (λ o keeps. inl keeps.suppliers)
-  act-becomes actor (checked.Try t) = gives_bind_last _ StaysWith _ (trial-leaves Stays b refl c.params t) (λ o stays. inl stays)
+  act-becomes actor (checked.Deliver d) = gives_bind_last _ StaysWith _ (delivered-stays c.params d d.how) (λ o stays. inl stays)
   act-becomes actor (checked.Query query) = gives_each _ (reply c.params b actor query) _ (λ rows _. inl refl)
 
   outcome-becomes : (named : Option Name) (r : Result Outcome Refusal) → IfOk r (Becomes c b named) → Becomes c b named (outcome b r)

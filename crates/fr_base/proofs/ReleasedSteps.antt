@@ -1,5 +1,5 @@
 -- A released variant stays as it is, whatever is asked.
-use Rattle.std.proofs.Common.{◌≡◌, ℕ, true, false, cond, List, [], ◌∷◌, Option, Some, None, is_some, Result, Ok, Err, IfOk, IsTrue, refl, sym, ap, ◌∙◌, inl, inr, true≢false}
+use Rattle.std.proofs.Common.{Bool, ◌≡◌, ℕ, true, false, cond, List, [], ◌∷◌, Option, Some, None, is_some, Result, Ok, Err, IfOk, IsTrue, refl, sym, ap, ◌∙◌, inl, inr, true≢false}
 use Rattle.std.specs.Ordering.{eq_by_cmp}
 use Rattle.std.proofs.lemmas.Bool.{cases_Bool}
 use Rattle.fr_base.specs.Refusing.{◌>>=◌, ◌>>◌, ◌or◌, refuse◌when◌}
@@ -13,7 +13,7 @@ use Rattle.fr_base.specs.ImportRows.{rows_of_body}
 use Rattle.fr_base.specs.Queries.{shown, found, reply}
 use Rattle.fr_base.specs.Differences.{differences}
 use Rattle.fr_base.specs.declared.answer.ReportRows.TheVariants as rows
-use Rattle.fr_base.specs.Step.{Outcome, knows, with_variant, begun, common, add_supplier, set_key, add_node, own_rows, shared_by, admits, change_rows, done, perform, RefusedAt, frame_at, with_frame, act_row, act_rows, imported, import, replace_row, replace_rows, replace, act, outcome, step}
+use Rattle.fr_base.specs.Step.{Outcome, knows, with_variant, begun, common, add_supplier, set_key, add_node, own_rows, shared_by, admits, change_rows, done, perform, RefusedAt, frame_at, with_frame, act_row, act_rows, imported, import, replace_row, replace_rows, replace, act, deliver, outcome, step}
 use Rattle.fr_base.specs.Run.{IsRun}
 use Rattle.fr_base.specs.declared.key.Key.{Key}
 use Rattle.fr_base.specs.declared.name.Name.{Name}
@@ -35,13 +35,14 @@ use Rattle.fr_base.specs.declared.request.CommonCommand.TheVariants.{OpenVariant
 use Rattle.fr_base.specs.declared.request.Change.{Change}
 use Rattle.fr_base.specs.declared.request.Change.TheVariants as change
 use Rattle.fr_base.specs.declared.request.FrameChange.TheVariants.{Add, Place, AddSignal}
-use Rattle.fr_base.specs.declared.request.Import.{Import}
-use Rattle.fr_base.specs.declared.request.Replacement.{Replacement}
+use Rattle.fr_base.specs.declared.delivery.Delivery.{Delivery}
 use Rattle.fr_base.specs.declared.import.Row.{Row}
 use Rattle.fr_base.specs.declared.import.Row.TheVariants as row
 use Rattle.fr_base.specs.declared.import.RowRead.{RowRead}
 use Rattle.fr_base.specs.declared.request.Checked.{Checked}
 use Rattle.fr_base.specs.declared.request.Checked.TheVariants as checked
+use Rattle.fr_base.specs.declared.delivery.Purpose.{Purpose}
+use Rattle.fr_base.specs.declared.delivery.Purpose.TheVariants as purpose
 use Rattle.fr_base.proofs.TableLaws.{equal, get-insert}
 use Rattle.fr_base.proofs.SoundTables.{same_some}
 use Rattle.fr_base.proofs.SoundRefusing.{gives_or, gives_each, gives_then, gives_bind, gives_when, gives_unless}
@@ -141,21 +142,21 @@ module _ (v : Name) (x : Variant) (frozen : x.released ≡ true) (p : Params) (s
       gives_bind _ (Stays v x) _ _ (at_line-gives _ read.line _ (gives_each _ read.row _ (λ r _. row-stays b there r))) (λ d mid.
       rows-stay rest d mid)
 
-imported-stays : (v : Name) (x : Variant) (b : Book) → get b.variants v ≡ Some x → (i : Import) (count : ℕ) (r : Result Book RefusedAt) → IfOk r (Stays v x) → Stays v x (imported b i count r).book
+imported-stays : (v : Name) (x : Variant) (b : Book) → get b.variants v ≡ Some x → (i : Delivery) (label : Name) (count : ℕ) (r : Result Book RefusedAt) → IfOk r (Stays v x) → Stays v x (imported b i label count r).book
 unfolding imported
-imported-stays v x b there i count (Ok d) h = h
-imported-stays v x b there i count (Err fault) h = there
+imported-stays v x b there i label count (Ok d) h = h
+imported-stays v x b there i label count (Err fault) h = there
 
 module _ (b : Book) (v : Name) (x : Variant) (there : get b.variants v ≡ Some x) (frozen : x.released ≡ true) where
-  import-stays : (p : Params) (i : Import) (o : Option Kept) → IfOk (import p b i o) (λ o. Stays v x o.book)
+  import-stays : (p : Params) (i : Delivery) (label : Name) (o : Option Kept) → IfOk (import p b i label o) (λ o. Stays v x o.book)
   unfolding import
-  import-stays p i None =
+  import-stays p i label None =
       gives_or _ (get b.variants i.variant) _ _ (λ y _.
       gives_when _ _ _ _ (λ _.
       gives_when _ _ _ _ (λ _.
       gives_when _ _ _ _ (λ _.
-      imported-stays v x b there i _ _ (rows-stay v x frozen p i.supplier i.variant (rows_of_body p i.body) b there)))))
-  import-stays p i (Some one) = gives_unless _ _ _ _ (λ _. there)
+      imported-stays v x b there i label _ _ (rows-stay v x frozen p i.supplier i.variant (rows_of_body p i.body) b there)))))
+  import-stays p i label (Some one) = gives_unless _ _ _ _ (λ _. there)
 
 -- ---- a replacement
 
@@ -174,9 +175,9 @@ module _ (v : Name) (x : Variant) (frozen : x.released ≡ true) (p : Params) (s
       replace_rows-stay rest d mid)
 
 module _ (b : Book) (v : Name) (x : Variant) (there : get b.variants v ≡ Some x) (frozen : x.released ≡ true) where
-  replace-stays : (p : Params) (r : Replacement) → IfOk (replace p b r) (λ o. Stays v x o.book)
+  replace-stays : (p : Params) (r : Delivery) (whole : Bool) → IfOk (replace p b r whole) (λ o. Stays v x o.book)
   unfolding replace
-  replace-stays p r =
+  replace-stays p r whole =
       gives_or _ (get b.variants r.variant) _ _ (λ y found.
       gives_when _ _ y.released _ (λ open_yet.
       gives_when _ _ _ _ (λ _.
@@ -191,12 +192,16 @@ module _ (b : Book) (v : Name) (x : Variant) (there : get b.variants v ≡ Some 
   outcome-stays (Ok o) h = h
   outcome-stays (Err e) h = there
 
+  delivered-stays : (p : Params) (d : Delivery) (how : Purpose Name) → IfOk (deliver p b d how) (λ o. Stays v x o.book)
+  unfolding deliver
+  delivered-stays p d (purpose.Import label) = import-stays b v x there frozen p d label (get b.imports (d.supplier, label))
+  delivered-stays p d (purpose.Replacement whole) = replace-stays b v x there frozen p d whole
+  delivered-stays p d (purpose.Trial how) = trial-leaves (Stays v x) b there p d how
+
   act-stays : (c : Cluster) (actor : Actor) (what : Checked) → IfOk (act c b actor what) (λ o. Stays v x o.book)
   unfolding act
   act-stays c actor (checked.Command command) = perform-stays b v x there frozen c command
-  act-stays c actor (checked.Import i) = import-stays b v x there frozen c.params i (get b.imports (i.supplier, i.label))
-  act-stays c actor (checked.Replace r) = replace-stays b v x there frozen c.params r
-  act-stays c actor (checked.Try t) = trial-leaves (Stays v x) b there c.params t
+  act-stays c actor (checked.Deliver d) = delivered-stays c.params d d.how
   act-stays c actor (checked.Query query) = gives_each _ (reply c.params b actor query) _ (λ rows _. there)
 
   pub step-stays : (c : Cluster) (actor : Actor) (request : Request) → Stays v x (step c b actor request).book

@@ -11,7 +11,7 @@ use Rattle.fr_base.specs.ImportRows.{header_of_body, rows_of_body}
 use Rattle.fr_base.specs.ReplacingLaws.{is_named, begins_as}
 use Rattle.fr_base.specs.Brought.{placements_for, signals_for}
 use Rattle.fr_base.specs.ReplacedLaws.{IsFiledIn, ReplacedIsFiled}
-use Rattle.fr_base.specs.Step.{Outcome, RefusedAt, frame_at, free_rows, clear_all, whole_of, replaced, replace, act, outcome, knows, step}
+use Rattle.fr_base.specs.Step.{Outcome, RefusedAt, frame_at, free_rows, clear_all, whole_of, replaced, replace, act, deliver, outcome, knows, step}
 use Rattle.fr_base.specs.declared.answer.Answer.TheVariants.{Replaced}
 use Rattle.fr_base.specs.declared.actor.Actor.TheVariants.{Supplier}
 use Rattle.fr_base.specs.declared.import.Header.{Header}
@@ -21,8 +21,9 @@ use Rattle.fr_base.specs.declared.params.Params.{Params}
 use Rattle.fr_base.specs.declared.refusal.Refusal.{Refusal}
 use Rattle.fr_base.specs.declared.request.Checked.{Checked}
 use Rattle.fr_base.specs.declared.request.Checked.TheVariants as checked
-use Rattle.fr_base.specs.declared.request.Replacement.{Replacement}
+use Rattle.fr_base.specs.declared.delivery.Delivery.{Delivery}
 use Rattle.fr_base.specs.declared.request.Request.TheVariants as request
+use Rattle.fr_base.specs.declared.delivery.Purpose.TheVariants as purpose
 use Rattle.fr_base.proofs.SoundRefusing.{gives_or, gives_bind, gives_unless, gives_when}
 use Rattle.fr_base.proofs.ReplacingLaws.{it, check-is}
 use Rattle.fr_base.proofs.ClearedFrames.{begins-mine}
@@ -32,12 +33,12 @@ use Rattle.fr_base.proofs.BroughtLemmas.{Frees, RowsMake, rows-make, free_rows-f
 counted : {m n : ℕ} → Replaced m ≡ Replaced n → m ≡ n
 counted e = cc
 
-module _ (p : Params) (b : Book) (r : Replacement) where
+module _ (p : Params) (b : Book) (r : Delivery) (all : Bool) where
   abbrev reads : List RowRead
   reads = rows_of_body p r.body
 
   abbrev whole : Option Header
-  whole = whole_of r.whole (header_of_body r.body)
+  whole = whole_of all (header_of_body r.body)
 
   -- the frames before the rows act
   abbrev begun : Variant → Table owned Frame
@@ -65,7 +66,7 @@ module _ (p : Params) (b : Book) (r : Replacement) where
     replaced-told (Ok u) h rows told = (counted told, h.0, filed-in u h)
     replaced-told (Err fault) h rows told = cc
 
-  replace-told : contains b.suppliers r.supplier ≡ true → IfOk (replace p b r) Told
+  replace-told : contains b.suppliers r.supplier ≡ true → IfOk (replace p b r all) Told
   unfolding replace
   replace-told known =
       gives_or _ (get b.variants r.variant) _ _ (λ x found.
@@ -75,20 +76,20 @@ module _ (p : Params) (b : Book) (r : Replacement) where
       (replaced-told x found _ (rows-make p b r.supplier r.variant x reads (free_rows r.supplier reads (begun x)))))))
 
 module _ (c : Cluster) (b : Book) (s : Name) (variant body : List ℕ) (whole : Bool) where
-  outcome-told : (r : Result Outcome Refusal) → IfOk r (Told c.params b (it c b s variant body whole)) → Told c.params b (it c b s variant body whole) (outcome b r)
+  outcome-told : (r : Result Outcome Refusal) → IfOk r (Told c.params b (it c b s variant body whole) whole) → Told c.params b (it c b s variant body whole) whole (outcome b r)
   unfolding outcome
   outcome-told (Ok o) h = h
   outcome-told (Err e) h = λ rows told. cc
 
-  act-told : contains b.suppliers s ≡ true → (what : Checked) → what ≡ checked.Replace (it c b s variant body whole) → IfOk (act c b (Supplier s) what) (Told c.params b (it c b s variant body whole))
-  unfolding act
-  act-told known what is = subst (λ w. IfOk (act c b (Supplier s) w) (Told c.params b (it c b s variant body whole))) (sym is) (replace-told c.params b (it c b s variant body whole) known)
+  act-told : contains b.suppliers s ≡ true → (what : Checked) → what ≡ checked.Deliver (it c b s variant body whole) → IfOk (act c b (Supplier s) what) (Told c.params b (it c b s variant body whole) whole)
+  unfolding act deliver
+  act-told known what is = subst (λ w. IfOk (act c b (Supplier s) w) (Told c.params b (it c b s variant body whole) whole)) (sym is) (replace-told c.params b (it c b s variant body whole) whole known)
 
-  step-told : Told c.params b (it c b s variant body whole) (step c b (Supplier s) (request.Replace variant whole body))
+  step-told : Told c.params b (it c b s variant body whole) whole (step c b (Supplier s) (request.Deliver variant (purpose.Replacement whole) body))
   unfolding step
   step-told = outcome-told _ (
       gives_unless _ _ (knows b (Supplier s)) _ (λ known.
-      gives_bind _ _ (check c.params (Supplier s) (request.Replace variant whole body)) _ (check-is c b s variant body whole) (λ what is. act-told known what is)))
+      gives_bind _ _ (check c.params (Supplier s) (request.Deliver variant (purpose.Replacement whole) body)) _ (check-is c b s variant body whole) (λ what is. act-told known what is)))
 
 pub is_filed : ReplacedIsFiled
 is_filed c b s variant body whole rows told = step-told c b s variant body whole rows told

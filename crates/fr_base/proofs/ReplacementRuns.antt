@@ -10,7 +10,8 @@ use Rattle.fr_base.specs.declared.channel.Channels.TheVariants as chs
 use Rattle.fr_base.specs.declared.placement.Placement.{Placement}
 use Rattle.fr_base.specs.declared.refusal.Refusal.TheVariants.{NotYours, BadName, BadText, NoVariant, Released, NoNode, NoFrame, NodeDiffers, Limit, CellTaken, Exists}
 use Rattle.fr_base.specs.declared.request.Ask.{Ask}
-use Rattle.fr_base.specs.declared.request.Request.TheVariants.{Release, AddFrame, Replace, Query}
+use Rattle.fr_base.specs.declared.request.Request.TheVariants.{Release, AddFrame, Deliver, Query}
+use Rattle.fr_base.specs.declared.delivery.Purpose.TheVariants as purpose
 use Rattle.fr_base.specs.declared.query.Query.TheVariants.{Variant as OfVariant}
 use Rattle.fr_base.specs.declared.report.Report.TheVariants.{Frames, Layout}
 use Rattle.fr_base.specs.declared.signal.Order.{Order}
@@ -25,7 +26,7 @@ a_small_replacement = tt
 
 -- a replacement of `s1` in `v1`
 abbrev pub by : List ℕ → Ask
-by body = s1 (Replace (codes "v1") false body)
+by body = s1 (Deliver (codes "v1") (purpose.Replacement false) body)
 
 -- rows of placements
 abbrev pub placements : List ℕ → List ℕ
@@ -136,13 +137,13 @@ rows_of_signals = refl
 pub refused_before_rows :
     drop 4 (answers (granted ++ (
     into (codes "a") (placements (codes "f,n1,1,A,0,2\n"))
-    ∷ integrator (Replace (codes "1v") false [])
-    ∷ s1 (Replace (codes "1v") false [])
-    ∷ s1 (Replace (codes "v9") false (replicate 65537 48))
+    ∷ integrator (Deliver (codes "1v") (purpose.Replacement false) [])
+    ∷ s1 (Deliver (codes "1v") (purpose.Replacement false) [])
+    ∷ s1 (Deliver (codes "v9") (purpose.Replacement false) (replicate 65537 48))
     ∷ by (replicate 65537 48)
     ∷ by (replicate 65536 10)
     ∷ by (placements [])
-    ∷ s2 (Replace (codes "v1") false (placements (codes "f,n1,1,A,0,2\n")))
+    ∷ s2 (Deliver (codes "v1") (purpose.Replacement false) (placements (codes "f,n1,1,A,0,2\n")))
     ∷ s1 (Query (OfVariant (codes "v1") Frames))
     ∷ integrator (Release (codes "v1"))
     ∷ by (replicate 65537 48)

@@ -6,11 +6,11 @@ use Rattle.fr_base.specs.Tables.{Table, get, settle}
 use Rattle.fr_base.specs.Keys.{owned}
 use Rattle.fr_base.specs.Cluster.{Cluster}
 use Rattle.fr_base.specs.Names.{is_name, same_text}
-use Rattle.fr_base.specs.Checks.{asking, name, check}
+use Rattle.fr_base.specs.Checks.{asking, name, purpose, check}
 use Rattle.fr_base.specs.Book.{Frame, Variant, Book}
 use Rattle.fr_base.specs.ImportRows.{header_of_body, rows_of_body}
 use Rattle.fr_base.specs.ReplacingLaws.{IsElsewhereAs, ReplacedLeavesTheRest, is_freed, is_named}
-use Rattle.fr_base.specs.Step.{Outcome, RefusedAt, with_variant, own_rows, shared_by, admits, grants_after, frame_after, frames_after, changed, change_rows, frame_at, with_frame, act_row, frame_of_row, free_row, free_rows, clear_all, whole_of, with_freed, replace_row, replace_rows, replaced, replace, act, outcome, knows, step}
+use Rattle.fr_base.specs.Step.{Outcome, RefusedAt, with_variant, own_rows, shared_by, admits, grants_after, frame_after, frames_after, changed, change_rows, frame_at, with_frame, act_row, frame_of_row, free_row, free_rows, clear_all, whole_of, with_freed, replace_row, replace_rows, replaced, replace, act, deliver, outcome, knows, step}
 use Rattle.fr_base.specs.declared.answer.Answer.TheVariants.{Replaced}
 use Rattle.fr_base.specs.declared.actor.Actor.TheVariants.{Supplier}
 use Rattle.fr_base.specs.declared.import.Header.{Header}
@@ -25,8 +25,9 @@ use Rattle.fr_base.specs.declared.request.Checked.{Checked}
 use Rattle.fr_base.specs.declared.request.Checked.TheVariants as checked
 use Rattle.fr_base.specs.declared.request.FrameChange.{FrameChange}
 use Rattle.fr_base.specs.declared.request.FrameChange.TheVariants.{Add, Place, AddSignal}
-use Rattle.fr_base.specs.declared.request.Replacement.{Replacement}
+use Rattle.fr_base.specs.declared.delivery.Delivery.{Delivery}
 use Rattle.fr_base.specs.declared.request.Request.TheVariants as request
+use Rattle.fr_base.specs.declared.delivery.Purpose.TheVariants as purpose
 use Rattle.fr_base.proofs.SoundTables.{get-put, insert-again, same_some}
 use Rattle.fr_base.proofs.SoundRefusing.{gives_or, gives_bind, gives_then, gives_unless, gives_when}
 use Rattle.fr_base.proofs.SoundImports.{at_line-gives}
@@ -122,12 +123,12 @@ module _ (p : Params) (b : Book) (s v : Name) (whole : Option Header) (all : Lis
 
 -- ---- the replacement
 
-module _ (p : Params) (b : Book) (r : Replacement) where
+module _ (p : Params) (b : Book) (r : Delivery) (all : Bool) where
   abbrev reads : List RowRead
   reads = rows_of_body p r.body
 
   abbrev whole : Option Header
-  whole = whole_of r.whole (header_of_body r.body)
+  whole = whole_of all (header_of_body r.body)
 
   -- where it was carried out, all else is as before
   abbrev Told : Outcome → Type 0
@@ -138,7 +139,7 @@ module _ (p : Params) (b : Book) (r : Replacement) where
   replaced-told count (Ok d) h rows told = h
   replaced-told count (Err fault) h rows told = cc
 
-  replace-told : IfOk (replace p b r) Told
+  replace-told : IfOk (replace p b r all) Told
   unfolding replace
   replace-told =
       gives_or _ (get b.variants r.variant) _ _ (λ x found.
@@ -154,27 +155,27 @@ module _ (p : Params) (b : Book) (r : Replacement) where
       })))))
 
 module _ (c : Cluster) (b : Book) (s : Name) (variant body : List ℕ) (whole : Bool) where
-  abbrev pub it : Replacement
-  it = record { supplier = s; variant = variant; whole = whole; body = body }
+  abbrev pub it : Delivery
+  it = record { supplier = s; variant = variant; how = purpose.Replacement whole; body = body }
 
-  pub check-is : IfOk (check c.params (Supplier s) (request.Replace variant whole body)) (λ what. what ≡ checked.Replace it)
-  unfolding check asking name ◌>>=◌
+  pub check-is : IfOk (check c.params (Supplier s) (request.Deliver variant (purpose.Replacement whole) body)) (λ what. what ≡ checked.Deliver it)
+  unfolding check purpose asking name ◌>>=◌
   check-is = elim (cases_Bool (is_name variant)) [ inl h ↦ rw h refl | inr h ↦ rw h tt ]
 
-  outcome-told : (r : Result Outcome Refusal) → IfOk r (Told c.params b it) → Told c.params b it (outcome b r)
+  outcome-told : (r : Result Outcome Refusal) → IfOk r (Told c.params b it whole) → Told c.params b it whole (outcome b r)
   unfolding outcome
   outcome-told (Ok o) h = h
   outcome-told (Err e) h = λ rows told. cc
 
-  act-told : (what : Checked) → what ≡ checked.Replace it → IfOk (act c b (Supplier s) what) (Told c.params b it)
-  unfolding act
-  act-told what is = subst (λ w. IfOk (act c b (Supplier s) w) (Told c.params b it)) (sym is) (replace-told c.params b it)
+  act-told : (what : Checked) → what ≡ checked.Deliver it → IfOk (act c b (Supplier s) what) (Told c.params b it whole)
+  unfolding act deliver
+  act-told what is = subst (λ w. IfOk (act c b (Supplier s) w) (Told c.params b it whole)) (sym is) (replace-told c.params b it whole)
 
-  step-told : Told c.params b it (step c b (Supplier s) (request.Replace variant whole body))
+  step-told : Told c.params b it whole (step c b (Supplier s) (request.Deliver variant (purpose.Replacement whole) body))
   unfolding step
   step-told = outcome-told _ (
       gives_unless _ _ (knows b (Supplier s)) _ (λ _.
-      gives_bind _ _ (check c.params (Supplier s) (request.Replace variant whole body)) _ check-is (λ what is. act-told what is)))
+      gives_bind _ _ (check c.params (Supplier s) (request.Deliver variant (purpose.Replacement whole) body)) _ check-is (λ what is. act-told what is)))
 
 pub leaves_the_rest : ReplacedLeavesTheRest
 leaves_the_rest c b s variant body whole rows told = step-told c b s variant body whole rows told

@@ -1,6 +1,6 @@
 -- The same file again is answered the same and changes nothing: its rows act on frames that differ from those of the first time by frames
 -- without placements alone, which the rows would have added.
-use Rattle.std.proofs.Common.{◌≡◌, ℕ, Bool, true, false, not, cond, List, [], ◌∷◌, ◌++◌, length, map, filter, flat_map, nat_lt, nat_le, Option, Some, None, Result, Ok, Err, IfOk, refl, sym, ap, subst, ◌∙◌, inl, inr, true≢false}
+use Rattle.std.proofs.Common.{◌≡◌, ℕ, Bool, true, false, not, cond, List, [], ◌∷◌, ◌++◌, length, map, filter, flat_map, nat_lt, nat_le, Option, Some, None, Result, Ok, Err, IfOk, refl, sym, ap, subst, ◌∙◌, inl, inr}
 use Rattle.std.specs.Prelude.{⊤}
 use Rattle.std.specs.Ordering.{eq_by_cmp}
 use Rattle.std.specs.List.{AllByRecursion}
@@ -9,7 +9,7 @@ use Rattle.fr_base.specs.Refusing.{◌>>=◌, ◌>>◌, refuse◌when◌}
 use Rattle.fr_base.specs.Tables.{Table, Becomes, empty, get, contains, len, insert, only, settle}
 use Rattle.fr_base.specs.Keys.{owned}
 use Rattle.fr_base.specs.Cluster.{Cluster}
-use Rattle.fr_base.specs.Checks.{asking, name, check}
+use Rattle.fr_base.specs.Checks.{asking, name, purpose, check}
 use Rattle.fr_base.specs.Names.{is_name, same_text}
 use Rattle.fr_base.specs.Book.{Frame, Variant, Book, Sender, is_of, own_grants, granted, placements_of, schedule_of}
 use Rattle.fr_base.specs.Cells.{cells_of}
@@ -20,7 +20,7 @@ use Rattle.fr_base.specs.Brought.{nodes_for, placements_for, signals_for, had_pl
 use Rattle.fr_base.specs.ImportRows.{header_of_body, rows_of_body}
 use Rattle.fr_base.specs.ReplacingLaws.{is_named}
 use Rattle.fr_base.specs.ReplacedLaws.{SameFileChangesNothing}
-use Rattle.fr_base.specs.Step.{Outcome, RefusedAt, shared_by, cell_taken, admits_frame, frame_after, at_line, kind_of_row, freed, frame_of_row, free_row, free_rows, clear_all, whole_of, replace_rows, replaced, replace, act, outcome, step}
+use Rattle.fr_base.specs.Step.{Outcome, RefusedAt, shared_by, cell_taken, admits_frame, frame_after, at_line, free_rows, clear_all, whole_of, replace_rows, replaced, replace, act, deliver, outcome, step}
 use Rattle.fr_base.specs.declared.answer.Answer.TheVariants.{Replaced}
 use Rattle.fr_base.specs.declared.actor.Actor.TheVariants.{Supplier}
 use Rattle.fr_base.specs.declared.limits.TheConstants.{MAX_IMPORT_BYTES, MAX_PLACEMENTS}
@@ -35,8 +35,9 @@ use Rattle.fr_base.specs.declared.refusal.Refusal.{Refusal}
 use Rattle.fr_base.specs.declared.refusal.Refusal.TheVariants.{NoNode, NodeDiffers, NotGranted, Limit}
 use Rattle.fr_base.specs.declared.request.FrameChange.{FrameChange}
 use Rattle.fr_base.specs.declared.request.FrameChange.TheVariants.{Add, Place, AddSignal}
-use Rattle.fr_base.specs.declared.request.Replacement.{Replacement}
+use Rattle.fr_base.specs.declared.delivery.Delivery.{Delivery}
 use Rattle.fr_base.specs.declared.request.Request.TheVariants as request
+use Rattle.fr_base.specs.declared.delivery.Purpose.TheVariants as purpose
 use Rattle.fr_base.proofs.TableLaws.{equal, get-insert, get-only, same_table, kept}
 use Rattle.fr_base.proofs.SoundTables.{get-put, same_some}
 use Rattle.fr_base.proofs.SoundRows.{same_text-is}
@@ -366,13 +367,13 @@ module _ (p : Params) (b : Book) (s v : Name) (y : Variant) where
 -- ---- the step
 
 pub step-replace : (c : Cluster) (b : Book) (s : Name) (variant body : List ℕ) (whole : Bool) → contains b.suppliers s ≡ true → is_name variant ≡ true →
-    step c b (Supplier s) (request.Replace variant whole body) ≡ outcome b (replace c.params b (record { supplier = s; variant = variant; whole = whole; body = body }))
-unfolding step act check asking name ◌>>=◌ ◌>>◌ refuse◌when◌
+    step c b (Supplier s) (request.Deliver variant (purpose.Replacement whole) body) ≡ outcome b (replace c.params b (record { supplier = s; variant = variant; how = purpose.Replacement whole; body = body }) whole)
+unfolding step act deliver check purpose asking name ◌>>=◌ ◌>>◌ refuse◌when◌
 step-replace c b s variant body whole known named = rw (known, named) refl
 
 module _ (c : Cluster) (b : Book) (s : Name) (variant body : List ℕ) (whole : Bool) (known : contains b.suppliers s ≡ true) (named : is_name variant ≡ true) where
-  abbrev it : Replacement
-  it = record { supplier = s; variant = variant; whole = whole; body = body }
+  abbrev it : Delivery
+  it = record { supplier = s; variant = variant; how = purpose.Replacement whole; body = body }
 
   abbrev reads : List RowRead
   reads = rows_of_body c.params body
@@ -383,14 +384,14 @@ module _ (c : Cluster) (b : Book) (s : Name) (variant body : List ℕ) (whole : 
 
   -- the same again
   abbrev IsStable : Outcome → Type 0
-  IsStable o = (after : Book) (rows : ℕ) → o ≡ record { book = after; answer = Replaced rows } → step c after (Supplier s) (request.Replace variant whole body) ≡ record { book = after; answer = Replaced rows }
+  IsStable o = (after : Book) (rows : ℕ) → o ≡ record { book = after; answer = Replaced rows } → step c after (Supplier s) (request.Deliver variant (purpose.Replacement whole) body) ≡ record { book = after; answer = Replaced rows }
 
   module _ (x : Variant) (found : get b.variants variant ≡ Some x) (open_now : x.released ≡ false) (short : nat_lt MAX_IMPORT_BYTES (length body) ≡ false) where
     abbrev now : Table owned Frame → Book
     now t = at c.params b s variant x t
 
     again_at : (u : Table owned Frame) → run_in c.params b s variant x true (free_rows s reads (begun x.frames)) reads ≡ Ok u →
-        step c (now u) (Supplier s) (request.Replace variant whole body) ≡ record { book = now u; answer = Replaced (length reads) }
+        step c (now u) (Supplier s) (request.Deliver variant (purpose.Replacement whole) body) ≡ record { book = now u; answer = Replaced (length reads) }
     unfolding replace outcome replaced lifted
     again_at u made =
         step-replace c (now u) s variant body whole known named
@@ -406,7 +407,7 @@ module _ (c : Cluster) (b : Book) (s : Name) (variant body : List ℕ) (whole : 
     made-stable : (made : Result (Table owned Frame) RefusedAt) → run_in c.params b s variant x true (free_rows s reads (begun x.frames)) reads ≡ made → IsStable (replaced b (length reads) (lifted c.params b s variant x made))
     unfolding replaced lifted
     made-stable (Ok u) made after rows is =
-        subst (λ (o : Outcome). step c o.book (Supplier s) (request.Replace variant whole body) ≡ record { book = o.book; answer = o.answer }) is (again_at u made)
+        subst (λ (o : Outcome). step c o.book (Supplier s) (request.Deliver variant (purpose.Replacement whole) body) ≡ record { book = o.book; answer = o.answer }) is (again_at u made)
     made-stable (Err fault) made after rows is = let no = ap (λ (o : Outcome). o.answer) is in cc
 
   outcome-stable : (r : Result Outcome Refusal) → IfOk r IsStable → IsStable (outcome b r)
@@ -414,7 +415,7 @@ module _ (c : Cluster) (b : Book) (s : Name) (variant body : List ℕ) (whole : 
   outcome-stable (Ok o) h = h
   outcome-stable (Err e) h = λ after rows is. let no = ap (λ (o : Outcome). o.answer) is in cc
 
-  replace-stable : IfOk (replace c.params b it) IsStable
+  replace-stable : IfOk (replace c.params b it whole) IsStable
   unfolding replace
   replace-stable =
       gives_or _ (get b.variants variant) _ _ (λ x found.
@@ -423,12 +424,12 @@ module _ (c : Cluster) (b : Book) (s : Name) (variant body : List ℕ) (whole : 
       subst (λ z. IsStable (replaced b (length reads) z)) (sym (replace_rows-lift c.params b s variant x open_now known reads (free_rows s reads (begun x.frames))))
       (made-stable x found open_now short _ refl))))
 
-  stable : IsStable (step c b (Supplier s) (request.Replace variant whole body))
+  stable : IsStable (step c b (Supplier s) (request.Deliver variant (purpose.Replacement whole) body))
   stable = subst IsStable (sym (step-replace c b s variant body whole known named)) (outcome-stable _ replace-stable)
 
-was_asked : (c : Cluster) (b after : Book) (s : Name) (variant body : List ℕ) (whole : Bool) (rows : ℕ) → step c b (Supplier s) (request.Replace variant whole body) ≡ record { book = after; answer = Replaced rows } →
+was_asked : (c : Cluster) (b after : Book) (s : Name) (variant body : List ℕ) (whole : Bool) (rows : ℕ) → step c b (Supplier s) (request.Deliver variant (purpose.Replacement whole) body) ≡ record { book = after; answer = Replaced rows } →
     (contains b.suppliers s ≡ true) × (is_name variant ≡ true)
-unfolding step act check asking name outcome ◌>>=◌ ◌>>◌ refuse◌when◌
+unfolding step act deliver check purpose asking name outcome ◌>>=◌ ◌>>◌ refuse◌when◌
 was_asked c b after s variant body whole rows told = elim (cases_Bool (contains b.suppliers s)) [
   | inl known ↦ elim (cases_Bool (is_name variant)) [
     | inl named ↦ (known, named)

@@ -7,7 +7,7 @@ use Rattle.fr_base.specs.Names.{is_name, is_key}
 use Rattle.fr_base.specs.Cycles.{Cycles, are_cycles}
 use Rattle.fr_base.specs.Signals.{is_signal_length, order_of_text}
 use Rattle.fr_base.specs.Channels.{channels_in, has_channel, channel_of_text, channels_of_text}
-use Rattle.fr_base.specs.Checks.{asking, key, name, cycles, slot, channel, channels, placement, signal, beginning, query, has_repetition, check}
+use Rattle.fr_base.specs.Checks.{asking, key, name, cycles, slot, channel, channels, placement, purpose, signal, beginning, query, has_repetition, check}
 use Rattle.fr_base.specs.Sound.{HasChannelSlot, FitsCluster}
 use Rattle.fr_base.specs.declared.name.Name.{Name}
 use Rattle.fr_base.specs.declared.params.Params.{Params}
@@ -22,9 +22,11 @@ use Rattle.fr_base.specs.declared.request.Change.{Change}
 use Rattle.fr_base.specs.declared.request.Change.TheVariants.{Grant, Revoke, Frame}
 use Rattle.fr_base.specs.declared.request.FrameChange.{FrameChange}
 use Rattle.fr_base.specs.declared.request.FrameChange.TheVariants.{Add, Drop, Place, Unplace, AddSignal, DropSignal}
-use Rattle.fr_base.specs.declared.request.Import.{Import}
+use Rattle.fr_base.specs.declared.delivery.Delivery.{Delivery}
 use Rattle.fr_base.specs.declared.request.Checked.{Checked}
 use Rattle.fr_base.specs.declared.request.Checked.TheVariants as checked
+use Rattle.fr_base.specs.declared.delivery.Purpose.TheVariants.{Import, Replacement, Trial}
+use Rattle.fr_base.specs.declared.delivery.Purpose.{Purpose}
 use Rattle.fr_base.proofs.SoundRefusing.{gives_or, gives_bind, gives_each, gives_when, gives_unless}
 
 -- a frame that is added has a name, a placement fits the cluster, and a signal has a name and 1 to 64 bits
@@ -51,17 +53,20 @@ HasForm p (SetKey s k) = IsTrue (is_key k)
 HasForm p (AddNode s n) = IsTrue (is_name n)
 HasForm p (Rows rows) = IsFormedChange p rows.change
 
--- an import is the asking supplier's, and its variant and its label are names
-pub record IsFormedImport (actor : Actor) (i : Import) : Type 0 where
-  pub asks : actor ≡ Supplier i.supplier
-  pub variant : IsTrue (is_name i.variant)
-  pub label : IsTrue (is_name i.label)
+-- the label of an import is a name
+abbrev pub IsFormedPurpose : Purpose Name → Type 0
+IsFormedPurpose (Import label) = IsTrue (is_name label)
+IsFormedPurpose _ = ⊤
+
+-- a file is delivered by the supplier that asks, and its variant and its label are names
+pub record IsFormedDelivery (actor : Actor) (d : Delivery) : Type 0 where
+  pub asks : actor ≡ Supplier d.supplier
+  pub variant : IsTrue (is_name d.variant)
+  pub how : IsFormedPurpose d.how
 
 abbrev pub IsFormed : Params → Actor → Checked → Type 0
 IsFormed p actor (checked.Command command) = HasForm p command
-IsFormed p actor (checked.Import i) = IsFormedImport actor i
-IsFormed p actor (checked.Replace r) = actor ≡ Supplier r.supplier
-IsFormed p actor (checked.Try t) = actor ≡ Supplier t.supplier
+IsFormed p actor (checked.Deliver d) = IsFormedDelivery actor d
 IsFormed p actor (checked.Query query) = IsTrue (has_repetition p query)
 
 asking-form : (actor : Actor) → IfOk (asking actor) (λ s. actor ≡ Supplier s)
@@ -72,6 +77,12 @@ asking-form (Supplier s) = refl
 pub name-form : (text : List ℕ) → IfOk (name text) (λ v. IsTrue (is_name v))
 unfolding name
 name-form text = elim (cases_Bool (is_name text)) [ inl h ↦ rw h (h) | inr h ↦ rw h tt ]
+
+purpose-form : (how : Purpose (List ℕ)) → IfOk (purpose how) IsFormedPurpose
+unfolding purpose
+purpose-form (Import label) = gives_bind _ _ (name label) _ (name-form label) (λ l labelled. labelled)
+purpose-form (Replacement whole) = tt
+purpose-form (Trial how) = tt
 
 key-form : (text : List ℕ) → IfOk (key text) (λ k. IsTrue (is_key k))
 unfolding key
@@ -176,17 +187,11 @@ check-form p actor (request.DropSignal variant frame named) =
     gives_each _ (name variant) _ (λ v _.
     gives_each _ (name frame) _ (λ f _.
     gives_each _ (name named) _ (λ n _. tt))))
-check-form p actor (request.Import variant label body) =
+check-form p actor (request.Deliver variant how body) =
     gives_bind _ _ (asking actor) _ (asking-form actor) (λ s asks.
     gives_bind _ _ (name variant) _ (name-form variant) (λ v named.
-    gives_bind _ _ (name label) _ (name-form label) (λ l labelled.
-    record { asks = asks; variant = named; label = labelled })))
-check-form p actor (request.Replace variant whole body) =
-    gives_bind _ _ (asking actor) _ (asking-form actor) (λ s asks.
-    gives_each _ (name variant) _ (λ v _. asks))
-check-form p actor (request.Try variant how body) =
-    gives_bind _ _ (asking actor) _ (asking-form actor) (λ s asks.
-    gives_each _ (name variant) _ (λ v _. asks))
+    gives_bind _ _ (purpose how) _ (purpose-form how) (λ h formed.
+    record { asks = asks; variant = named; how = formed })))
 check-form p actor (request.Query asked) =
     gives_when _ _ _ _ (λ _.
     gives_each _ (query asked) _ (λ q _.

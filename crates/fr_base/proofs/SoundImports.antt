@@ -20,7 +20,7 @@ use Rattle.fr_base.specs.declared.refusal.Refusal.{Refusal}
 use Rattle.fr_base.specs.declared.request.Change.{Change}
 use Rattle.fr_base.specs.declared.request.Change.TheVariants as change
 use Rattle.fr_base.specs.declared.request.FrameChange.TheVariants.{Add, Place, AddSignal}
-use Rattle.fr_base.specs.declared.request.Import.{Import}
+use Rattle.fr_base.specs.declared.delivery.Delivery.{Delivery}
 use Rattle.fr_base.proofs.SoundTables.{some_there, contains-more}
 use Rattle.fr_base.proofs.SoundRows.{more_imports-sound}
 use Rattle.fr_base.proofs.SoundRefusing.{gives_or, gives_bind, gives_each, gives_then, gives_when, gives_unless, gives_bind_last}
@@ -120,12 +120,12 @@ module _ (c : Cluster) (s v : Name) where
 
 -- ---- the import
 
-module _ (c : Cluster) (b : Book) (sound : IsSound c b) (i : Import) (labelled : IsTrue (is_name i.label)) (known : IsTrue (contains b.suppliers i.supplier)) where
+module _ (c : Cluster) (b : Book) (sound : IsSound c b) (i : Delivery) (label : Name) (labelled : IsTrue (is_name label)) (known : IsTrue (contains b.suppliers i.supplier)) where
   imported-sound : (there : IsTrue (contains b.variants i.variant)) → length i.body ≤ MAX_IMPORT_BYTES → len (own i.supplier b.imports) < MAX_IMPORTS → (count : ℕ) (r : Result Book RefusedAt) →
-      IfOk r (λ d. IsSound c d × (Keeps b d × (count ≤ MAX_ROWS))) → IsSound c (imported b i count r).book
+      IfOk r (λ d. IsSound c d × (Keeps b d × (count ≤ MAX_ROWS))) → IsSound c (imported b i label count r).book
   unfolding imported
   imported-sound there short room count (Ok d) h =
-      more_imports-sound c d h.0 i.supplier i.label (record { variant = i.variant; body = i.body; rows = count })
+      more_imports-sound c d h.0 i.supplier label (record { variant = i.variant; body = i.body; rows = count })
       (record {
         label = labelled;
         supplier = ap (λ t. contains t i.supplier) h.1.0.suppliers ∙ known;
@@ -145,7 +145,7 @@ module _ (c : Cluster) (b : Book) (sound : IsSound c b) (i : Import) (labelled :
       (both_ok (Keeps b) (λ _. length reads ≤ MAX_ROWS) _ (rows-keep c.params i.supplier i.variant reads b)
       (gives_bind_last (λ _. length reads ≤ MAX_ROWS) (λ e. IsSound c e × AllByRecursion IsRead reads) _ all (λ d h. few_rows c.params i.body h.1)))
 
-  pub import-sound : (kept : Option Kept) → IfOk (import c.params b i kept) (λ o. IsSound c o.book)
+  pub import-sound : (kept : Option Kept) → IfOk (import c.params b i label kept) (λ o. IsSound c o.book)
   unfolding import
   import-sound None =
       gives_or _ (get b.variants i.variant) _ _ (λ x found.

@@ -1,5 +1,5 @@
 -- A replacement leaves a sound book sound, and its suppliers, nodes and kept imports as they were.
-use Rattle.std.proofs.Common.{◌≡◌, ℕ, ◌≤◌, List, [], ◌∷◌, Option, Some, None, Result, Ok, Err, IfOk, refl, inl, inr}
+use Rattle.std.proofs.Common.{Bool, ◌≡◌, ℕ, ◌≤◌, List, [], ◌∷◌, Option, Some, None, Result, Ok, Err, IfOk, refl, inl, inr}
 use Rattle.std.specs.Prelude.{⊤}
 use Rattle.std.specs.List.{AllByRecursion, list_any}
 use Rattle.std.proofs.lemmas.Bool.{cases_Bool}
@@ -19,7 +19,7 @@ use Rattle.fr_base.specs.declared.import.RowRead.{RowRead}
 use Rattle.fr_base.specs.declared.name.Name.{Name}
 use Rattle.fr_base.specs.declared.params.Params.{Params}
 use Rattle.fr_base.specs.declared.refusal.Refusal.{Refusal}
-use Rattle.fr_base.specs.declared.request.Replacement.{Replacement}
+use Rattle.fr_base.specs.declared.delivery.Delivery.{Delivery}
 use Rattle.fr_base.proofs.ParametersLaws.{few_words}
 use Rattle.fr_base.proofs.SoundTables.{contains-more}
 use Rattle.fr_base.proofs.SoundRows.{dropped-sound, lesser_frame-sound, changed-sound}
@@ -130,22 +130,22 @@ module _ (P : Book → Type 0) (b : Book) (old : P b) where
   replaced-gives count (Ok d) h = h
   replaced-gives count (Err fault) h = old
 
-pub replace-sound : (c : Cluster) (b : Book) → IsSound c b → (r : Replacement) → IfOk (replace c.params b r) (λ o. IsSound c o.book)
+pub replace-sound : (c : Cluster) (b : Book) → IsSound c b → (r : Delivery) (whole : Bool) → IfOk (replace c.params b r whole) (λ o. IsSound c o.book)
 unfolding replace
-replace-sound c b sound r =
+replace-sound c b sound r whole =
     gives_or _ (get b.variants r.variant) _ _ (λ x found.
     gives_when _ _ _ _ (λ _.
     gives_when _ _ _ _ (λ _.
     let reads : List RowRead = rows_of_body c.params r.body in
-    replaced-gives (IsSound c) b sound _ _ (replace_rows-sound c r.supplier r.variant reads _ (with_freed-sound c b sound r.supplier r.variant x found (whole_of r.whole (header_of_body r.body)) reads) (body-form c.params r.body)))))
+    replaced-gives (IsSound c) b sound _ _ (replace_rows-sound c r.supplier r.variant reads _ (with_freed-sound c b sound r.supplier r.variant x found (whole_of whole (header_of_body r.body)) reads) (body-form c.params r.body)))))
 
-pub replace-keeps : (p : Params) (b : Book) (r : Replacement) → IfOk (replace p b r) (λ o. Keeps b o.book)
+pub replace-keeps : (p : Params) (b : Book) (r : Delivery) (whole : Bool) → IfOk (replace p b r whole) (λ o. Keeps b o.book)
 unfolding replace
-replace-keeps p b r =
+replace-keeps p b r whole =
     gives_or _ (get b.variants r.variant) _ _ (λ x _.
     gives_when _ _ _ _ (λ _.
     gives_when _ _ _ _ (λ _.
     let reads : List RowRead = rows_of_body p r.body in
     replaced-gives (Keeps b) b (keeps_all b) _ _ (
-    gives_bind_last _ (Keeps (with_freed b r.supplier r.variant x (whole_of r.whole (header_of_body r.body)) reads)) _ (replace_rows-keep p r.supplier r.variant reads _) (λ e last.
-    keeps_on b _ e (with_freed-keeps b r.supplier r.variant x (whole_of r.whole (header_of_body r.body)) reads) last)))))
+    gives_bind_last _ (Keeps (with_freed b r.supplier r.variant x (whole_of whole (header_of_body r.body)) reads)) _ (replace_rows-keep p r.supplier r.variant reads _) (λ e last.
+    keeps_on b _ e (with_freed-keeps b r.supplier r.variant x (whole_of whole (header_of_body r.body)) reads) last)))))

@@ -1,5 +1,5 @@
 -- After a whole replacement in a sound book the export of its kind has the rows of its file and no others, each once.
-use Rattle.std.proofs.Common.{◌≡◌, ℕ, Bool, true, false, ◌||◌, ◌&&◌, cond, nat_lt, ◌⊎◌, inl, inr, All, AllPairs, List, [], ◌∷◌, ◌++◌, map, flat_map, Option, Some, None, is_some, Result, Ok, Err, IfOk, IsTrue, refl, sym, ap, subst, ◌∙◌, true≢false}
+use Rattle.std.proofs.Common.{◌≡◌, Bool, true, false, ◌||◌, nat_lt, ◌⊎◌, inl, inr, All, AllPairs, List, [], ◌∷◌, ◌++◌, map, flat_map, Option, Some, None, is_some, Result, Ok, Err, IfOk, refl, sym, ap, subst, ◌∙◌, true≢false}
 use Rattle.std.specs.Prelude.{T, ⊤}
 use Rattle.std.specs.List.{AllByRecursion, list_all, list_any}
 use Rattle.std.specs.Option.{option_and_then}
@@ -10,15 +10,13 @@ use Rattle.std.proofs.lemmas.List.Elements.{All-head, All-tail}
 use Rattle.fr_base.specs.TableRows.{first, second}
 use Rattle.fr_base.specs.Tables.{Order, Table, from_rows, get}
 use Rattle.fr_base.specs.Keys.{owned, placement_order}
-use Rattle.fr_base.specs.Cluster.{Cluster}
 use Rattle.fr_base.specs.Names.{same_text}
 use Rattle.fr_base.specs.Signals.{SignalData}
 use Rattle.fr_base.specs.Layouts.{with_signal}
 use Rattle.fr_base.specs.Book.{Frame, Variant, Book, is_of, own}
 use Rattle.fr_base.specs.Brought.{if_named, node_for, nodes_for, placement_for, placements_for, signal_for, signals_for, had_placements, had_signals, put_in}
-use Rattle.fr_base.specs.ImportRows.{header_of_body, rows_of_body}
+use Rattle.fr_base.specs.ImportRows.{rows_of_body}
 use Rattle.fr_base.specs.ReplacingLaws.{names_frame, is_named}
-use Rattle.fr_base.specs.Sound.{IsSound}
 use Rattle.fr_base.specs.Step.{frame_at, frame_of_row, kind_of_row, step}
 use Rattle.fr_base.specs.WholeLaws.{AreTheRows, EachOnce, IsAmong, IsOfItsNode, TakenIsSent, all_records, frame_of_file, made_by_file, placed_by_file, signalled_by_file}
 use Rattle.fr_base.specs.declared.actor.Actor.TheVariants.{Supplier}
@@ -30,7 +28,8 @@ use Rattle.fr_base.specs.declared.import.RowRead.{RowRead}
 use Rattle.fr_base.specs.declared.name.Name.{Name}
 use Rattle.fr_base.specs.declared.placement.Placement.{Placement}
 use Rattle.fr_base.specs.declared.refusal.Refusal.{Refusal}
-use Rattle.fr_base.specs.declared.request.Request.TheVariants.{Replace}
+use Rattle.fr_base.specs.declared.request.Request.TheVariants.{Deliver}
+use Rattle.fr_base.specs.declared.delivery.Purpose.TheVariants as purpose
 use Rattle.fr_base.proofs.TableLaws.{equal, get-from_rows, none_above}
 use Rattle.fr_base.proofs.SoundTables.{get-passing, same_key, same_some}
 use Rattle.fr_base.proofs.SoundRows.{same_text-is}
@@ -542,11 +541,11 @@ pub taken_is_sent : TakenIsSent
 taken_is_sent c b s variant body kind rows x sound told header found =
     let filed = whole_is_filed c b s variant body rows told in
     let reads : List RowRead = rows_of_body c.params body in
-    let after : Book = (step c b (Supplier s) (Replace variant true body)).book in
+    let after : Book = (step c b (Supplier s) (Deliver variant (purpose.Replacement true) body)).book in
     let same : filed.2.0 ≡ kind = same_some _ _ (sym filed.2.1 ∙ header) in
     let at : (f : Name) → frame_at after s variant f ≡ get x.frames (s, f) = λ f. ap (option_and_then (λ (y : Variant). get y.frames (s, f))) found in
     the_rows s x.frames reads (frame_at b s variant)
-    (λ k w is. (((step-sound c b sound (Supplier s) (Replace variant true body)).variants variant x found).1.frames k w is).layout.names)
+    (λ k w is. (((step-sound c b sound (Supplier s) (Deliver variant (purpose.Replacement true) body)).variants variant x found).1.frames k w is).layout.names)
     (λ f. subst (IsOfItsNode reads f) (at f) (filed.2.2 f).1)
     (λ f named. ap is_some (sym (at f)) ∙ (filed.2.2 f).2 named)
     kind (body-kind c.params kind body header)

@@ -4,11 +4,11 @@ use Rattle.std.proofs.lemmas.Bool.{cases_Bool, lt-leb}
 use Rattle.fr_base.specs.Refusing.{◌>>=◌, ◌>>◌, ◌or◌, refuse◌when◌}
 use Rattle.fr_base.specs.Tables.{get, contains, len}
 use Rattle.fr_base.specs.Cluster.{Cluster}
-use Rattle.fr_base.specs.Checks.{asking, name, check}
+use Rattle.fr_base.specs.Checks.{asking, name, purpose, check}
 use Rattle.fr_base.specs.Names.{is_name}
 use Rattle.fr_base.specs.Book.{Book, own}
 use Rattle.fr_base.specs.ImportRows.{row_at, rows_from, header_of, header_of_body, rows_below, rows_of_records, up_to_refused, records_of, rows_of_body, all_rows_of_body}
-use Rattle.fr_base.specs.Step.{Outcome, RefusedAt, at_line, act_row, act_rows, imported, import_rows, import, whole_of, with_freed, replace_row, replace_rows, replaced, replace, fate_of, fates_of, try, knows, act, outcome, step}
+use Rattle.fr_base.specs.Step.{Outcome, RefusedAt, at_line, act_row, act_rows, imported, import_rows, import, whole_of, with_freed, replace_row, replace_rows, replaced, replace, fate_of, fates_of, try, knows, act, deliver, outcome, step}
 use Rattle.fr_base.specs.Fates.{told_by, answer_told}
 use Rattle.fr_base.specs.declared.limits.TheConstants.{MAX_ROWS, MAX_IMPORTS, MAX_IMPORT_BYTES}
 use Rattle.fr_base.specs.declared.answer.Answer.{Answer}
@@ -25,11 +25,12 @@ use Rattle.fr_base.specs.declared.refusal.Refusal.TheVariants.{NoVariant, Releas
 use Rattle.fr_base.specs.declared.actor.Actor.{Actor}
 use Rattle.fr_base.specs.declared.actor.Actor.TheVariants.{Supplier}
 use Rattle.fr_base.specs.declared.request.Request.TheVariants as request
-use Rattle.fr_base.specs.declared.request.Import.{Import}
-use Rattle.fr_base.specs.declared.request.Manner.{Manner}
-use Rattle.fr_base.specs.declared.request.Manner.TheVariants as manner
-use Rattle.fr_base.specs.declared.request.Replacement.{Replacement}
+use Rattle.fr_base.specs.declared.delivery.Delivery.{Delivery}
+use Rattle.fr_base.specs.declared.delivery.Manner.{Manner}
+use Rattle.fr_base.specs.declared.delivery.Manner.TheVariants as manner
 use Rattle.fr_base.specs.declared.request.Checked.{Checked}
+use Rattle.fr_base.specs.declared.delivery.Purpose.TheVariants as purpose
+use Rattle.fr_base.specs.declared.request.Checked.TheVariants as checked
 use Rattle.fr_base.proofs.SoundRefusing.{gives_bind, gives_each, gives_unless}
 use Rattle.fr_base.proofs.SoundTrials.{trial-leaves}
 use Rattle.fr_base.proofs.AloneRefusing.{alike_bind, alike_when}
@@ -114,10 +115,10 @@ module _ (p : Params) (s v : Name) where
 
 -- ---- the answers
 
-imported-told : (b : Book) (i : Import) (count : ℕ) (r : Result Book RefusedAt) → (imported b i count r).answer ≡ answer_of answer.Imported count r
+imported-told : (b : Book) (i : Delivery) (label : Name) (count : ℕ) (r : Result Book RefusedAt) → (imported b i label count r).answer ≡ answer_of answer.Imported count r
 unfolding imported
-imported-told b i count (Ok d) = refl
-imported-told b i count (Err fault) = refl
+imported-told b i label count (Ok d) = refl
+imported-told b i label count (Err fault) = refl
 
 replaced-told : (b : Book) (count : ℕ) (r : Result Book RefusedAt) → (replaced b count r).answer ≡ answer_of answer.Replaced count r
 unfolding replaced
@@ -137,38 +138,38 @@ module _ (p : Params) (b : Book) where
   abbrev all_told : (ℕ → Answer) → Manner → Book → Name → Name → List ℕ → Result Outcome Refusal → Type 0
   all_told done how d s v body r = IsTold b done r (Ok (record { book = b; answer = answer.Report false (shows.Fates (fates_of p how d s v (all_rows_of_body p body))) }))
 
-  imported_rows-told : (i : Import) → nat_le MAX_IMPORTS (len (own i.supplier b.imports)) ≡ false →
-      all_told answer.Imported manner.Import b i.supplier i.variant i.body ((refuse Limit when nat_le MAX_IMPORTS (len (own i.supplier b.imports))) >> Ok (import_rows p b i (rows_of_body p i.body)))
+  imported_rows-told : (i : Delivery) (label : Name) → nat_le MAX_IMPORTS (len (own i.supplier b.imports)) ≡ false →
+      all_told answer.Imported manner.Import b i.supplier i.variant i.body ((refuse Limit when nat_le MAX_IMPORTS (len (own i.supplier b.imports))) >> Ok (import_rows p b i label (rows_of_body p i.body)))
   unfolding outcome ◌>>◌ refuse◌when◌
-  imported_rows-told i few = rw few (
-      imported-told b i _ _
+  imported_rows-told i label few = rw few (
+      imported-told b i label _ _
       ∙ ap (λ reads. answer_of answer.Imported (length reads) (act_rows p b i.supplier i.variant reads)) (sym (body_ends p i.body))
       ∙ acts_told p i.supplier i.variant (all_rows_of_body p i.body) b)
 
-  import-told : (i : Import) → nat_le MAX_IMPORTS (len (own i.supplier b.imports)) ≡ false →
-      IsTold b answer.Imported (import p b i None) (try p b (record { supplier = i.supplier; variant = i.variant; manner = manner.Import; body = i.body }))
+  import-told : (i : Delivery) (label : Name) → nat_le MAX_IMPORTS (len (own i.supplier b.imports)) ≡ false →
+      IsTold b answer.Imported (import p b i label None) (try p b i manner.Import)
   unfolding import try
-  import-told i few =
+  import-told i label few =
       alike_bind (IsTold b answer.Imported) (refused-told b answer.Imported) (get b.variants i.variant or NoVariant) _ refl _ _ (λ x _.
       alike_when (IsTold b answer.Imported) (refused-told b answer.Imported) Released x.released _ refl _ _ (λ _.
       alike_when (IsTold b answer.Imported) (refused-told b answer.Imported) Limit (nat_lt MAX_IMPORT_BYTES (length i.body)) _ refl _ _ (λ _.
-      imported_rows-told i few)))
+      imported_rows-told i label few)))
 
-  replaced_rows-told : (r : Replacement) (d : Book) →
-      all_told answer.Replaced (manner.Replace r.whole) d r.supplier r.variant r.body (Ok (replaced b (length (rows_of_body p r.body)) (replace_rows p d r.supplier r.variant (rows_of_body p r.body))))
+  replaced_rows-told : (r : Delivery) (whole : Bool) (d : Book) →
+      all_told answer.Replaced (manner.Replace whole) d r.supplier r.variant r.body (Ok (replaced b (length (rows_of_body p r.body)) (replace_rows p d r.supplier r.variant (rows_of_body p r.body))))
   unfolding outcome
-  replaced_rows-told r d =
+  replaced_rows-told r whole d =
       replaced-told b _ _
       ∙ ap (λ reads. answer_of answer.Replaced (length reads) (replace_rows p d r.supplier r.variant reads)) (sym (body_ends p r.body))
-      ∙ replaces_told p r.supplier r.variant r.whole (all_rows_of_body p r.body) d
+      ∙ replaces_told p r.supplier r.variant whole (all_rows_of_body p r.body) d
 
-  replace-told : (r : Replacement) → IsTold b answer.Replaced (replace p b r) (try p b (record { supplier = r.supplier; variant = r.variant; manner = manner.Replace r.whole; body = r.body }))
+  replace-told : (r : Delivery) (whole : Bool) → IsTold b answer.Replaced (replace p b r whole) (try p b r (manner.Replace whole))
   unfolding replace try
-  replace-told r =
+  replace-told r whole =
       alike_bind (IsTold b answer.Replaced) (refused-told b answer.Replaced) (get b.variants r.variant or NoVariant) _ refl _ _ (λ x _.
       alike_when (IsTold b answer.Replaced) (refused-told b answer.Replaced) Released x.released _ refl _ _ (λ _.
       alike_when (IsTold b answer.Replaced) (refused-told b answer.Replaced) Limit (nat_lt MAX_IMPORT_BYTES (length r.body)) _ refl _ _ (λ _.
-      replaced_rows-told r (with_freed b r.supplier r.variant x (whole_of r.whole (header_of_body r.body)) (rows_of_body p r.body)))))
+      replaced_rows-told r whole (with_freed b r.supplier r.variant x (whole_of whole (header_of_body r.body)) (rows_of_body p r.body)))))
 
 -- ---- the step
 
@@ -180,34 +181,36 @@ unfolding outcome
 outcome-leaves b (Ok o) h = h
 outcome-leaves b (Err e) h = refl
 
-pub trial-stays : (c : Cluster) (b : Book) (actor : Actor) (variant body : List ℕ) (how : Manner) → (step c b actor (request.Try variant how body)).book ≡ b
-unfolding step act check
+pub trial-stays : (c : Cluster) (b : Book) (actor : Actor) (variant body : List ℕ) (how : Manner) → (step c b actor (request.Deliver variant (purpose.Trial how) body)).book ≡ b
+unfolding step act deliver check purpose
 trial-stays c b actor variant body how = outcome-leaves b _ (
     gives_unless _ _ (knows b actor) _ (λ _.
-    gives_bind _ (λ (what : Checked). IfOk (act c b actor what) (λ o. o.book ≡ b)) (check c.params actor (request.Try variant how body)) _ (
+    gives_bind _ (λ (what : Checked). IfOk (act c b actor what) (λ o. o.book ≡ b)) (check c.params actor (request.Deliver variant (purpose.Trial how) body)) _ (
     gives_each _ (asking actor) _ (λ s _.
     gives_each _ (name variant) _ (λ v _.
-    trial-leaves (λ d. d ≡ b) b refl c.params (record { supplier = s; variant = v; manner = how; body = body }))))
+    gives_bind _ (λ h. h ≡ purpose.Trial how) (purpose (purpose.Trial how)) _ refl (λ h is.
+    subst (λ k. IfOk (act c b actor (checked.Deliver (record { supplier = s; variant = v; how = k; body = body }))) (λ o. o.book ≡ b)) (sym is)
+    (trial-leaves (λ d. d ≡ b) b refl c.params (record { supplier = s; variant = v; how = purpose.Trial how; body = body }) how)))))
     (λ what h. h)))
 
 module _ (c : Cluster) (b : Book) (s : Name) (variant : List ℕ) where
   pub import-as_told : (label body : List ℕ) → is_name label ≡ true → get b.imports (s, label) ≡ None → nat_lt (len (own s b.imports)) MAX_IMPORTS ≡ true →
-      (step c b (Supplier s) (request.Import variant label body)).answer ≡ answer_told answer.Imported (step c b (Supplier s) (request.Try variant manner.Import body)).answer
-  unfolding step act check asking name outcome ◌>>=◌ ◌>>◌ refuse◌when◌
+      (step c b (Supplier s) (request.Deliver variant (purpose.Import label) body)).answer ≡ answer_told answer.Imported (step c b (Supplier s) (request.Deliver variant (purpose.Trial manner.Import) body)).answer
+  unfolding step act deliver check purpose asking name outcome ◌>>=◌ ◌>>◌ refuse◌when◌ try
   import-as_told label body labelled free few = elim (cases_Bool (contains b.suppliers s)) [
     | inl known ↦ elim (cases_Bool (is_name variant)) [
-      | inl named ↦ rw (known, named, labelled, free) (import-told c.params b (record { supplier = s; variant = variant; label = label; body = body }) (not_full (len (own s b.imports)) few))
+      | inl named ↦ rw (known, named, labelled, free) (import-told c.params b (record { supplier = s; variant = variant; how = purpose.Import label; body = body }) label (not_full (len (own s b.imports)) few))
       | inr unnamed ↦ rw (known, unnamed) refl
     ]
     | inr unknown ↦ rw unknown refl
   ]
 
   pub replacement-as_told : (body : List ℕ) (whole : Bool) →
-      (step c b (Supplier s) (request.Replace variant whole body)).answer ≡ answer_told answer.Replaced (step c b (Supplier s) (request.Try variant (manner.Replace whole) body)).answer
-  unfolding step act check asking name outcome ◌>>=◌ ◌>>◌ refuse◌when◌
+      (step c b (Supplier s) (request.Deliver variant (purpose.Replacement whole) body)).answer ≡ answer_told answer.Replaced (step c b (Supplier s) (request.Deliver variant (purpose.Trial (manner.Replace whole)) body)).answer
+  unfolding step act deliver check purpose asking name outcome ◌>>=◌ ◌>>◌ refuse◌when◌ try
   replacement-as_told body whole = elim (cases_Bool (contains b.suppliers s)) [
     | inl known ↦ elim (cases_Bool (is_name variant)) [
-      | inl named ↦ rw (known, named) (replace-told c.params b (record { supplier = s; variant = variant; whole = whole; body = body }))
+      | inl named ↦ rw (known, named) (replace-told c.params b (record { supplier = s; variant = variant; how = purpose.Replacement whole; body = body }) whole)
       | inr unnamed ↦ rw (known, unnamed) refl
     ]
     | inr unknown ↦ rw unknown refl

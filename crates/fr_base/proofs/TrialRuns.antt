@@ -1,5 +1,5 @@
 -- Trials computed on a small register.
-use Rattle.std.proofs.Common.{◌≡◌, ℕ, true, false, List, [], ◌∷◌, ◌++◌, Some, None, replicate, length, refl, ap, ◌∙◌, codes, drop}
+use Rattle.std.proofs.Common.{◌≡◌, ℕ, false, List, [], ◌∷◌, ◌++◌, Some, None, replicate, length, refl, ap, ◌∙◌, codes, drop}
 use Rattle.std.specs.Prelude.{⊤, take}
 use Rattle.std.proofs.lemmas.List.{drop-take}
 use Rattle.fr_base.specs.ImportRows.{rows_below, all_rows_of_body}
@@ -14,8 +14,9 @@ use Rattle.fr_base.specs.declared.params.Params.{Params}
 use Rattle.fr_base.specs.declared.refusal.Refusal.{Refusal}
 use Rattle.fr_base.specs.declared.refusal.Refusal.TheVariants.{NotYours, BadName, BadText, BadSlot, NoVariant, Released, NoNode, NoFrame, NodeDiffers, NotGranted, Limit, CellTaken, Exists}
 use Rattle.fr_base.specs.declared.request.Ask.{Ask}
-use Rattle.fr_base.specs.declared.request.Manner.TheVariants as manner
-use Rattle.fr_base.specs.declared.request.Request.TheVariants.{Release, Try, Query}
+use Rattle.fr_base.specs.declared.delivery.Manner.TheVariants as manner
+use Rattle.fr_base.specs.declared.request.Request.TheVariants.{Release, Deliver, Query}
+use Rattle.fr_base.specs.declared.delivery.Purpose.TheVariants as purpose
 use Rattle.fr_base.specs.declared.query.Query.TheVariants.{Variant as OfVariant}
 use Rattle.fr_base.specs.declared.report.Report.TheVariants.{Frames}
 use Rattle.fr_base.proofs.WorkedRows.{answers, integrator, s1, Framed}
@@ -30,10 +31,10 @@ a_small_trial = tt
 
 -- a trial by `s1` in `v1`, of an import and of a replacement
 abbrev tried : List ℕ → Ask
-tried body = s1 (Try (codes "v1") manner.Import body)
+tried body = s1 (Deliver (codes "v1") (purpose.Trial manner.Import) body)
 
 abbrev tried_anew : List ℕ → Ask
-tried_anew body = s1 (Try (codes "v1") (manner.Replace false) body)
+tried_anew body = s1 (Deliver (codes "v1") (purpose.Trial (manner.Replace false)) body)
 
 -- what is told of the rows
 abbrev pub Told : List FateRow → Answer
@@ -124,9 +125,9 @@ the_fates_of_a_replacement = refl
 -- that is told of line 1, and a header alone has no rows
 pub refused_before_rows :
     drop 4 (answers (granted ++ (
-    integrator (Try (codes "v1") manner.Import [])
-    ∷ s1 (Try (codes "1v") manner.Import [])
-    ∷ s1 (Try (codes "v9") manner.Import (replicate 65537 48))
+    integrator (Deliver (codes "v1") (purpose.Trial manner.Import) [])
+    ∷ s1 (Deliver (codes "1v") (purpose.Trial manner.Import) [])
+    ∷ s1 (Deliver (codes "v9") (purpose.Trial manner.Import) (replicate 65537 48))
     ∷ tried (replicate 65537 48)
     ∷ tried (replicate 65536 10)
     ∷ tried []

@@ -5,16 +5,16 @@ use Rattle.std.specs.List.{AllByRecursion, list_all, list_any}
 use Rattle.std.specs.Option.{option_and_then}
 use Rattle.std.proofs.lemmas.Bool.{cases_Bool}
 use Rattle.fr_base.specs.Tables.{Table, empty, from_rows, get, left_by}
-use Rattle.fr_base.specs.Keys.{owned, placement_order}
+use Rattle.fr_base.specs.Keys.{placement_order}
 use Rattle.fr_base.specs.Cluster.{Cluster}
 use Rattle.fr_base.specs.Names.{same_text}
 use Rattle.fr_base.specs.Signals.{SignalData}
-use Rattle.fr_base.specs.Book.{Frame, Variant, Book, is_of}
+use Rattle.fr_base.specs.Book.{Frame, Variant, Book}
 use Rattle.fr_base.specs.Brought.{nodes_for, placements_for, signals_for, node_or, had_placements, had_signals, placed_by, put_in, signalled_by}
 use Rattle.fr_base.specs.ImportRows.{header_of_body, rows_of_body}
 use Rattle.fr_base.specs.ReplacingLaws.{names_frame, is_named, begins_as, begins_at, IsElsewhereAs}
 use Rattle.fr_base.specs.ReplacedLaws.{IsAsFiled, IsFiledIn}
-use Rattle.fr_base.specs.WholeLaws.{IsOfFile, IsOfItsNode, WholeIsFiled, frame_of_file, made_by_file, new_frame, placed_by_file, signalled_by_file}
+use Rattle.fr_base.specs.WholeLaws.{IsOfItsNode, WholeIsFiled, frame_of_file, made_by_file, new_frame, placed_by_file, signalled_by_file}
 use Rattle.fr_base.specs.Step.{cleared, freed, frame_at, names_with, step}
 use Rattle.fr_base.specs.declared.answer.Answer.TheVariants.{Replaced}
 use Rattle.fr_base.specs.declared.actor.Actor.TheVariants.{Supplier}
@@ -26,7 +26,8 @@ use Rattle.fr_base.specs.declared.import.RowRead.{RowRead}
 use Rattle.fr_base.specs.declared.name.Name.{Name}
 use Rattle.fr_base.specs.declared.placement.Placement.{Placement}
 use Rattle.fr_base.specs.declared.refusal.Refusal.{Refusal}
-use Rattle.fr_base.specs.declared.request.Request.TheVariants.{Replace}
+use Rattle.fr_base.specs.declared.request.Request.TheVariants.{Deliver}
+use Rattle.fr_base.specs.declared.delivery.Purpose.TheVariants as purpose
 use Rattle.fr_base.proofs.SoundTables.{get-put, same_some}
 use Rattle.fr_base.proofs.SoundRows.{same_text-is}
 use Rattle.fr_base.proofs.AloneCells.{same_text-itself}
@@ -219,12 +220,12 @@ module _ (reads : List RowRead) (f : Name) where
 
 -- ---- the replacement
 
-module _ (c : Cluster) (b : Book) (s : Name) (variant body : List ℕ) (rows : ℕ) (told : (step c b (Supplier s) (Replace variant true body)).answer ≡ Replaced rows) where
+module _ (c : Cluster) (b : Book) (s : Name) (variant body : List ℕ) (rows : ℕ) (told : (step c b (Supplier s) (Deliver variant (purpose.Replacement true) body)).answer ≡ Replaced rows) where
   abbrev reads_of : List RowRead
   reads_of = rows_of_body c.params body
 
   abbrev after : Book
-  after = (step c b (Supplier s) (Replace variant true body)).book
+  after = (step c b (Supplier s) (Deliver variant (purpose.Replacement true) body)).book
 
   filed : (length reads_of ≡ rows) × IsFalse (list_any (λ read. is_err read.row) reads_of) × ((f : Name) → IsTrue (is_named f reads_of) → IsFiledIn b s variant (header_of_body body) reads_of after f)
   filed = is_filed c b s variant body true rows told

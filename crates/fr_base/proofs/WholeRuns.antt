@@ -5,13 +5,13 @@ use Rattle.fr_base.specs.ImportRows.{header_of_body}
 use Rattle.fr_base.specs.Step.{cleared, clear_frames}
 use Rattle.fr_base.specs.declared.answer.Answer.{Answer}
 use Rattle.fr_base.specs.declared.answer.Answer.TheVariants.{Replaced, RefusedRow}
-use Rattle.fr_base.specs.declared.answer.FrameRow.{FrameRow}
 use Rattle.fr_base.specs.declared.answer.SignalRow.{SignalRow}
 use Rattle.fr_base.specs.declared.channel.Channel.TheVariants as ch
 use Rattle.fr_base.specs.declared.refusal.Refusal.TheVariants.{BadText, NoFrame, NodeDiffers, CellTaken}
 use Rattle.fr_base.specs.declared.request.Ask.{Ask}
-use Rattle.fr_base.specs.declared.request.Manner.TheVariants as manner
-use Rattle.fr_base.specs.declared.request.Request.TheVariants.{AddSignal, Replace, Try, Query}
+use Rattle.fr_base.specs.declared.delivery.Manner.TheVariants as manner
+use Rattle.fr_base.specs.declared.request.Request.TheVariants.{AddSignal, Deliver, Query}
+use Rattle.fr_base.specs.declared.delivery.Purpose.TheVariants as purpose
 use Rattle.fr_base.specs.declared.query.Query.TheVariants.{Variant as OfVariant}
 use Rattle.fr_base.specs.declared.report.Report.TheVariants.{Frames, Layout}
 use Rattle.fr_base.specs.declared.signal.Order.TheVariants as order
@@ -27,7 +27,7 @@ a_small_whole = tt
 
 -- a whole replacement by `s1` in `v1`
 abbrev pub whole : List ℕ → Ask
-whole body = s1 (Replace (codes "v1") true body)
+whole body = s1 (Deliver (codes "v1") (purpose.Replacement true) body)
 
 -- rows of frames, and of signals
 abbrev pub frames : List ℕ → List ℕ
@@ -131,8 +131,8 @@ two_nodes = refl
 -- what is tried as whole frees the frames that no row names too
 pub whole_is_tried :
     drop 6 (answers (planned ++ (
-    s1 (Try (codes "v1") (manner.Replace true) (placements (codes "f,n1,1,A,0,1\n")))
-    ∷ s1 (Try (codes "v1") (manner.Replace false) (placements (codes "f,n1,1,A,0,1\n")))
+    s1 (Deliver (codes "v1") (purpose.Trial (manner.Replace true)) (placements (codes "f,n1,1,A,0,1\n")))
+    ∷ s1 (Deliver (codes "v1") (purpose.Trial (manner.Replace false)) (placements (codes "f,n1,1,A,0,1\n")))
     ∷ all_frames
     ∷ [])))
     ≡ Told (done_at 2 ∷ [])

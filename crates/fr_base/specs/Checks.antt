@@ -1,6 +1,6 @@
 -- Check: what a request says by itself is checked: whose it is to give, its names, key, cycles, slot, channels, and its
 -- signal's length and order. They are asked in the order of refusals.
-use Rattle.std.specs.Prelude.{ℕ, Bool, true, false, not, ◌&&◌, List, nat_le, Option, Some, None, Result, Ok, Err, if◌then◌else◌}
+use Rattle.std.specs.Prelude.{ℕ, Bool, true, false, not, ◌&&◌, List, nat_le, Result, Ok, Err, if◌then◌else◌}
 use Rattle.std.specs.List.{list_all}
 use Rattle.fr_base.specs.Refusing.{◌>>=◌, ◌>>◌, ◌or◌, refuse◌when◌}
 use Rattle.fr_base.specs.Names.{is_name, is_key}
@@ -23,6 +23,8 @@ use Rattle.fr_base.specs.declared.request.Request.TheVariants as request
 use Rattle.fr_base.specs.declared.request.Command.TheVariants.{Common, AddSupplier, SetKey, AddNode, Rows}
 use Rattle.fr_base.specs.declared.beginning.Beginning.{Beginning}
 use Rattle.fr_base.specs.declared.beginning.Beginning.TheVariants.{Empty, From, Flat}
+use Rattle.fr_base.specs.declared.delivery.Purpose.{Purpose}
+use Rattle.fr_base.specs.declared.delivery.Purpose.TheVariants.{Import, Replacement, Trial}
 use Rattle.fr_base.specs.declared.request.CommonCommand.TheVariants.{OpenVariant, Release}
 use Rattle.fr_base.specs.declared.request.Change.TheVariants.{Grant, Revoke, Frame}
 use Rattle.fr_base.specs.declared.request.FrameChange.TheVariants.{Add, Drop, Place, Unplace, AddSignal, DropSignal}
@@ -98,6 +100,14 @@ beginning (From text) = do
 beginning (Flat text) = do
   from ← name text
   Ok (Flat from)
+
+-- what a file is delivered for: the label of an import is a name
+unfoldable pub purpose : Purpose (List ℕ) → Result (Purpose Name) Refusal
+purpose (Import label) = do
+  l ← name label
+  Ok (Import l)
+purpose (Replacement whole) = Ok (Replacement whole)
+purpose (Trial manner) = Ok (Trial manner)
 
 -- a report whose frame, if it names one, has a name
 unfoldable pub report : Report (List ℕ) ℕ → Result (Report Name ℕ) Refusal
@@ -219,19 +229,11 @@ check p actor (request.DropSignal variant frame named) = do
   f ← name frame
   n ← name named
   Ok (checked.Command (Rows (in_rows s v (Frame f (DropSignal n)))))
-check p actor (request.Import variant label body) = do
+check p actor (request.Deliver variant how body) = do
   s ← asking actor
   v ← name variant
-  l ← name label
-  Ok (checked.Import (record { supplier = s; variant = v; label = l; body = body }))
-check p actor (request.Replace variant whole body) = do
-  s ← asking actor
-  v ← name variant
-  Ok (checked.Replace (record { supplier = s; variant = v; whole = whole; body = body }))
-check p actor (request.Try variant manner body) = do
-  s ← asking actor
-  v ← name variant
-  Ok (checked.Try (record { supplier = s; variant = v; manner = manner; body = body }))
+  h ← purpose how
+  Ok (checked.Deliver (record { supplier = s; variant = v; how = h; body = body }))
 check p actor (request.Query asked) = do
   refuse NotYours when is_integrator actor && is_of_room asked
   q ← query asked

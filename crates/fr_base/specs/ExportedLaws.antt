@@ -23,8 +23,9 @@ use Rattle.fr_base.specs.declared.import.Row.{Row}
 use Rattle.fr_base.specs.declared.import.Row.TheVariants.{AddFrame, Place, AddSignal}
 use Rattle.fr_base.specs.declared.name.Name.{Name}
 use Rattle.fr_base.specs.declared.params.Params.{Params}
-use Rattle.fr_base.specs.declared.request.Request.TheVariants.{Import, Replace}
+use Rattle.fr_base.specs.declared.request.Request.TheVariants.{Deliver}
 use Rattle.fr_base.specs.declared.request.Ask.{Ask}
+use Rattle.fr_base.specs.declared.delivery.Purpose.TheVariants as purpose
 
 -- the records of an export as rows of a file; another report has none
 abbrev pub exported_rows : ReportRows → List Row
@@ -44,7 +45,7 @@ abbrev pub OwnExportChangesNothing : Type 0
 OwnExportChangesNothing = (c : Cluster) (b : Book) (s v : Name) (x : Variant) (header : Header) (part : ℕ) (body : List ℕ) →
     IsSound c b → IsTrue (knows b (Supplier s)) → get b.variants v ≡ Some x → IsFalse x.released →
     length body ≤ MAX_IMPORT_BYTES → ReadsAs c.params body (exported_rows (exported header part (seen_frames (Supplier s) x.frames).rows)) →
-    step c b (Supplier s) (Replace v false body)
+    step c b (Supplier s) (Deliver v (purpose.Replacement false) body)
     ≡ record { book = b; answer = Replaced (length (exported_rows (exported header part (seen_frames (Supplier s) x.frames).rows))) }
 
 -- ---- elsewhere
@@ -56,7 +57,7 @@ pub record File : Type 0 where
 
 -- the supplier's import of it into the variant
 abbrev pub import_of : Name → Name → File → Ask
-import_of s v file = record { actor = Supplier s; request = Import v file.label file.body }
+import_of s v file = record { actor = Supplier s; request = Deliver v (purpose.Import file.label) file.body }
 
 -- The files have the export's parts of this kind, from this part on, one part a file. They go to
 -- the last part: behind them the export has no records.

@@ -21,9 +21,10 @@ use Rattle.fr_base.specs.declared.params.Params.{Params}
 use Rattle.fr_base.specs.declared.refusal.Refusal.{Refusal}
 use Rattle.fr_base.specs.declared.refusal.Refusal.TheVariants.{NoVariant, Released, Limit}
 use Rattle.fr_base.specs.declared.actor.Actor.TheVariants.{Supplier}
-use Rattle.fr_base.specs.declared.request.Manner.{Manner}
-use Rattle.fr_base.specs.declared.request.Manner.TheVariants as manner
-use Rattle.fr_base.specs.declared.request.Request.TheVariants.{Try}
+use Rattle.fr_base.specs.declared.delivery.Manner.{Manner}
+use Rattle.fr_base.specs.declared.delivery.Manner.TheVariants as manner
+use Rattle.fr_base.specs.declared.request.Request.TheVariants.{Deliver}
+use Rattle.fr_base.specs.declared.delivery.Purpose.TheVariants as purpose
 
 -- ---- the answer
 
@@ -46,7 +47,7 @@ trial_told p how b s v body (Some x) =
 abbrev pub TrialIsTold : Type 0
 TrialIsTold = (c : Cluster) (b : Book) (s : Name) (v body : List ℕ) (how : Manner) →
     IsTrue (knows b (Supplier s)) → IsTrue (is_name v) →
-    step c b (Supplier s) (Try v how body)
+    step c b (Supplier s) (Deliver v (purpose.Trial how) body)
     ≡ record { book = b; answer = trial_told c.params how b s v body (get b.variants v) }
 
 -- ---- lines

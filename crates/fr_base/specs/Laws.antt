@@ -7,7 +7,7 @@
 -- one cluster that are alike for a supplier stay alike for it. Suppliers depend on each other alone by a Grant that
 -- another's grant makes `Taken`, and by a supplier that is to have another's key, or is to join beside 64. Each law says
 -- of which books it is: any, or sound ones.
-use Rattle.std.specs.Prelude.{◌≡◌, ◌≢◌, ◌⊎◌, All, AllPairs, ℕ, Bool, true, false, ◌&&◌, nat_lt, List, [], length, take, drop, Some, None, Ok, Err, IsTrue, IsFalse}
+use Rattle.std.specs.Prelude.{◌≡◌, ◌≢◌, ◌⊎◌, All, AllPairs, ℕ, Bool, ◌&&◌, nat_lt, List, [], length, take, drop, Some, None, Ok, Err, IsTrue, IsFalse}
 use Rattle.fr_base.specs.Tables.{get, len}
 use Rattle.fr_base.specs.Cells.{Cell, cells_of}
 use Rattle.fr_base.specs.Schedule.{first_taken}
@@ -42,17 +42,18 @@ use Rattle.fr_base.specs.declared.actor.Actor.{Actor}
 use Rattle.fr_base.specs.declared.actor.Actor.TheVariants.{Integrator, Supplier}
 use Rattle.fr_base.specs.declared.request.Ask.{Ask}
 use Rattle.fr_base.specs.declared.request.Request.{Request}
-use Rattle.fr_base.specs.declared.request.Manner.{Manner}
-use Rattle.fr_base.specs.declared.request.Manner.TheVariants as manner
-use Rattle.fr_base.specs.declared.request.Request.TheVariants.{SetKey, Import, Replace, Try}
+use Rattle.fr_base.specs.declared.delivery.Manner.{Manner}
+use Rattle.fr_base.specs.declared.delivery.Manner.TheVariants as manner
+use Rattle.fr_base.specs.declared.request.Request.TheVariants.{SetKey, Deliver}
 use Rattle.fr_base.specs.declared.query.Query.TheVariants.{Variant as OfVariant, Difference}
 use Rattle.fr_base.specs.declared.report.Report.{Report}
 use Rattle.fr_base.specs.declared.request.Command.TheVariants.{Rows}
-use Rattle.fr_base.specs.declared.beginning.Beginning.TheVariants.{From, Flat}
+use Rattle.fr_base.specs.declared.beginning.Beginning.TheVariants.{From}
 use Rattle.fr_base.specs.declared.request.CommonCommand.TheVariants.{OpenVariant}
 use Rattle.fr_base.specs.declared.request.Change.TheVariants as change
 use Rattle.fr_base.specs.declared.request.FrameChange.TheVariants.{Place}
 use Rattle.fr_base.specs.declared.request.Checked.TheVariants as checked
+use Rattle.fr_base.specs.declared.delivery.Purpose.TheVariants as purpose
 
 -- A new register is sound.
 abbrev pub OpeningIsSound : Type 0
@@ -138,15 +139,15 @@ pub record WasImported (c : Cluster) (s : Name) (variant label body : List ℕ) 
   pub asks : List Ask
   pub answers : List Answer
   pub sound : IsSound c begin
-  pub imported : (step c begin (Supplier s) (Import variant label body)).answer ≡ Imported rows
-  pub run : IsRun c (step c begin (Supplier s) (Import variant label body)).book asks answers last
+  pub imported : (step c begin (Supplier s) (Deliver variant (purpose.Import label) body)).answer ≡ Imported rows
+  pub run : IsRun c (step c begin (Supplier s) (Deliver variant (purpose.Import label) body)).book asks answers last
 
 -- Once an import was carried out, the supplier's import of the same label, variant and file has the same answer and changes
 -- nothing, ever after, after a release too.
 abbrev pub ImportActsOnce : Type 0
 ImportActsOnce = (c : Cluster) (s : Name) (variant label body : List ℕ) (rows : ℕ) (last : Book) →
     WasImported c s variant label body rows last →
-    step c last (Supplier s) (Import variant label body) ≡ record { book = last; answer = Imported rows }
+    step c last (Supplier s) (Deliver variant (purpose.Import label) body) ≡ record { book = last; answer = Imported rows }
 
 -- An import that was carried out is kept, as it was sent.
 abbrev pub ImportIsKept : Type 0
@@ -160,21 +161,21 @@ abbrev pub LabelStaysUsed : Type 0
 LabelStaysUsed = (c : Cluster) (s : Name) (variant label body : List ℕ) (rows : ℕ) (last : Book) →
     WasImported c s variant label body rows last →
     (other_variant other_body : List ℕ) → IsTrue (is_name other_variant) → IsFalse (same_text variant other_variant && same_text body other_body) →
-    step c last (Supplier s) (Import other_variant label other_body) ≡ record { book = last; answer = Refused LabelUsed }
+    step c last (Supplier s) (Deliver other_variant (purpose.Import label) other_body) ≡ record { book = last; answer = Refused LabelUsed }
 
 -- Under a kept label an import with what is no variant's name is BadName.
 abbrev pub BadVariantIsBadName : Type 0
 BadVariantIsBadName = (c : Cluster) (s : Name) (variant label body : List ℕ) (rows : ℕ) (last : Book) →
     WasImported c s variant label body rows last →
     (other_variant other_body : List ℕ) → IsFalse (is_name other_variant) →
-    step c last (Supplier s) (Import other_variant label other_body) ≡ record { book = last; answer = Refused BadName }
+    step c last (Supplier s) (Deliver other_variant (purpose.Import label) other_body) ≡ record { book = last; answer = Refused BadName }
 
 -- ---- what would become of a file
 
 -- A trial changes nothing, whoever asks for it.
 abbrev pub TrialChangesNothing : Type 0
 TrialChangesNothing = (c : Cluster) (b : Book) (actor : Actor) (variant body : List ℕ) (how : Manner) →
-    (step c b actor (Try variant how body)).book ≡ b
+    (step c b actor (Deliver variant (purpose.Trial how) body)).book ≡ b
 
 -- An import under a label that is not kept, where the supplier may keep one more, is answered as its trial tells. Imported, with so many
 -- rows, exactly where so many are told and each is done; RefusedRow exactly where the first row that is not done is this one; and refused
@@ -182,13 +183,13 @@ TrialChangesNothing = (c : Cluster) (b : Book) (actor : Actor) (variant body : L
 abbrev pub ImportIsTold : Type 0
 ImportIsTold = (c : Cluster) (b : Book) (s : Name) (variant label body : List ℕ) →
     IsTrue (is_name label) → get b.imports (s, label) ≡ None → IsTrue (nat_lt (len (own s b.imports)) MAX_IMPORTS) →
-    (step c b (Supplier s) (Import variant label body)).answer ≡ answer_told Imported (step c b (Supplier s) (Try variant manner.Import body)).answer
+    (step c b (Supplier s) (Deliver variant (purpose.Import label) body)).answer ≡ answer_told Imported (step c b (Supplier s) (Deliver variant (purpose.Trial manner.Import) body)).answer
 
 -- A replacement is answered as its trial tells.
 abbrev pub ReplacementIsTold : Type 0
 ReplacementIsTold = (c : Cluster) (b : Book) (s : Name) (variant body : List ℕ) (whole : Bool) →
-    (step c b (Supplier s) (Replace variant whole body)).answer
-    ≡ answer_told Replaced (step c b (Supplier s) (Try variant (manner.Replace whole) body)).answer
+    (step c b (Supplier s) (Deliver variant (purpose.Replacement whole) body)).answer
+    ≡ answer_told Replaced (step c b (Supplier s) (Deliver variant (purpose.Trial (manner.Replace whole)) body)).answer
 
 -- ---- a supplier alone
 

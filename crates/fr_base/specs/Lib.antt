@@ -37,6 +37,7 @@ pub mod Fates
 pub mod Actors
 pub mod Run
 pub mod Sound
+pub mod Desks
 pub mod Alone
 pub mod Laws
 pub mod ReplacingLaws

@@ -1,7 +1,9 @@
 -- Query's names: a query whose names and numbers are read, one after another. The first that gives
--- an error gives it to the query.
+-- an error gives it to the query. The label of a delivered file is read so too.
 use Rattle.std.specs.Prelude.{ℕ, ◌≡◌, Option, Some, option_map, Result, Ok, Err, MatchResult}
 use Rattle.fr_base.specs.Refusing.{◌>>=◌}
+use Rattle.fr_base.specs.declared.delivery.Purpose.{Purpose}
+use Rattle.fr_base.specs.declared.delivery.Purpose.TheVariants.{Import, Replacement, Trial}
 use Rattle.fr_base.specs.declared.query.Query.{Query}
 use Rattle.fr_base.specs.declared.query.Query.TheVariants.{Register, Variant, Difference}
 use Rattle.fr_base.specs.declared.report.Report.{Report}
@@ -35,6 +37,18 @@ IsQueryRead {N} {M} {A} {E} reads counts (Difference variant from) result =
     (name : Result A E) × reads variant name × MatchResult name
     (λ v. (other : Result A E) × reads from other × (result ≡ (other >>= (λ f. Ok (Difference v f)))))
     (λ e. result ≡ Err e)
+
+-- the result of a purpose whose label is read by this relation
+unfoldable pub IsPurposeRead : {N A E : Type 0} → (N → Result A E → Type 0) → Purpose N → Result (Purpose A) E → Type 0
+IsPurposeRead {N} {A} {E} reads (Import label) result = (name : Result A E) × reads label name × (result ≡ (name >>= (λ l. Ok (Import l))))
+IsPurposeRead reads (Replacement whole) result = result ≡ Ok (Replacement whole)
+IsPurposeRead reads (Trial manner) result = result ≡ Ok (Trial manner)
+
+-- the purpose with the label of an import changed by the function
+abbrev pub purpose_with : {N A : Type 0} → (N → A) → Purpose N → Purpose A
+purpose_with f (Import label) = Import (f label)
+purpose_with f (Replacement whole) = Replacement whole
+purpose_with f (Trial manner) = Trial manner
 
 -- the report with its names changed by the first function and its numbers by the second
 abbrev pub report_with : {N M A : Type 0} → (N → A) → (M → ℕ) → Report N M → Report A ℕ

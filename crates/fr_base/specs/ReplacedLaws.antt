@@ -14,7 +14,8 @@ use Rattle.fr_base.specs.declared.import.Header.{Header}
 use Rattle.fr_base.specs.declared.import.RowRead.{RowRead}
 use Rattle.fr_base.specs.declared.name.Name.{Name}
 use Rattle.fr_base.specs.declared.actor.Actor.TheVariants.{Supplier}
-use Rattle.fr_base.specs.declared.request.Request.TheVariants.{Replace}
+use Rattle.fr_base.specs.declared.request.Request.TheVariants.{Deliver}
+use Rattle.fr_base.specs.declared.delivery.Purpose.TheVariants as purpose
 
 -- The frame has what the rows say of it. Its node is the one that it had before, or, if it was not
 -- there, that of the first row that names a node. Each row that names a node names this one. Its
@@ -36,15 +37,15 @@ IsFiledIn b s v whole reads after f =
 -- them is refused, and each frame that they name has what they say.
 abbrev pub ReplacedIsFiled : Type 0
 ReplacedIsFiled = (c : Cluster) (b : Book) (s : Name) (variant body : List ℕ) (whole : Bool) (rows : ℕ) →
-    (step c b (Supplier s) (Replace variant whole body)).answer ≡ Replaced rows →
+    (step c b (Supplier s) (Deliver variant (purpose.Replacement whole) body)).answer ≡ Replaced rows →
     (length (rows_of_body c.params body) ≡ rows)
     × IsFalse (list_any (λ read. is_err read.row) (rows_of_body c.params body))
     × ((f : Name) → IsTrue (is_named f (rows_of_body c.params body)) →
     IsFiledIn b s variant (whole_of whole (header_of_body body)) (rows_of_body c.params body)
-    (step c b (Supplier s) (Replace variant whole body)).book f)
+    (step c b (Supplier s) (Deliver variant (purpose.Replacement whole) body)).book f)
 
 -- The same file again is answered the same and changes nothing.
 abbrev pub SameFileChangesNothing : Type 0
 SameFileChangesNothing = (c : Cluster) (b after : Book) (s : Name) (variant body : List ℕ) (whole : Bool) (rows : ℕ) →
-    step c b (Supplier s) (Replace variant whole body) ≡ record { book = after; answer = Replaced rows } →
-    step c after (Supplier s) (Replace variant whole body) ≡ record { book = after; answer = Replaced rows }
+    step c b (Supplier s) (Deliver variant (purpose.Replacement whole) body) ≡ record { book = after; answer = Replaced rows } →
+    step c after (Supplier s) (Deliver variant (purpose.Replacement whole) body) ≡ record { book = after; answer = Replaced rows }

@@ -15,7 +15,8 @@ use Rattle.fr_base.specs.declared.import.RowRead.{RowRead}
 use Rattle.fr_base.specs.declared.name.Name.{Name}
 use Rattle.fr_base.specs.declared.actor.Actor.TheVariants.{Supplier}
 use Rattle.fr_base.specs.declared.refusal.Refusal.{Refusal}
-use Rattle.fr_base.specs.declared.request.Request.TheVariants.{Replace}
+use Rattle.fr_base.specs.declared.request.Request.TheVariants.{Deliver}
+use Rattle.fr_base.specs.declared.delivery.Purpose.TheVariants as purpose
 
 -- whether the row names the frame
 abbrev pub names_frame : Name → Result Row Refusal → Bool
@@ -54,6 +55,6 @@ pub record IsElsewhereAs (b : Book) (s v : Name) (whole : Option Header) (reads 
 -- supplier's others, and changes none of another supplier.
 abbrev pub ReplacedLeavesTheRest : Type 0
 ReplacedLeavesTheRest = (c : Cluster) (b : Book) (s : Name) (variant body : List ℕ) (whole : Bool) (rows : ℕ) →
-    (step c b (Supplier s) (Replace variant whole body)).answer ≡ Replaced rows →
+    (step c b (Supplier s) (Deliver variant (purpose.Replacement whole) body)).answer ≡ Replaced rows →
     IsElsewhereAs b s variant (whole_of whole (header_of_body body)) (rows_of_body c.params body)
-    (step c b (Supplier s) (Replace variant whole body)).book
+    (step c b (Supplier s) (Deliver variant (purpose.Replacement whole) body)).book

@@ -51,11 +51,11 @@ use Rattle.fr_base.specs.declared.request.Change.{Change}
 use Rattle.fr_base.specs.declared.request.Change.TheVariants.{Grant, Revoke, Frame as OfFrame}
 use Rattle.fr_base.specs.declared.request.FrameChange.{FrameChange}
 use Rattle.fr_base.specs.declared.request.FrameChange.TheVariants.{Add, Drop, Place, Unplace, AddSignal, DropSignal}
-use Rattle.fr_base.specs.declared.request.Import.{Import}
-use Rattle.fr_base.specs.declared.request.Manner.{Manner}
-use Rattle.fr_base.specs.declared.request.Manner.TheVariants as manner
-use Rattle.fr_base.specs.declared.request.Replacement.{Replacement}
-use Rattle.fr_base.specs.declared.request.Trial.{Trial}
+use Rattle.fr_base.specs.declared.delivery.Delivery.{Delivery}
+use Rattle.fr_base.specs.declared.delivery.Purpose.{Purpose}
+use Rattle.fr_base.specs.declared.delivery.Purpose.TheVariants as purpose
+use Rattle.fr_base.specs.declared.delivery.Manner.{Manner}
+use Rattle.fr_base.specs.declared.delivery.Manner.TheVariants as manner
 use Rattle.fr_base.specs.declared.answer.FateRow.{FateRow}
 use Rattle.fr_base.specs.declared.answer.ReportRows.TheVariants as shows
 use Rattle.fr_base.specs.declared.request.Checked.{Checked}
@@ -282,31 +282,31 @@ act_rows p b s v (read ∷ rest) = do
   act_rows p after s v rest
 
 -- the book with the import kept
-abbrev pub with_import : Book → Import → ℕ → Book
-with_import b i count =
-    record b { imports = insert b.imports (i.supplier, i.label) (record { variant = i.variant; body = i.body; rows = count }) }
+abbrev pub with_import : Book → Delivery → Name → ℕ → Book
+with_import b d label count =
+    record b { imports = insert b.imports (d.supplier, label) (record { variant = d.variant; body = d.body; rows = count }) }
 
 -- all rows were carried out, so many, and the import is kept; or one was refused, and the book is the old one
-unfoldable pub imported : Book → Import → ℕ → Result Book RefusedAt → Outcome
-imported b i count (Ok after) = record { book = with_import after i count; answer = answer.Imported count }
-imported b i count (Err fault) = record { book = b; answer = answer.RefusedRow fault.line fault.refusal }
+unfoldable pub imported : Book → Delivery → Name → ℕ → Result Book RefusedAt → Outcome
+imported b d label count (Ok after) = record { book = with_import after d label count; answer = answer.Imported count }
+imported b d label count (Err fault) = record { book = b; answer = answer.RefusedRow fault.line fault.refusal }
 
 -- the import of these rows
-abbrev pub import_rows : Params → Book → Import → List RowRead → Outcome
-import_rows p b i rows = imported b i (length rows) (act_rows p b i.supplier i.variant rows)
+abbrev pub import_rows : Params → Book → Delivery → Name → List RowRead → Outcome
+import_rows p b d label rows = imported b d label (length rows) (act_rows p b d.supplier d.variant rows)
 
 -- An import under a label that is not kept: its variant is there and open, its bytes and the supplier's imports are within the limits,
 -- and then its rows. Under one that is kept, the same variant and file have the same answer again, after a release too, and nothing
 -- is changed.
-unfoldable pub import : Params → Book → Import → Option Kept → Result Outcome Refusal
-import p b i None = do
-  variant ← get b.variants i.variant or NoVariant
+unfoldable pub import : Params → Book → Delivery → Name → Option Kept → Result Outcome Refusal
+import p b d label None = do
+  variant ← get b.variants d.variant or NoVariant
   refuse Released when variant.released
-  refuse Limit when nat_lt MAX_IMPORT_BYTES (length i.body)
-  refuse Limit when nat_le MAX_IMPORTS (len (own i.supplier b.imports))
-  Ok (import_rows p b i (rows_of_body p i.body))
-import p b i (Some kept) = do
-  refuse LabelUsed when not (same_text kept.variant i.variant && same_text kept.body i.body)
+  refuse Limit when nat_lt MAX_IMPORT_BYTES (length d.body)
+  refuse Limit when nat_le MAX_IMPORTS (len (own d.supplier b.imports))
+  Ok (import_rows p b d label (rows_of_body p d.body))
+import p b d label (Some kept) = do
+  refuse LabelUsed when not (same_text kept.variant d.variant && same_text kept.body d.body)
   Ok (record { book = b; answer = answer.Imported kept.rows })
 
 -- ---- a replacement
@@ -402,13 +402,13 @@ replaced b count (Err fault) = record { book = b; answer = answer.RefusedRow fau
 
 -- A replacement: its variant is there and open, and its bytes are within the limit. First each frame that a row names is freed, or each
 -- of the supplier's where the file is whole, and then the rows act.
-unfoldable pub replace : Params → Book → Replacement → Result Outcome Refusal
-replace p b r = do
-  variant ← get b.variants r.variant or NoVariant
+unfoldable pub replace : Params → Book → Delivery → Bool → Result Outcome Refusal
+replace p b d whole = do
+  variant ← get b.variants d.variant or NoVariant
   refuse Released when variant.released
-  refuse Limit when nat_lt MAX_IMPORT_BYTES (length r.body)
-  Ok (replaced b (length (rows_of_body p r.body))
-      (replace_rows p (with_freed b r.supplier r.variant variant (whole_of r.whole (header_of_body r.body)) (rows_of_body p r.body)) r.supplier r.variant (rows_of_body p r.body)))
+  refuse Limit when nat_lt MAX_IMPORT_BYTES (length d.body)
+  Ok (replaced b (length (rows_of_body p d.body))
+      (replace_rows p (with_freed b d.supplier d.variant variant (whole_of whole (header_of_body d.body)) (rows_of_body p d.body)) d.supplier d.variant (rows_of_body p d.body)))
 
 -- ---- a trial
 
@@ -435,15 +435,15 @@ tried (manner.Replace whole) b s v variant header reads = with_freed b s v varia
 tried manner.Import b s v variant header reads = b
 
 -- A trial: its variant is there and open, and its bytes are within the limit. What becomes of each row is told, and the book stays.
-unfoldable pub try : Params → Book → Trial → Result Outcome Refusal
-try p b t = do
-  variant ← get b.variants t.variant or NoVariant
+unfoldable pub try : Params → Book → Delivery → Manner → Result Outcome Refusal
+try p b d how = do
+  variant ← get b.variants d.variant or NoVariant
   refuse Released when variant.released
-  refuse Limit when nat_lt MAX_IMPORT_BYTES (length t.body)
+  refuse Limit when nat_lt MAX_IMPORT_BYTES (length d.body)
   Ok (record {
     book = b;
     answer = answer.Report false (shows.Fates
-        (fates_of p t.manner (tried t.manner b t.supplier t.variant variant (header_of_body t.body) (rows_of_body p t.body)) t.supplier t.variant (all_rows_of_body p t.body)));
+        (fates_of p how (tried how b d.supplier d.variant variant (header_of_body d.body) (rows_of_body p d.body)) d.supplier d.variant (all_rows_of_body p d.body)));
   })
 
 -- ---- the step
@@ -462,12 +462,16 @@ perform c b (SetKey s key) = done (set_key c b s key)
 perform c b (AddNode s n) = done (add_node b s n)
 perform c b (Rows rows) = done (change_rows c.params b rows.supplier rows.variant rows.change)
 
+-- what a file does, by what it is delivered for
+unfoldable pub deliver : Params → Book → Delivery → Purpose Name → Result Outcome Refusal
+deliver p b d (purpose.Import label) = import p b d label (get b.imports (d.supplier, label))
+deliver p b d (purpose.Replacement whole) = replace p b d whole
+deliver p b d (purpose.Trial how) = try p b d how
+
 -- what a request with checked values does
 unfoldable pub act : Cluster → Book → Actor → Checked → Result Outcome Refusal
 act c b actor (checked.Command command) = perform c b command
-act c b actor (checked.Import i) = import c.params b i (get b.imports (i.supplier, i.label))
-act c b actor (checked.Replace r) = replace c.params b r
-act c b actor (checked.Try t) = try c.params b t
+act c b actor (checked.Deliver d) = deliver c.params b d d.how
 act c b actor (checked.Query query) = do
   shown ← reply c.params b actor query
   Ok (record { book = b; answer = shown })

@@ -25,7 +25,8 @@ use Rattle.fr_base.specs.declared.import.Row.{Row}
 use Rattle.fr_base.specs.declared.import.RowRead.{RowRead}
 use Rattle.fr_base.specs.declared.name.Name.{Name}
 use Rattle.fr_base.specs.declared.placement.Placement.{Placement}
-use Rattle.fr_base.specs.declared.request.Request.TheVariants.{Replace}
+use Rattle.fr_base.specs.declared.request.Request.TheVariants.{Deliver}
+use Rattle.fr_base.specs.declared.delivery.Purpose.TheVariants as purpose
 
 -- ---- the frames
 
@@ -73,11 +74,11 @@ IsOfFile b s v kind reads after = (f : Name) →
 -- and none of them is refused. The supplier's frames are what the file says.
 abbrev pub WholeIsFiled : Type 0
 WholeIsFiled = (c : Cluster) (b : Book) (s : Name) (variant body : List ℕ) (rows : ℕ) →
-    (step c b (Supplier s) (Replace variant true body)).answer ≡ Replaced rows →
+    (step c b (Supplier s) (Deliver variant (purpose.Replacement true) body)).answer ≡ Replaced rows →
     (length (rows_of_body c.params body) ≡ rows)
     × IsFalse (list_any (λ read. is_err read.row) (rows_of_body c.params body))
     × ((kind : Header) × (header_of_body body ≡ Some kind)
-    × IsOfFile b s variant kind (rows_of_body c.params body) (step c b (Supplier s) (Replace variant true body)).book)
+    × IsOfFile b s variant kind (rows_of_body c.params body) (step c b (Supplier s) (Deliver variant (purpose.Replacement true) body)).book)
 
 -- ---- what is taken afterwards
 
@@ -107,9 +108,9 @@ pub record AreTheRows (kind : Header) (reads : List RowRead) (frames : List ((Na
 -- others, each once: what is taken afterwards is what was sent.
 abbrev pub TakenIsSent : Type 0
 TakenIsSent = (c : Cluster) (b : Book) (s : Name) (variant body : List ℕ) (kind : Header) (rows : ℕ) (x : Variant) → IsSound c b →
-    (step c b (Supplier s) (Replace variant true body)).answer ≡ Replaced rows →
+    (step c b (Supplier s) (Deliver variant (purpose.Replacement true) body)).answer ≡ Replaced rows →
     header_of_body body ≡ Some kind →
-    get (step c b (Supplier s) (Replace variant true body)).book.variants variant ≡ Some x →
+    get (step c b (Supplier s) (Deliver variant (purpose.Replacement true) body)).book.variants variant ≡ Some x →
     AreTheRows kind (rows_of_body c.params body) (seen_frames (Supplier s) x.frames).rows
 
 -- ---- an export that comes back
@@ -123,5 +124,5 @@ WholeExportChangesNothing = (c : Cluster) (b : Book) (s v : Name) (x : Variant) 
     length body ≤ MAX_IMPORT_BYTES → header_of_body body ≡ Some header →
     ReadsAs c.params body (exported_rows (exported header 0 (seen_frames (Supplier s) x.frames).rows)) →
     exported_rows (exported header 1 (seen_frames (Supplier s) x.frames).rows) ≡ [] →
-    step c b (Supplier s) (Replace v true body)
+    step c b (Supplier s) (Deliver v (purpose.Replacement true) body)
     ≡ record { book = b; answer = Replaced (length (exported_rows (exported header 0 (seen_frames (Supplier s) x.frames).rows))) }

@@ -13,6 +13,7 @@ use crate::beginning::Beginning;
 use crate::body::{Body, BodyRef};
 use crate::channel::{Channel, Channels};
 use crate::cycles::CycleSet;
+use crate::delivery::{Delivery, Purpose};
 use crate::key::Key;
 use crate::name::Name;
 use crate::params::Params;
@@ -20,10 +21,7 @@ use crate::placement::Placement;
 use crate::query::{Query, QueryReader};
 use crate::refusal::Refusal;
 use crate::report::Report;
-use crate::request::{
-    Change, Checked, Command, CommonCommand, FrameChange, Import, Manner, Replacement, Request,
-    RowsChange, Trial,
-};
+use crate::request::{Change, Checked, Command, CommonCommand, FrameChange, Request, RowsChange};
 use crate::signal::{Order, Signal};
 use crate::slot::Slot;
 use crate::text::Text;
@@ -99,21 +97,7 @@ pub fn check<'a>(
             frame,
             signal,
         } => drop_signal(actor, variant, frame, signal),
-        Request::Import {
-            variant,
-            label,
-            body,
-        } => import(actor, variant, label, body),
-        Request::Replace {
-            variant,
-            whole,
-            body,
-        } => replace(actor, variant, *whole, body),
-        Request::Try {
-            variant,
-            manner,
-            body,
-        } => trial(actor, variant, *manner, body),
+        Request::Deliver { variant, how, body } => deliver(actor, variant, how, body),
         Request::Query(asked) => query(params, actor, asked),
     }
 }
@@ -297,62 +281,22 @@ fn drop_signal(
     Ok(of_frame(supplier, variant, frame, FrameChange::DropSignal(signal)))
 }
 
-#[tactic(auto, unfolding(crate::proofs::ChecksLemmas::checks_open))]
-fn import<'a>(
+#[tactic(auto, unfolding(crate::proofs::ChecksLemmas::checks_open), using(crate::proofs::ChecksLemmas::purpose_read))]
+fn deliver<'a>(
     actor: &Actor,
     variant: &Text,
-    label: &Text,
+    how: &Purpose<Text>,
     body: &'a Body,
 ) -> Result<Checked<'a>, Refusal>
     ensures { (p : Params)
-        → result ≡ check p actor.now (request.Import variant.now label.now body.now) }
+        → result ≡ check p actor.now (request.Deliver variant.now how.now body.now) }
 {
-    let (supplier, variant, label) = (asking(actor)?, name(variant)?, name(label)?);
+    let (supplier, variant, how) = (asking(actor)?, name(variant)?, how.read(&Checking)?);
     let body = BodyRef::of(body);
-    Ok(Checked::Import(Import {
+    Ok(Checked::Deliver(Delivery {
         supplier,
         variant,
-        label,
-        body,
-    }))
-}
-
-#[tactic(auto, unfolding(crate::proofs::ChecksLemmas::checks_open))]
-fn replace<'a>(
-    actor: &Actor,
-    variant: &Text,
-    whole: bool,
-    body: &'a Body,
-) -> Result<Checked<'a>, Refusal>
-    ensures { (p : Params)
-        → result ≡ check p actor.now (request.Replace variant.now whole body.now) }
-{
-    let (supplier, variant) = (asking(actor)?, name(variant)?);
-    let body = BodyRef::of(body);
-    Ok(Checked::Replace(Replacement {
-        supplier,
-        variant,
-        whole,
-        body,
-    }))
-}
-
-#[tactic(auto, unfolding(crate::proofs::ChecksLemmas::checks_open))]
-fn trial<'a>(
-    actor: &Actor,
-    variant: &Text,
-    manner: Manner,
-    body: &'a Body,
-) -> Result<Checked<'a>, Refusal>
-    ensures { (p : Params)
-        → result ≡ check p actor.now (request.Try variant.now manner body.now) }
-{
-    let (supplier, variant) = (asking(actor)?, name(variant)?);
-    let body = BodyRef::of(body);
-    Ok(Checked::Try(Trial {
-        supplier,
-        variant,
-        manner,
+        how,
         body,
     }))
 }

@@ -1,8 +1,9 @@
 //! Who asks what: requests as they were sent, and the same with checked values.
 use crate::actor::Actor;
 use crate::beginning::Beginning;
-use crate::body::{Body, BodyRef};
+use crate::body::Body;
 use crate::channel::Channel;
+use crate::delivery::{Delivery, Purpose};
 use crate::key::Key;
 use crate::name::Name;
 use crate::placement::Placement;
@@ -97,24 +98,10 @@ pub enum Request {
         frame: Text,
         signal: Text,
     },
-    /// A supplier imports the rows of a file: all of them, or none. The label is the supplier's own
-    /// name for the import.
-    Import {
+    /// A supplier delivers a file of rows: as an import, as a replacement, or to be tried.
+    Deliver {
         variant: Text,
-        label: Text,
-        body: Body,
-    },
-    /// A supplier sends the rows of a file: all of them, or none. They stand in place of what the frames
-    /// that the file names have. Where it is `whole`, they stand in place of what all its frames have.
-    Replace {
-        variant: Text,
-        whole: bool,
-        body: Body,
-    },
-    /// A supplier asks what would become of each row of a file, as an import or as a replacement, and nothing is changed.
-    Try {
-        variant: Text,
-        manner: Manner,
+        how: Purpose<Text>,
         body: Body,
     },
     /// The integrator or a supplier asks what the register holds, and nothing is changed.
@@ -193,34 +180,14 @@ impl Drop for Request {
                 frame: _,
                 signal: _,
             } => {}
-            Request::Import {
+            Request::Deliver {
                 variant: _,
-                label: _,
-                body: _,
-            } => {}
-            Request::Replace {
-                variant: _,
-                whole: _,
-                body: _,
-            } => {}
-            Request::Try {
-                variant: _,
-                manner: _,
+                how: _,
                 body: _,
             } => {}
             Request::Query(_) => {}
         }
     }
-}
-
-/// How the rows of a file act.
-#[derive(Clone, Copy, Debug, PartialEq, Eq)]
-pub enum Manner {
-    /// As those of an import: what they bring is new.
-    Import,
-    /// As those of a replacement: they stand in place of what the frames that the file names have, or,
-    /// where it is `whole`, of what all the supplier's frames have.
-    Replace { whole: bool },
 }
 
 /// A request and who asks it.
@@ -306,41 +273,10 @@ pub enum FrameChange {
     DropSignal(Name),
 }
 
-/// A supplier's import, with checked names; what its file says is not yet read.
-#[derive(Drop)]
-pub struct Import<'a> {
-    pub supplier: Name,
-    pub variant: Name,
-    pub label: Name,
-    pub body: BodyRef<'a>,
-}
-
-/// A supplier's replacement, with checked names; what its file says is not yet read.
-#[derive(Drop)]
-pub struct Replacement<'a> {
-    pub supplier: Name,
-    pub variant: Name,
-    /// Whether the file stands in place of what all the supplier's frames have.
-    pub whole: bool,
-    pub body: BodyRef<'a>,
-}
-
-/// A supplier's file to be tried, with checked names; what it says is not yet read.
-#[derive(Drop)]
-pub struct Trial<'a> {
-    pub supplier: Name,
-    pub variant: Name,
-    /// As what it is tried.
-    pub manner: Manner,
-    pub body: BodyRef<'a>,
-}
-
 /// A request whose own texts and numbers are in order.
 #[derive(Drop)]
 pub enum Checked<'a> {
     Command(Command),
-    Import(Import<'a>),
-    Replace(Replacement<'a>),
-    Try(Trial<'a>),
+    Deliver(Delivery<'a>),
     Query(Query<Name>),
 }

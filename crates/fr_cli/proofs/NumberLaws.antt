@@ -1,5 +1,5 @@
 -- The number that `get_one` reads is the one at its place.
-use Rattle.std.proofs.Common.{◌≡◌, ◌<◌, ◌^◌, ◌∙◌, ap, sym, refl, ℕ, List, Option, Some, None, Result, Ok, Err, arith, codes, false, true, inl, inr, ◌⊎◌}
+use Rattle.std.proofs.Common.{Bor, ◌≡◌, ◌<◌, ◌^◌, ◌∙◌, ap, sym, refl, ℕ, List, Option, Some, None, Result, Ok, Err, arith, codes, false, true, inl, inr, ◌⊎◌}
 use Rattle.std.proofs.lemmas.Slice.Eq.{bytes_eq-Decides}
 use Rattle.std.specs.Str.{bytes_eq}
 use Rattle.std.specs.Prelude.{unwrap_or}
@@ -10,8 +10,8 @@ use Rattle.clap.specs.Walk.{Row, Text, one_of, rows_of}
 use Rattle.clap.specs.declared.parser.matches.Found.{Found}
 use Rattle.fr_cli.specs.Reports.{asked_with}
 use Rattle.fr_cli.specs.Words.{HasNumber, IsJobIn, IsJobOf, IsNumberIn, word_of_delivery}
-use Rattle.fr_cli.specs.declared.words.delivery.DeliveryKind.{DeliveryKind}
-use Rattle.fr_cli.specs.declared.words.delivery.DeliveryKind.TheVariants.{Import as ByLabel, Replacement, Trial}
+use Rattle.fr_base.specs.declared.delivery.Purpose.{Purpose}
+use Rattle.fr_base.specs.declared.delivery.Purpose.TheVariants.{Import as ByLabel, Replacement, Trial}
 use Rattle.fr_cli.specs.declared.words.Job.{Job}
 use Rattle.fr_cli.specs.declared.words.Job.TheVariants.{Run, Create, Migrate, Serve, Ask, Report as ReportOn, Picture, Deliver, Check, Explain}
 
@@ -69,9 +69,9 @@ numbers_of rows (Migrate db) is = apart _ _ refl is.0
 numbers_of rows (Ask db numbered) is = apart _ _ refl is.0
 numbers_of rows (ReportOn db query) is = absurd is.1
 numbers_of rows (Picture db variant since supplier) is = apart _ _ refl is.0
-numbers_of rows (Deliver db delivery) is = delivered delivery.kind is.0
+numbers_of rows (Deliver db delivery) is = delivered delivery.how is.0
   where
-    delivered : {X : Type 0} (kind : DeliveryKind) → codes "serve" ≡ word_of_delivery kind → X
+    delivered : {X : Type 0} (how : Purpose (Bor (List ℕ))) → codes "serve" ≡ word_of_delivery how → X
     delivered (ByLabel label) same = apart _ _ refl same
     delivered (Replacement whole) same = apart _ _ refl same
     delivered (Trial manner) same = apart _ _ refl same

@@ -12,10 +12,10 @@ use Rattle.fr_base.specs.declared.query.Query.TheVariants.{Register as OfRegiste
 use Rattle.fr_base.specs.declared.report.Report.{Report}
 use Rattle.fr_base.specs.declared.report.Report.TheVariants.{Grants, Frames, Schedule, Gaps, Layout, Load, Rows, Room, Export}
 use Rattle.fr_cli.specs.Reports.{Question, asked_with, row_in, text_of_name}
-use Rattle.fr_cli.specs.Words.{HasKind, IsAnswerable, IsDeliveryIn, IsJobIn, IsJobOf, IsNumberAt, IsWordAt, asked_by, manner_in, word_of_delivery}
+use Rattle.fr_cli.specs.Words.{HasPurpose, IsAnswerable, IsDeliveryIn, IsJobIn, IsJobOf, IsNumberAt, IsWordAt, asked_by, manner_in, word_of_delivery}
 use Rattle.fr_cli.specs.declared.words.delivery.Delivery.{Delivery}
-use Rattle.fr_cli.specs.declared.words.delivery.DeliveryKind.{DeliveryKind}
-use Rattle.fr_cli.specs.declared.words.delivery.DeliveryKind.TheVariants.{Import as ByLabel, Replacement, Trial}
+use Rattle.fr_base.specs.declared.delivery.Purpose.{Purpose}
+use Rattle.fr_base.specs.declared.delivery.Purpose.TheVariants.{Import as ByLabel, Replacement, Trial}
 use Rattle.fr_cli.specs.declared.words.reports.ArgName.{ArgName}
 use Rattle.fr_cli.specs.declared.words.reports.ReportCommand.{ReportCommand}
 use Rattle.fr_cli.specs.declared.words.Job.{Job}
@@ -42,45 +42,45 @@ found name (command ∷ others) = by (bytes_eq name command.name.now) (found nam
 abbrev is_delivery : Text → Bool
 is_delivery name = bytes_eq name (codes "import") || (bytes_eq name (codes "replace") || bytes_eq name (codes "try"))
 
-delivers : (kind : DeliveryKind) → is_delivery (word_of_delivery kind) ≡ true
+delivers : (how : Purpose (Bor (List ℕ))) → is_delivery (word_of_delivery how) ≡ true
 delivers (ByLabel label) = refl
 delivers (Replacement whole) = refl
 delivers (Trial manner) = refl
 
-no_delivery : {X : Type 0} (kind : DeliveryKind) (name : Text) → is_delivery name ≡ false → word_of_delivery kind ≡ name → X
-no_delivery kind name other is = let no : true ≡ false = sym (delivers kind) ∙ (ap is_delivery is ∙ other) in cc
+no_delivery : {X : Type 0} (how : Purpose (Bor (List ℕ))) (name : Text) → is_delivery name ≡ false → word_of_delivery how ≡ name → X
+no_delivery how name other is = let no : true ≡ false = sym (delivers how) ∙ (ap is_delivery is ∙ other) in cc
 
 -- no report is asked for by a subcommand that delivers a file
-no_question : (kind : DeliveryKind) (rows : List Row) → asked_by (word_of_delivery kind) rows ≡ None
+no_question : (how : Purpose (Bor (List ℕ))) (rows : List Row) → asked_by (word_of_delivery how) rows ≡ None
 unfolding asked_with
 no_question (ByLabel label) rows = refl
 no_question (Replacement whole) rows = refl
 no_question (Trial manner) rows = refl
 
 -- where no delivery by a subcommand is of these words, it has no job
-pub undelivered : (kind : DeliveryKind) (rows : List Row) (job : Option Job) → job ≡ None
-    → ((delivery : Delivery) → word_of_delivery kind ≡ word_of_delivery delivery.kind → IsDeliveryIn rows delivery → ⊥)
-    → IsJobIn job (word_of_delivery kind) rows
-undelivered kind rows (Some job) none lacks = cc
-undelivered kind rows None none lacks = go
+pub undelivered : (how : Purpose (Bor (List ℕ))) (rows : List Row) (job : Option Job) → job ≡ None
+    → ((delivery : Delivery) → word_of_delivery how ≡ word_of_delivery delivery.how → IsDeliveryIn rows delivery → ⊥)
+    → IsJobIn job (word_of_delivery how) rows
+undelivered how rows (Some job) none lacks = cc
+undelivered how rows None none lacks = go
   where
-    go : (job : Job) → IsJobOf job (word_of_delivery kind) rows → ⊥
-    go (Run numbered) is = no_delivery kind (codes "run") refl is.0
-    go (Create db config) is = no_delivery kind (codes "create") refl is.0
-    go (Migrate db) is = no_delivery kind (codes "migrate") refl is.0
-    go (Serve db port count seconds) is = no_delivery kind (codes "serve") refl is.0
-    go (Ask db numbered) is = no_delivery kind (codes "ask") refl is.0
-    go (ReportOn db query) is = subst (λ (o : Option Question). IsAnswerable o rows query.query) (no_question kind rows) is.1
-    go (Picture db variant since supplier) is = no_delivery kind (codes "picture") refl is.0
+    go : (job : Job) → IsJobOf job (word_of_delivery how) rows → ⊥
+    go (Run numbered) is = no_delivery how (codes "run") refl is.0
+    go (Create db config) is = no_delivery how (codes "create") refl is.0
+    go (Migrate db) is = no_delivery how (codes "migrate") refl is.0
+    go (Serve db port count seconds) is = no_delivery how (codes "serve") refl is.0
+    go (Ask db numbered) is = no_delivery how (codes "ask") refl is.0
+    go (ReportOn db query) is = subst (λ (o : Option Question). IsAnswerable o rows query.query) (no_question how rows) is.1
+    go (Picture db variant since supplier) is = no_delivery how (codes "picture") refl is.0
     go (Deliver db delivery) is = lacks delivery is.0 is.2
-    go (Check file) is = no_delivery kind (codes "check") refl is.0
-    go (Explain word) is = no_delivery kind (codes "explain") refl is.0
+    go (Check file) is = no_delivery how (codes "check") refl is.0
+    go (Explain word) is = no_delivery how (codes "explain") refl is.0
 
 -- where no manner is said, no file is tried
-pub untried : (rows : List Row) → manner_in rows ≡ None → (delivery : Delivery) → codes "try" ≡ word_of_delivery delivery.kind → IsDeliveryIn rows delivery → ⊥
-untried rows none delivery named is = go delivery.kind named is.2
+pub untried : (rows : List Row) → manner_in rows ≡ None → (delivery : Delivery) → codes "try" ≡ word_of_delivery delivery.how → IsDeliveryIn rows delivery → ⊥
+untried rows none delivery named is = go delivery.how named is.2
   where
-    go : (kind : DeliveryKind) → codes "try" ≡ word_of_delivery kind → HasKind kind rows → ⊥
+    go : (how : Purpose (Bor (List ℕ))) → codes "try" ≡ word_of_delivery how → HasPurpose how rows → ⊥
     go (ByLabel label) named has = cc
     go (Replacement whole) named has = cc
     go (Trial manner) named has = let no : None ≡ Some manner = sym none ∙ has in cc

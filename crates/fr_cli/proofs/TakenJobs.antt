@@ -15,14 +15,14 @@ use Rattle.fr_base.specs.declared.query.Query.{Query}
 use Rattle.fr_base.specs.declared.query.Query.TheVariants.{Register as OfRegister, Variant as OfVariant, Difference as OfTwo}
 use Rattle.fr_base.specs.declared.report.Report.{Report}
 use Rattle.fr_base.specs.declared.report.Report.TheVariants.{Grants, Frames, Schedule, Gaps, Layout, Load, Rows, Room, Export}
-use Rattle.fr_base.specs.declared.request.Manner.{Manner}
+use Rattle.fr_base.specs.declared.delivery.Manner.{Manner}
 use Rattle.fr_cli.specs.Commands.{slotplan}
 use Rattle.fr_cli.specs.Reports.{Question, asked_with, of_variant, text_of_name}
-use Rattle.fr_cli.specs.Words.{AreTaken, AskForNone, HasKind, HasNoObject, HasNumber, IsAnswerable, IsFoundWithoutObject, IsJobFound, IsJobIn, IsJobOf, IsNumberAt, IsWordAt, LackAnObject, asked_by, header_in, is_given, manner_in, max_number, records, word_of_delivery}
+use Rattle.fr_cli.specs.Words.{AreTaken, AskForNone, HasPurpose, HasNoObject, HasNumber, IsAnswerable, IsFoundWithoutObject, IsJobFound, IsJobIn, IsJobOf, IsNumberAt, IsWordAt, LackAnObject, asked_by, header_in, is_given, manner_in, max_number, records, word_of_delivery}
 use Rattle.fr_cli.specs.declared.words.reports.ArgName.{ArgName}
 use Rattle.fr_cli.specs.declared.words.reports.ArgName.TheVariants as arg
-use Rattle.fr_cli.specs.declared.words.delivery.DeliveryKind.{DeliveryKind}
-use Rattle.fr_cli.specs.declared.words.delivery.DeliveryKind.TheVariants.{Import as ByLabel, Replacement, Trial}
+use Rattle.fr_base.specs.declared.delivery.Purpose.{Purpose}
+use Rattle.fr_base.specs.declared.delivery.Purpose.TheVariants.{Import as ByLabel, Replacement, Trial}
 use Rattle.fr_cli.specs.declared.words.delivery.Delivery.{Delivery}
 use Rattle.fr_cli.specs.declared.words.inquiry.Inquiry.{Inquiry}
 use Rattle.fr_cli.specs.declared.words.Job.{Job}
@@ -137,16 +137,16 @@ module _ (s : Shape) (once : s.args_override_self ≡ false) (rest : List Text) 
       let is = subst (λ (q : Option Question). IsAnswerable q (rows_after s.rules [] rest) filled.0) (sym asks) filled.1 in
       (job.Report (lent at.text) inquiry, (at.first, is, lent_back who))
 
-  deliver_job : (kind : DeliveryKind) → s.name ≡ word_of_delivery kind → HasKind kind (rows_after s.rules [] rest)
+  deliver_job : (how : Purpose (Bor (List ℕ))) → s.name ≡ word_of_delivery how → HasPurpose how (rows_after s.rules [] rest)
       → has_word s.rules (codes "DB") ≡ true
       → has_word s.rules (codes "KEY") ≡ true → has_word s.rules (codes "VARIANT") ≡ true → has_word s.rules (codes "FILE") ≡ true
       → HasJob s.name (rows_after s.rules [] rest)
-  deliver_job kind named has db key variant file =
+  deliver_job how named has db key variant file =
       let at = there (codes "DB") db in
       let by = there (codes "KEY") key in
       let of = there (codes "VARIANT") variant in
       let from = there (codes "FILE") file in
-      let delivery : Delivery = record { key = lent by.text; variant = lent of.text; kind = kind; file = lent from.text } in
+      let delivery : Delivery = record { key = lent by.text; variant = lent of.text; how = how; file = lent from.text } in
       (job.Deliver (lent at.text) delivery, (named, at.first, (by.first, of.first, has, from.first)))
 
 run_job : (s : Shape) → s.name ≡ codes "run" → AlwaysHasJob s

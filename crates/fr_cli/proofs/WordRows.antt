@@ -7,7 +7,7 @@ use Rattle.clap.specs.declared.error.kind.ErrorKind.TheVariants as kinds
 use Rattle.fr_base.proofs.QueryLemmas.{names_open}
 use Rattle.fr_base.specs.declared.query.Query.TheVariants.{Variant as OfVariant, Difference as OfTwo}
 use Rattle.fr_base.specs.declared.report.Report.TheVariants.{Schedule}
-use Rattle.fr_base.specs.declared.request.Manner.TheVariants as manner
+use Rattle.fr_base.specs.declared.delivery.Manner.TheVariants as manner
 use Rattle.fr_cli.specs.Commands.{slotplan}
 use Rattle.fr_cli.specs.Reports.{asked_with}
 use Rattle.fr_cli.specs.Words.{AskFor, IsFaultOf, IsFileOf, LackAnObject, manner_in}

@@ -14,8 +14,8 @@ use Rattle.fr_base.specs.declared.import.Header.{Header}
 use Rattle.fr_base.specs.declared.import.Header.TheVariants.{Frames, Placements, Signals}
 use Rattle.fr_base.specs.declared.query.Query.{Query}
 use Rattle.fr_base.specs.declared.report.Report.TheVariants.{Export}
-use Rattle.fr_base.specs.declared.request.Manner.{Manner}
-use Rattle.fr_base.specs.declared.request.Manner.TheVariants.{Import, Replace}
+use Rattle.fr_base.specs.declared.delivery.Manner.{Manner}
+use Rattle.fr_base.specs.declared.delivery.Manner.TheVariants.{Import, Replace}
 use Rattle.fr_cli.specs.Commands.{slotplan}
 use Rattle.fr_cli.specs.Reports.{Question, asked_with, of_variant, text_of_name}
 use Rattle.fr_cli.specs.declared.words.reports.ArgName.{ArgName}
@@ -25,8 +25,8 @@ use Rattle.fr_cli.specs.declared.words.Job.TheVariants.{Run, Create, Migrate, Se
 use Rattle.fr_cli.specs.declared.words.WordFault.{WordFault}
 use Rattle.fr_cli.specs.declared.words.WordFault.TheVariants.{Help, Usage, NoMemory}
 use Rattle.fr_cli.specs.declared.words.delivery.Delivery.{Delivery}
-use Rattle.fr_cli.specs.declared.words.delivery.DeliveryKind.{DeliveryKind}
-use Rattle.fr_cli.specs.declared.words.delivery.DeliveryKind.TheVariants.{Import as ByLabel, Replacement, Trial}
+use Rattle.fr_base.specs.declared.delivery.Purpose.{Purpose}
+use Rattle.fr_base.specs.declared.delivery.Purpose.TheVariants.{Import as ByLabel, Replacement, Trial}
 use Rattle.fr_cli.specs.declared.words.inquiry.Inquiry.{Inquiry}
 use Rattle.fr_cli.specs.declared.words.check_subject.CheckSubject.{CheckSubject}
 use Rattle.fr_cli.specs.declared.words.check_subject.CheckSubject.TheVariants as of
@@ -121,21 +121,21 @@ abbrev pub manner_in : List Row → Option Manner
 manner_in rows = manner_by (is_given (codes "replace") rows) (is_given (codes "whole") rows)
 
 -- the subcommand that delivers a file of rows, or tries it
-abbrev pub word_of_delivery : DeliveryKind → Text
+abbrev pub word_of_delivery : Purpose (Bor (List ℕ)) → Text
 word_of_delivery (ByLabel label) = codes "import"
 word_of_delivery (Replacement whole) = codes "replace"
 word_of_delivery (Trial manner) = codes "try"
 
 -- The label of an import is the word at its place. A replacement is whole where that is said. A file is tried in the manner that is said.
-abbrev pub HasKind : DeliveryKind → List Row → Type 0
-HasKind (ByLabel label) rows = Has (codes "LABEL") rows label.now
-HasKind (Replacement whole) rows = whole ≡ is_given (codes "whole") rows
-HasKind (Trial manner) rows = manner_in rows ≡ Some manner
+abbrev pub HasPurpose : Purpose (Bor (List ℕ)) → List Row → Type 0
+HasPurpose (ByLabel label) rows = Has (codes "LABEL") rows label.now
+HasPurpose (Replacement whole) rows = whole ≡ is_given (codes "whole") rows
+HasPurpose (Trial manner) rows = manner_in rows ≡ Some manner
 
 -- The delivery is of these words.
 abbrev pub IsDeliveryIn : List Row → Delivery → Type 0
 IsDeliveryIn rows delivery = Has (codes "KEY") rows delivery.key.now × Has (codes "VARIANT") rows delivery.variant.now
-    × HasKind delivery.kind rows × Has (codes "FILE") rows delivery.file.now
+    × HasPurpose delivery.how rows × Has (codes "FILE") rows delivery.file.now
 
 -- The job is the subcommand's of this name, with the words that stand at its places.
 abbrev pub IsJobOf : Job → Text → List Row → Type 0
@@ -150,7 +150,7 @@ IsJobOf (ReportOn db query) name rows = Has (codes "DB") rows db.now × IsAnswer
     × IsOfSupplier query.supplier rows
 IsJobOf (Picture db variant since supplier) name rows = (name ≡ codes "picture") × Has (codes "DB") rows db.now × Has (codes "VARIANT") rows variant.now
     × IsSince since rows × IsOfSupplier supplier rows
-IsJobOf (Deliver db delivery) name rows = (name ≡ word_of_delivery delivery.kind) × Has (codes "DB") rows db.now × IsDeliveryIn rows delivery
+IsJobOf (Deliver db delivery) name rows = (name ≡ word_of_delivery delivery.how) × Has (codes "DB") rows db.now × IsDeliveryIn rows delivery
 IsJobOf (Check file) name rows = (name ≡ codes "check") × IsFileOf file rows
 IsJobOf (Explain word) name rows = (name ≡ codes "explain") × (option_map (λ w. w.now) word ≡ first_of (codes "WORD") rows)
 

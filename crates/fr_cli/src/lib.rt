@@ -27,6 +27,6 @@ pub use script_fault::ScriptFault;
 pub use streams::listener::Listener;
 pub use streams::local_listener::LocalListener;
 pub use words::check_subject::CheckSubject;
-pub use words::delivery::{Delivery, DeliveryKind};
+pub use words::delivery::Delivery;
 pub use words::inquiry::Inquiry;
 pub use words::{Job, WordFault, read_words};

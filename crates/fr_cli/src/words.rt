@@ -2,7 +2,7 @@
 ghost use Rattle.std.specs.Prelude.{◌≡◌, ◌⊎◌, codes, map, option_map, string_bytes, IfErr, IfOk, OnOk};
 ghost use Rattle.clap.specs.Walk.{first_of, rows_of};
 ghost use Rattle.clap.specs.Words.{found_of, kind_of, subcommand_rows_of};
-ghost use Rattle.fr_cli.specs.Words.{AreTaken, AskFor, HasKind, IsFaultOf, IsFileIn, IsJobFound, IsJobIn, IsJobOf, IsNumberIn, IsOfKind, IsReportJobIn, LackAnObject, MayRefuse, asked_by, header_in, is_given, manner_in, records, word_of_delivery};
+ghost use Rattle.fr_cli.specs.Words.{AreTaken, AskFor, HasPurpose, IsFaultOf, IsFileIn, IsJobFound, IsJobIn, IsJobOf, IsNumberIn, IsOfKind, IsReportJobIn, LackAnObject, MayRefuse, asked_by, header_in, is_given, manner_in, records, word_of_delivery};
 ghost use Rattle.fr_cli.specs.declared.words.WordFault.TheVariants.{NoMemory};
 
 pub(crate) mod check_subject;
@@ -13,12 +13,12 @@ pub(crate) mod reports;
 
 use crate::words::check_subject::CheckSubject;
 use crate::words::commands::{MAX_CONNECTIONS, MAX_PORT, MAX_SECONDS, program};
-use crate::words::delivery::{Delivery, DeliveryKind};
+use crate::words::delivery::Delivery;
 use crate::words::inquiry::Inquiry;
 use crate::words::reports::{ArgName, report_command};
 use clap::error::ErrorKind;
 use clap::{ArgMatches, Error};
-use fr_base::{Header, Manner, Query, QueryReader, Report};
+use fr_base::{Header, Manner, Purpose, Query, QueryReader, Report};
 use std::alloc::Global;
 
 /// What is said of words of `check` that name no job, though `clap` takes them.
@@ -315,21 +315,21 @@ fn import_job<'a>(found: &ArgMatches<'a>) -> Option<Job<'a>>
     ensures { IsJobIn result (codes "import") (rows_of (found_of found.now)) }
 {
     let label = word(found, "LABEL")?;
-    deliver_job(found, DeliveryKind::Import { label })
+    deliver_job(found, Purpose::Import { label })
 }
 
 fn replace_job<'a>(found: &ArgMatches<'a>) -> Option<Job<'a>>
     ensures { IsJobIn result (codes "replace") (rows_of (found_of found.now)) }
 {
     let whole = flag(found, "whole");
-    deliver_job(found, DeliveryKind::Replacement { whole })
+    deliver_job(found, Purpose::Replacement { whole })
 }
 
 fn try_job<'a>(found: &ArgMatches<'a>) -> Option<Job<'a>>
     ensures { IsJobIn result (codes "try") (rows_of (found_of found.now)) }
 {
     let manner = manner(found)?;
-    deliver_job(found, DeliveryKind::Trial { manner })
+    deliver_job(found, Purpose::Trial { manner })
 }
 
 // How the rows of a file act that is tried.
@@ -346,15 +346,15 @@ fn manner(found: &ArgMatches<'_>) -> Option<Manner>
     }
 }
 
-fn deliver_job<'a>(found: &ArgMatches<'a>, kind: DeliveryKind<'a>) -> Option<Job<'a>>
-    ensures { HasKind kind.entry (rows_of (found_of found.now))
-        → IsJobIn result (word_of_delivery kind.entry) (rows_of (found_of found.now)) }
+fn deliver_job<'a>(found: &ArgMatches<'a>, how: Purpose<&'a str>) -> Option<Job<'a>>
+    ensures { HasPurpose how.entry (rows_of (found_of found.now))
+        → IsJobIn result (word_of_delivery how.entry) (rows_of (found_of found.now)) }
 {
     let db = word(found, "DB")?;
     let delivery = Delivery {
         key: word(found, "KEY")?,
         variant: word(found, "VARIANT")?,
-        kind,
+        how,
         file: word(found, "FILE")?,
     };
     Some(Job::Deliver { db, delivery })

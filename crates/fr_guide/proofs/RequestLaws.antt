@@ -3,7 +3,7 @@ use Rattle.std.proofs.Common.{◌≡◌, ◌∙◌, ap, refl, sym, ℕ, Bool, tr
 use Rattle.std.specs.Prelude.{not, ◌&&◌, nat_le}
 use Rattle.std.specs.List.{list_all}
 use Rattle.fr_base.specs.Channels.{channel_of_text, channels_in, channels_of_text, has_channel}
-use Rattle.fr_base.specs.Checks.{asking, channel, channels, check, cycles, key, name, beginning, placement, query, report, signal, slot}
+use Rattle.fr_base.specs.Checks.{asking, channel, channels, check, cycles, key, name, beginning, placement, purpose, query, report, signal, slot}
 use Rattle.fr_base.specs.Cycles.{Cycles, are_cycles, is_repetition}
 use Rattle.fr_base.specs.Names.{is_key, is_name}
 use Rattle.fr_base.specs.Refusing.{◌>>=◌, ◌>>◌, ◌or◌, refuse◌when◌}
@@ -17,6 +17,7 @@ use Rattle.fr_base.specs.declared.beginning.Beginning.TheVariants.{Empty, From, 
 use Rattle.fr_base.specs.declared.query.Query.TheVariants.{Register as OfRegister, Variant as OfVariant, Difference as OfTwo}
 use Rattle.fr_base.specs.declared.report.Report.TheVariants.{Grants, Frames, Schedule, Gaps, Layout, Load, Rows, Room, Export}
 use Rattle.fr_base.specs.declared.request.Request.TheVariants as request
+use Rattle.fr_base.specs.declared.delivery.Purpose.TheVariants.{Import, Replacement, Trial}
 use Rattle.fr_base.specs.declared.signal.Order.{Order}
 use Rattle.fr_guide.specs.Laws.{MisformedRequestsAreRefused, is_misformed}
 use Rattle.fr_guide.specs.Requests.{formed_in}
@@ -123,7 +124,7 @@ in_turn (Err e) f g = refl
 -- ---- requests
 
 pub misformed_requests : MisformedRequestsAreRefused
-unfolding check asking formed_in ◌>>=◌ ◌>>◌ refuse◌when◌ beginning report query
+unfolding check asking formed_in ◌>>=◌ ◌>>◌ refuse◌when◌ beginning purpose report query
 misformed_requests p s (request.OpenVariant v Empty) = sym (named v _ true refl)
 misformed_requests p s (request.OpenVariant v (From parent)) = sym (named v _ (is_name parent && true) (named_within parent _ _ refl))
 misformed_requests p s (request.OpenVariant v (Flat from)) = sym (named v _ (is_name from && true) (named_within from _ _ refl))
@@ -146,9 +147,9 @@ misformed_requests p s (request.Unplace v frame n text base repetition) =
 misformed_requests p s (request.AddSignal v frame x start length text) =
     sym (named v _ _ (named frame _ _ (named x _ true (formed_behind (signal x start length text) _ (signal-formed x start length text) (λ y. refl)))))
 misformed_requests p s (request.DropSignal v frame x) = sym (named v _ _ (named frame _ _ (named x _ true refl)))
-misformed_requests p s (request.Import v label body) = sym (named v _ _ (named label _ true refl))
-misformed_requests p s (request.Replace v whole body) = sym (named v _ true refl)
-misformed_requests p s (request.Try v how body) = sym (named v _ true refl)
+misformed_requests p s (request.Deliver v (Import label) body) = sym (named v _ (is_name label && true) (named_within label _ _ refl))
+misformed_requests p s (request.Deliver v (Replacement whole) body) = sym (named v _ true refl)
+misformed_requests p s (request.Deliver v (Trial how) body) = sym (named v _ true refl)
 misformed_requests p s (request.Query (OfRegister inventory)) = refl
 misformed_requests p s (request.Query (OfVariant v Grants)) = sym (named_within v _ _ refl)
 misformed_requests p s (request.Query (OfVariant v Frames)) = sym (named_within v _ _ refl)

@@ -10,6 +10,7 @@ use Rattle.fr_base.specs.declared.report.Report.{Report}
 use Rattle.fr_base.specs.declared.report.Report.TheVariants.{Grants, Frames, Schedule, Gaps, Layout, Load, Rows, Room, Export}
 use Rattle.fr_base.specs.declared.request.Request.{Request}
 use Rattle.fr_base.specs.declared.request.Request.TheVariants as request
+use Rattle.fr_base.specs.declared.delivery.Purpose.TheVariants as purpose
 use Rattle.fr_text.specs.RequestText.{request_of}
 use Rattle.fr_guide.specs.declared.form.Form.{Form}
 use Rattle.fr_guide.specs.declared.form.Form.TheVariants as form
@@ -62,9 +63,8 @@ formed_in (request.Place variant frame slot channels base repetition) = name var
 formed_in (request.Unplace variant frame slot channels base repetition) = name variant ∷ name frame ∷ []
 formed_in (request.AddSignal variant frame signal start length order) = name variant ∷ name frame ∷ name signal ∷ []
 formed_in (request.DropSignal variant frame signal) = name variant ∷ name frame ∷ name signal ∷ []
-formed_in (request.Import variant label body) = name variant ∷ name label ∷ []
-formed_in (request.Replace variant whole body) = name variant ∷ []
-formed_in (request.Try variant how body) = name variant ∷ []
+formed_in (request.Deliver variant (purpose.Import label) body) = name variant ∷ name label ∷ []
+formed_in (request.Deliver variant _ body) = name variant ∷ []
 formed_in (request.Query query) = names_in query
 
 -- whether each of these texts has its form

@@ -14,7 +14,7 @@ use Rattle.fr_base.proofs.RunLaws.{runs-one}
 use Rattle.fr_http.specs.Exchanges.{Advised, Answered, Asks, Dealing, Drawn, Exchanged, IsBrokenOff, IsExchange, IsReplied, IsReplyWithout, IsTold, IsUnasked, asked_in}
 use Rattle.fr_base.specs.Refusing.{◌>>=◌, ◌or◌}
 use Rattle.fr_base.specs.declared.refusal.Refusal.TheVariants.{UnknownKey}
-use Rattle.fr_base.specs.QueryNames.{query_by}
+use Rattle.fr_base.specs.QueryNames.{purpose_with, query_by}
 use Rattle.fr_base.specs.declared.request.Request.{Request}
 use Rattle.fr_base.specs.declared.request.Request.TheVariants as request
 use Rattle.fr_text.specs.RequestText.{request_of}
@@ -34,7 +34,7 @@ use Rattle.fr_http.specs.declared.fault.Unasked.{Unasked}
 use Rattle.fr_http.specs.declared.fault.Unasked.TheVariants.{Engine, Explained, Fault, Page, Refused}
 use Rattle.fr_http.specs.declared.path_name.PathName.TheVariants as named
 use Rattle.fr_http.specs.declared.routes.Route.{Route}
-use Rattle.fr_http.specs.declared.routes.Route.TheVariants.{Advice, Commands, Explanation, Explanations, Import, Replace, Try, Query, Picture, Page as OwnPage}
+use Rattle.fr_http.specs.declared.routes.Route.TheVariants.{Advice, Commands, Explanation, Explanations, Deliver, Query, Picture, Page as OwnPage}
 use Rattle.fr_http.specs.declared.method.Method.{Method}
 use Rattle.fr_http.specs.declared.serve.Served.{Served}
 
@@ -108,9 +108,7 @@ module _ (who : List ℕ → Option Actor) where
   by_route Explanation path body found method plain = absurd (true≢false plain)
   by_route (Advice subject) path body found method plain = found-plain found method (operation.Advice subject body)
   by_route Commands path body found method plain = text-plain (request_of body) found method
-  by_route Import path body found method plain = found-plain found method (operation.Request (request.Import (part named.Variant path) (part named.Label path) body))
-  by_route (Replace whole) path body found method plain = found-plain found method (operation.Request (request.Replace (part named.Variant path) whole body))
-  by_route (Try how) path body found method plain = found-plain found method (operation.Request (request.Try (part named.Variant path) how body))
+  by_route (Deliver how) path body found method plain = found-plain found method (operation.Request (request.Deliver (part named.Variant path) (purpose_with (λ name. part name path) how) body))
   by_route (Query asked) path body found method plain =
       text-plain (option_map request.Query (query_by (λ name. part name path) (λ name. number_in name path) asked)) found method
   by_route (Picture since) path body found method plain = found-plain found method (operation.Picture (part named.Variant path) (other_variant since path))

@@ -32,7 +32,7 @@ use Rattle.fr_http.specs.declared.fault.Rejection.{Rejection}
 use Rattle.fr_http.specs.declared.fault.Unasked.{Unasked}
 use Rattle.fr_http.specs.declared.fault.Unasked.TheVariants.{Engine, Explained, Page, Refused, Fault}
 use Rattle.fr_http.specs.declared.routes.Route.{Route}
-use Rattle.fr_http.specs.declared.routes.Route.TheVariants.{Advice, Commands, Explanation, Explanations, Import, Replace, Try, Query, Picture, Page as OwnPage}
+use Rattle.fr_http.specs.declared.routes.Route.TheVariants.{Advice, Commands, Explanation, Explanations, Deliver, Query, Picture, Page as OwnPage}
 
 -- ---- outcomes, step by step
 
@@ -70,9 +70,7 @@ operation_no_fault Explanations path body = refl
 operation_no_fault Explanation path body = refl
 operation_no_fault (Advice subject) path body = refl
 operation_no_fault Commands path body = text_no_fault _
-operation_no_fault Import path body = refl
-operation_no_fault (Replace whole) path body = refl
-operation_no_fault (Try how) path body = refl
+operation_no_fault (Deliver how) path body = refl
 operation_no_fault (Query asked) path body = text_no_fault _
 operation_no_fault (Picture since) path body = refl
 

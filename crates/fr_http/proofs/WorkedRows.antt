@@ -13,8 +13,9 @@ use Rattle.fr_base.specs.declared.answer.Answer.TheVariants as answer
 use Rattle.fr_base.specs.declared.answer.ReportRows.TheVariants as rows_of
 use Rattle.fr_base.specs.declared.channel.Channel.TheVariants as channel
 use Rattle.fr_base.specs.declared.refusal.Refusal.TheVariants as refusal
-use Rattle.fr_base.specs.declared.request.Manner.TheVariants as manner
+use Rattle.fr_base.specs.declared.delivery.Manner.TheVariants as manner
 use Rattle.fr_base.specs.declared.request.Request.TheVariants as request
+use Rattle.fr_base.specs.declared.delivery.Purpose.TheVariants as purpose
 use Rattle.fr_text.specs.AnswerText.{report_of, text_of, text_of_refusal}
 use Rattle.fr_text.specs.Report.{frame_record, header_line, lines_of, lines_of_rows, node_line, schedule_line}
 use Rattle.fr_text.specs.Styles.{plain_lines, json_lines}
@@ -38,7 +39,7 @@ use Rattle.fr_http.specs.declared.path_name.PathName.{PathName}
 use Rattle.fr_http.specs.declared.path_name.PathName.TheVariants as named
 use Rattle.fr_http.specs.declared.routes.Resource.{Resource}
 use Rattle.fr_http.specs.declared.routes.Resource.TheVariants.{One, Two}
-use Rattle.fr_http.specs.declared.routes.Route.TheVariants.{Commands, Import, Replace, Try, Query, Picture, Page as OwnPage}
+use Rattle.fr_http.specs.declared.routes.Route.TheVariants.{Commands, Deliver, Query, Picture, Page as OwnPage}
 
 -- what an answer unfolds to compute these definitions
 unfoldable rows : ⊤
@@ -57,7 +58,7 @@ pub routes :
     ∷ codes "/v1/variants/v1/schedule" ∷ codes "/v1/variants/v1/gaps" ∷ codes "/v1/variants/v1/frames/f1/layout" ∷ codes "/v1/variants/1%20v/gaps"
     ∷ codes "/v1/variants/v1/picture" ∷ codes "/v1/variants/v2/since/v1/picture" ∷ []
     )
-    ≡ Some (One Commands) ∷ Some (One Import) ∷ Some (report Grants) ∷ Some (report Frames) ∷ Some (report Schedule) ∷ Some (report Gaps) ∷ Some (report (Layout named.Frame)) ∷ Some (report Gaps)
+    ≡ Some (One Commands) ∷ Some (One (Deliver (purpose.Import named.Label))) ∷ Some (report Grants) ∷ Some (report Frames) ∷ Some (report Schedule) ∷ Some (report Gaps) ∷ Some (report (Layout named.Frame)) ∷ Some (report Gaps)
     ∷ Some (One (Picture false)) ∷ Some (One (Picture true)) ∷ []
 unfolding rows
 routes = refl
@@ -70,13 +71,13 @@ routes_of_the_register = refl
 
 pub routes_of_rows :
     map route_of (codes "/v1/variants/v1/load" ∷ codes "/v1/variants/v1/rows" ∷ [])
-    ≡ Some (report Load) ∷ Some (Two (of_variant Rows) (Replace false)) ∷ []
+    ≡ Some (report Load) ∷ Some (Two (of_variant Rows) (Deliver (purpose.Replacement false))) ∷ []
 unfolding rows
 routes_of_rows = refl
 
 pub routes_of_wholes :
     map route_of (codes "/v1/variants/v1/rows/whole" ∷ codes "/v1/variants/v1/tries/whole" ∷ [])
-    ≡ Some (One (Replace true)) ∷ Some (One (Try (manner.Replace true))) ∷ []
+    ≡ Some (One (Deliver (purpose.Replacement true))) ∷ Some (One (Deliver (purpose.Trial (manner.Replace true)))) ∷ []
 unfolding rows
 routes_of_wholes = refl
 
@@ -142,23 +143,23 @@ unfolding rows
 no_routes = refl
 
 pub operations :
-    operation_by Import (codes "/v1/variants/v1/imports/a") (codes "x")
+    operation_by (Deliver (purpose.Import named.Label)) (codes "/v1/variants/v1/imports/a") (codes "x")
     ∷ operation_by (of_variant Schedule) (codes "/v1/variants/v1/schedule") []
     ∷ operation_by (of_variant (Layout named.Frame)) (codes "/v1/variants/v1/frames/f1/layout") []
     ∷ operation_by (Picture false) (codes "/v1/variants/v1/picture") [] ∷ operation_by (Picture true) (codes "/v1/variants/v2/since/v1/picture") []
     ∷ []
-    ≡ Ok (operation.Request (request.Import (codes "v1") (codes "a") (codes "x"))) ∷ Ok (operation.Request (request.Query (OfVariant (codes "v1") Schedule)))
+    ≡ Ok (operation.Request (request.Deliver (codes "v1") (purpose.Import (codes "a")) (codes "x"))) ∷ Ok (operation.Request (request.Query (OfVariant (codes "v1") Schedule)))
     ∷ Ok (operation.Request (request.Query (OfVariant (codes "v1") (Layout (codes "f1"))))) ∷ Ok (operation.Picture (codes "v1") None)
     ∷ Ok (operation.Picture (codes "v2") (Some (codes "v1"))) ∷ []
 unfolding rows
 operations = refl
 
 pub operations_of_rows :
-    operation_by (Replace false) (codes "/v1/variants/v1/rows") (codes "x")
+    operation_by (Deliver (purpose.Replacement false)) (codes "/v1/variants/v1/rows") (codes "x")
     ∷ operation_by (of_variant (Room named.Frame named.Repetition)) (codes "/v1/variants/v1/frames/f1/room/0000000004") []
     ∷ operation_by (of_variant (Export header.Signals named.Part)) (codes "/v1/variants/v1/exports/signals/4294967295") []
     ∷ []
-    ≡ Ok (operation.Request (request.Replace (codes "v1") false (codes "x")))
+    ≡ Ok (operation.Request (request.Deliver (codes "v1") (purpose.Replacement false) (codes "x")))
     ∷ Ok (operation.Request (request.Query (OfVariant (codes "v1") (Room (codes "f1") 4))))
     ∷ Ok (operation.Request (request.Query (OfVariant (codes "v1") (Export header.Signals 4294967295))))
     ∷ []
@@ -212,7 +213,7 @@ pub puts :
     ∷ head (codes "PUT") (codes "/v1/variants/v1/rows") (length_field (codes "65537") ∷ []) ∷ head (codes "POST") (codes "/v1/variants/v1/rows") []
     ∷ head (codes "GET") (codes "/v1/variants/v1/rows") [] ∷ head (codes "PUT") (codes "/v1/variants/v1/load") [] ∷ []
     )
-    ≡ Ok (record { route = Replace false; length = 7 }) ∷ Err LengthRequired ∷ Err PayloadTooLarge ∷ Err (MethodNotAllowed (Either Get Put))
+    ≡ Ok (record { route = Deliver (purpose.Replacement false); length = 7 }) ∷ Err LengthRequired ∷ Err PayloadTooLarge ∷ Err (MethodNotAllowed (Either Get Put))
     ∷ Ok (record { route = of_variant Rows; length = 0 }) ∷ Err (MethodNotAllowed (Only Get)) ∷ []
 unfolding rows
 puts = refl
@@ -223,13 +224,13 @@ pub tries :
     head (codes "POST") (codes "/v1/variants/v1/tries") (length_field (codes "7") ∷ []) ∷ head (codes "PUT") (codes "/v1/variants/v1/tries") (length_field (codes "7") ∷ [])
     ∷ head (codes "PUT") (codes "/v1/variants/v1/tries") [] ∷ head (codes "GET") (codes "/v1/variants/v1/tries") [] ∷ []
     )
-    ≡ Ok (record { route = Try manner.Import; length = 7 }) ∷ Ok (record { route = Try (manner.Replace false); length = 7 }) ∷ Err LengthRequired ∷ Err (MethodNotAllowed (Either Post Put)) ∷ []
+    ≡ Ok (record { route = Deliver (purpose.Trial manner.Import); length = 7 }) ∷ Ok (record { route = Deliver (purpose.Trial (manner.Replace false)); length = 7 }) ∷ Err LengthRequired ∷ Err (MethodNotAllowed (Either Post Put)) ∷ []
 unfolding rows
 tries = refl
 
 pub operations_of_tries :
-    operation_by (Try manner.Import) (codes "/v1/variants/v1/tries") (codes "x") ∷ operation_by (Try (manner.Replace false)) (codes "/v1/variants/v1/tries") (codes "x") ∷ []
-    ≡ Ok (operation.Request (request.Try (codes "v1") manner.Import (codes "x"))) ∷ Ok (operation.Request (request.Try (codes "v1") (manner.Replace false) (codes "x"))) ∷ []
+    operation_by (Deliver (purpose.Trial manner.Import)) (codes "/v1/variants/v1/tries") (codes "x") ∷ operation_by (Deliver (purpose.Trial (manner.Replace false))) (codes "/v1/variants/v1/tries") (codes "x") ∷ []
+    ≡ Ok (operation.Request (request.Deliver (codes "v1") (purpose.Trial manner.Import) (codes "x"))) ∷ Ok (operation.Request (request.Deliver (codes "v1") (purpose.Trial (manner.Replace false)) (codes "x"))) ∷ []
 unfolding rows
 operations_of_tries = refl
 
@@ -239,13 +240,13 @@ pub wholes :
     head (codes "PUT") (codes "/v1/variants/v1/rows/whole") (length_field (codes "7") ∷ []) ∷ head (codes "PUT") (codes "/v1/variants/v1/tries/whole") (length_field (codes "7") ∷ [])
     ∷ head (codes "POST") (codes "/v1/variants/v1/rows/whole") [] ∷ head (codes "POST") (codes "/v1/variants/v1/tries/whole") [] ∷ head (codes "PUT") (codes "/v1/variants/v1/rows/whole") [] ∷ []
     )
-    ≡ Ok (record { route = Replace true; length = 7 }) ∷ Ok (record { route = Try (manner.Replace true); length = 7 }) ∷ Err (MethodNotAllowed (Only Put)) ∷ Err (MethodNotAllowed (Only Put)) ∷ Err LengthRequired ∷ []
+    ≡ Ok (record { route = Deliver (purpose.Replacement true); length = 7 }) ∷ Ok (record { route = Deliver (purpose.Trial (manner.Replace true)); length = 7 }) ∷ Err (MethodNotAllowed (Only Put)) ∷ Err (MethodNotAllowed (Only Put)) ∷ Err LengthRequired ∷ []
 unfolding rows
 wholes = refl
 
 pub operations_of_wholes :
-    operation_by (Replace true) (codes "/v1/variants/v1/rows/whole") (codes "x") ∷ operation_by (Try (manner.Replace true)) (codes "/v1/variants/v1/tries/whole") (codes "x") ∷ []
-    ≡ Ok (operation.Request (request.Replace (codes "v1") true (codes "x"))) ∷ Ok (operation.Request (request.Try (codes "v1") (manner.Replace true) (codes "x"))) ∷ []
+    operation_by (Deliver (purpose.Replacement true)) (codes "/v1/variants/v1/rows/whole") (codes "x") ∷ operation_by (Deliver (purpose.Trial (manner.Replace true))) (codes "/v1/variants/v1/tries/whole") (codes "x") ∷ []
+    ≡ Ok (operation.Request (request.Deliver (codes "v1") (purpose.Replacement true) (codes "x"))) ∷ Ok (operation.Request (request.Deliver (codes "v1") (purpose.Trial (manner.Replace true)) (codes "x"))) ∷ []
 unfolding rows
 operations_of_wholes = refl
 
@@ -293,7 +294,7 @@ unknown_keys = refl
 pub imports :
     map (λ rest. outcome_of who (head (codes "POST") (codes "/v1/variants/v1/imports/a") ((codes "x-office-key", codes "supplier01") ∷ length_field (codes "2") ∷ [])) rest)
     (codes "xyz" ∷ codes "x" ∷ [])
-    ≡ Ok (exchange.Request (record { actor = actor.Supplier (codes "s1"); request = request.Import (codes "v1") (codes "a") (codes "xy") }) Post)
+    ≡ Ok (exchange.Request (record { actor = actor.Supplier (codes "s1"); request = request.Deliver (codes "v1") (purpose.Import (codes "a")) (codes "xy") }) Post)
     ∷ Err (Fault Truncated) ∷ []
 unfolding rows
 imports = refl

@@ -12,7 +12,7 @@ use Rattle.matchit.specs.Seek.{first}
 use Rattle.matchit.specs.declared.error.InsertError.{InsertError}
 use Rattle.fr_base.specs.ImportRows.{number}
 use Rattle.fr_base.specs.Names.{same_text}
-use Rattle.fr_base.specs.QueryNames.{query_by}
+use Rattle.fr_base.specs.QueryNames.{purpose_with, query_by}
 use Rattle.fr_base.specs.declared.import.Header.{Header}
 use Rattle.fr_base.specs.declared.import.Header.TheVariants as header
 use Rattle.fr_base.specs.declared.query.Inventory.{Inventory}
@@ -21,9 +21,11 @@ use Rattle.fr_base.specs.declared.query.Query.TheVariants.{Register as OfRegiste
 use Rattle.fr_base.specs.declared.report.Report.{Report}
 use Rattle.fr_base.specs.declared.report.Report.TheVariants.{Grants, Frames, Schedule, Gaps, Layout, Load, Rows, Room, Export}
 use Rattle.fr_base.specs.declared.refusal.Refusal.TheVariants.{BadText}
-use Rattle.fr_base.specs.declared.request.Manner.TheVariants as manner
+use Rattle.fr_base.specs.declared.delivery.Manner.TheVariants as manner
 use Rattle.fr_base.specs.declared.request.Request.{Request}
 use Rattle.fr_base.specs.declared.request.Request.TheVariants as request
+use Rattle.fr_base.specs.declared.delivery.Purpose.{Purpose}
+use Rattle.fr_base.specs.declared.delivery.Purpose.TheVariants as purpose
 use Rattle.fr_text.specs.RequestText.{request_of}
 use Rattle.fr_guide.specs.RefusalNumbers.{meant_word}
 use Rattle.fr_guide.specs.Topics.{is_explained}
@@ -41,7 +43,7 @@ use Rattle.fr_http.specs.declared.path_name.PathName.TheVariants as named
 use Rattle.fr_http.specs.declared.routes.Resource.{Resource}
 use Rattle.fr_http.specs.declared.routes.Resource.TheVariants.{One, Two}
 use Rattle.fr_http.specs.declared.routes.Route.{Route}
-use Rattle.fr_http.specs.declared.routes.Route.TheVariants.{Page, Explanations, Explanation, Advice, Commands, Import, Replace, Try, Query, Picture}
+use Rattle.fr_http.specs.declared.routes.Route.TheVariants.{Page, Explanations, Explanation, Advice, Commands, Deliver, Query, Picture}
 
 -- a method as a request spells it
 abbrev pub text_of_method : Method → List ℕ
@@ -50,12 +52,15 @@ text_of_method Post = codes "POST"
 text_of_method Put = codes "PUT"
 
 -- the method of a route
+abbrev pub method_of_delivery : {N : Type 0} → Purpose N → Method
+method_of_delivery (purpose.Import label) = Post
+method_of_delivery (purpose.Replacement whole) = Put
+method_of_delivery (purpose.Trial (manner.Replace whole)) = Put
+method_of_delivery (purpose.Trial manner.Import) = Post
+
 abbrev pub method_of : Route → Method
 method_of Commands = Post
-method_of Import = Post
-method_of (Replace whole) = Put
-method_of (Try (manner.Replace whole)) = Put
-method_of (Try manner.Import) = Post
+method_of (Deliver how) = method_of_delivery how
 method_of (Query asked) = Get
 method_of (Picture since) = Get
 method_of Page = Get
@@ -114,7 +119,7 @@ table =
     ∷ (codes "/v1/cluster", of_register Cluster)
     ∷ (codes "/v1/variants", of_register Variants)
     ∷ (codes "/v1/nodes", of_register Nodes)
-    ∷ (codes "/v1/variants/{variant}/imports/{label}", One Import)
+    ∷ (codes "/v1/variants/{variant}/imports/{label}", One (Deliver (purpose.Import named.Label)))
     ∷ (codes "/v1/variants/{variant}/since/{from}", of_two)
     ∷ (codes "/v1/variants/{variant}/grants", report Grants)
     ∷ (codes "/v1/variants/{variant}/frames", report Frames)
@@ -126,10 +131,10 @@ table =
     ∷ (codes "/v1/variants/{variant}/exports/frames/{part}", export header.Frames)
     ∷ (codes "/v1/variants/{variant}/exports/placements/{part}", export header.Placements)
     ∷ (codes "/v1/variants/{variant}/exports/signals/{part}", export header.Signals)
-    ∷ (codes "/v1/variants/{variant}/rows", Two (of_variant Rows) (Replace false))
-    ∷ (codes "/v1/variants/{variant}/rows/whole", One (Replace true))
-    ∷ (codes "/v1/variants/{variant}/tries", Two (Try manner.Import) (Try (manner.Replace false)))
-    ∷ (codes "/v1/variants/{variant}/tries/whole", One (Try (manner.Replace true)))
+    ∷ (codes "/v1/variants/{variant}/rows", Two (of_variant Rows) (Deliver (purpose.Replacement false)))
+    ∷ (codes "/v1/variants/{variant}/rows/whole", One (Deliver (purpose.Replacement true)))
+    ∷ (codes "/v1/variants/{variant}/tries", Two (Deliver (purpose.Trial manner.Import)) (Deliver (purpose.Trial (manner.Replace false))))
+    ∷ (codes "/v1/variants/{variant}/tries/whole", One (Deliver (purpose.Trial (manner.Replace true))))
     ∷ (codes "/v1/variants/{variant}/picture", One (Picture false))
     ∷ (codes "/v1/variants/{variant}/since/{from}/picture", One (Picture true))
     ∷ []
@@ -208,9 +213,7 @@ operation_by Explanations path body = Err (Explained None)
 operation_by Explanation path body = Err (Explained (Some (part named.Word path)))
 operation_by (Advice on) path body = Ok (operation.Advice on body)
 operation_by Commands path body = asked_or_refused (request_of body)
-operation_by Import path body = Ok (operation.Request (request.Import (part named.Variant path) (part named.Label path) body))
-operation_by (Replace whole) path body = Ok (operation.Request (request.Replace (part named.Variant path) whole body))
-operation_by (Try how) path body = Ok (operation.Request (request.Try (part named.Variant path) how body))
+operation_by (Deliver how) path body = Ok (operation.Request (request.Deliver (part named.Variant path) (purpose_with (λ name. part name path) how) body))
 operation_by (Query asked) path body =
     asked_or_refused (option_map request.Query (query_by (λ name. part name path) (λ name. number_in name path) asked))
 operation_by (Picture since) path body = Ok (operation.Picture (part named.Variant path) (other_variant since path))

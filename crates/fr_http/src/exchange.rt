@@ -93,6 +93,10 @@ pub(crate) fn asked_operation(
 ) -> Result<Operation, Unasked>
     ensures { MakesOperation plan.now.route plan.now.path.now body.now result }
 {
+    let words = PathWords {
+        alloc,
+        path: plan.path,
+    };
     match plan.route {
         Route::Page => Err(Unasked::Page),
         Route::Explanations => Err(Unasked::Explained { word: None }),
@@ -104,28 +108,12 @@ pub(crate) fn asked_operation(
             text: Body::copy(alloc, body)?,
         }),
         Route::Commands => Ok(Operation::Request(command(alloc, body)?)),
-        Route::Import => Ok(Operation::Request(Request::Import {
+        Route::Deliver(how) => Ok(Operation::Request(Request::Deliver {
             variant: copy_part(alloc, plan.path, PathName::Variant)?,
-            label: copy_part(alloc, plan.path, PathName::Label)?,
+            how: how.read(&words)?,
             body: Body::copy(alloc, body)?,
         })),
-        Route::Replace { whole } => Ok(Operation::Request(Request::Replace {
-            variant: copy_part(alloc, plan.path, PathName::Variant)?,
-            whole,
-            body: Body::copy(alloc, body)?,
-        })),
-        Route::Try { manner } => Ok(Operation::Request(Request::Try {
-            variant: copy_part(alloc, plan.path, PathName::Variant)?,
-            manner,
-            body: Body::copy(alloc, body)?,
-        })),
-        Route::Query(asked) => {
-            let words = PathWords {
-                alloc,
-                path: plan.path,
-            };
-            Ok(Operation::Request(Request::Query(asked.read(&words)?)))
-        }
+        Route::Query(asked) => Ok(Operation::Request(Request::Query(asked.read(&words)?))),
         Route::Picture { since } => Ok(Operation::Picture {
             variant: copy_part(alloc, plan.path, PathName::Variant)?,
             since: other_variant(alloc, plan.path, since)?,
@@ -161,7 +149,7 @@ struct PathWords<'a> {
     path: &'a str,
 }
 
-// The names and numbers of a query are parts of the path.
+// The names and numbers of a query, and an import's label, are parts of the path.
 impl QueryReader<PathName, PathName, Text, Unasked> for PathWords<'_> {
     ghost use Rattle.fr_http.specs.Operations.{CountsPart, NamesPart};
 

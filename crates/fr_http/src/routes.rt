@@ -3,12 +3,12 @@ ghost use Rattle.std.specs.Prelude.{◌≡◌, ◌==◌, map};
 ghost use Rattle.std.specs.Char.{is_ascii};
 ghost use Rattle.std.specs.List.{list_all, position};
 ghost use Rattle.std.specs.Option.{option_map};
-ghost use Rattle.fr_http.specs.Routes.{allowed, ascii_text, chosen, export, is_by, leads, method_of, of_register, of_two, of_variant, part, path_of, table};
+ghost use Rattle.fr_http.specs.Routes.{allowed, ascii_text, chosen, export, is_by, leads, method_of, method_of_delivery, of_register, of_two, of_variant, part, path_of, table};
 ghost use Rattle.fr_http.specs.declared.routes.Resource.TheVariants.{One};
 
 use crate::method::{Allowed, Method};
 use crate::path_name::PathName;
-use fr_base::{Header, Inventory, Manner, Query, Report};
+use fr_base::{Header, Inventory, Manner, Purpose, Query, Report};
 use fr_guide::{Subject, explains, meant_word};
 use std::str;
 
@@ -25,14 +25,8 @@ pub enum Route {
     Advice(Subject),
     /// The body is a request.
     Commands,
-    /// The body is an import's file.
-    Import,
-    /// The body is a file whose rows take the place of earlier ones: of the frames that it names, or,
-    /// where it is `whole`, of all the supplier's frames.
-    Replace { whole: bool },
-    /// The body is a file, and the fate of each of its rows is told: as a replacement's, or as an
-    /// import's.
-    Try { manner: Manner },
+    /// The body is a file of rows that is delivered. The label of an import stands in the path.
+    Deliver(Purpose<PathName>),
     /// A query. Each name and number in it stands in the path.
     Query(Query<PathName, PathName>),
     /// The page of a variant's plan; with what is new since another variant, where the path names one.
@@ -45,16 +39,8 @@ impl Route {
         ensures { result ≡ method_of self }
     {
         match self {
-            Route::Advice(_)
-            | Route::Commands
-            | Route::Import
-            | Route::Try {
-                manner: Manner::Import,
-            } => Method::Post,
-            Route::Replace { .. } => Method::Put,
-            Route::Try {
-                manner: Manner::Replace { .. },
-            } => Method::Put,
+            Route::Advice(_) | Route::Commands => Method::Post,
+            Route::Deliver(how) => method_of_delivery(how),
             Route::Page
             | Route::Explanations
             | Route::Explanation
@@ -68,6 +54,22 @@ impl Route {
         ensures { result ≡ is_by method.now self }
     {
         method == self.method().as_str().as_bytes()
+    }
+}
+
+// The method by which a file of rows is delivered: an import adds, and a replacement puts rows in place of others.
+fn method_of_delivery(how: Purpose<PathName>) -> Method
+    ensures { result ≡ method_of_delivery how }
+{
+    match how {
+        Purpose::Import { .. }
+        | Purpose::Trial {
+            manner: Manner::Import,
+        } => Method::Post,
+        Purpose::Replacement { .. }
+        | Purpose::Trial {
+            manner: Manner::Replace { .. },
+        } => Method::Put,
     }
 }
 
@@ -197,11 +199,18 @@ fn export(header: Header) -> Resource
     })
 }
 
+// What the path of a delivered file alone leads to.
+fn deliver(how: Purpose<PathName>) -> Resource
+    ensures { result ≡ One (Route.Deliver how) }
+{
+    Resource::One(Route::Deliver(how))
+}
+
 // The route for a file that is tried so.
 fn trial(manner: Manner) -> Route
-    ensures { result ≡ Route.Try manner }
+    ensures { result ≡ Route.Deliver (Purpose.Trial manner) }
 {
-    Route::Try { manner }
+    Route::Deliver(Purpose::Trial { manner })
 }
 
 /// What each path leads to, by the pattern that it matches.
@@ -222,7 +231,12 @@ pub(crate) fn routes() -> [(&'static str, Resource); 27]
         ("/v1/cluster", of_register(Inventory::Cluster)),
         ("/v1/variants", of_register(Inventory::Variants)),
         ("/v1/nodes", of_register(Inventory::Nodes)),
-        ("/v1/variants/{variant}/imports/{label}", One(Import)),
+        (
+            "/v1/variants/{variant}/imports/{label}",
+            deliver(Purpose::Import {
+                label: PathName::Label,
+            }),
+        ),
         ("/v1/variants/{variant}/since/{from}", of_two()),
         ("/v1/variants/{variant}/grants", report(Report::Grants)),
         ("/v1/variants/{variant}/frames", report(Report::Frames)),
@@ -256,11 +270,14 @@ pub(crate) fn routes() -> [(&'static str, Resource); 27]
         ),
         (
             "/v1/variants/{variant}/rows",
-            Two(of_variant(Report::Rows), Replace { whole: false }),
+            Two(
+                of_variant(Report::Rows),
+                Deliver(Purpose::Replacement { whole: false }),
+            ),
         ),
         (
             "/v1/variants/{variant}/rows/whole",
-            One(Replace { whole: true }),
+            deliver(Purpose::Replacement { whole: true }),
         ),
         (
             "/v1/variants/{variant}/tries",
@@ -271,7 +288,9 @@ pub(crate) fn routes() -> [(&'static str, Resource); 27]
         ),
         (
             "/v1/variants/{variant}/tries/whole",
-            One(trial(Manner::Replace { whole: true })),
+            deliver(Purpose::Trial {
+                manner: Manner::Replace { whole: true },
+            }),
         ),
         (
             "/v1/variants/{variant}/picture",

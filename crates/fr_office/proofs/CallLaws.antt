@@ -1,5 +1,5 @@
 -- Calls on records, by what was read of these, and what was carried out then.
-use Rattle.std.proofs.Common.{◌≡◌, ◌∙◌, inl, List, None, Result, Ok, Err, IfOk, subst, sym}
+use Rattle.std.proofs.Common.{Bool, ◌≡◌, ◌∙◌, inl, List, None, Result, Ok, Err, IfOk, subst, sym}
 use Rattle.std.specs.Prelude.{MatchResult, OnOk, ⊤}
 use Rattle.fr_base.specs.Book.{Book}
 use Rattle.fr_base.specs.Cluster.{Cluster}
@@ -11,8 +11,8 @@ use Rattle.fr_base.specs.declared.refusal.Refusal.{Refusal}
 use Rattle.fr_base.specs.declared.request.Checked.{Checked}
 use Rattle.fr_base.specs.declared.request.Checked.TheVariants as checked
 use Rattle.fr_base.specs.declared.request.Command.{Command}
-use Rattle.fr_base.specs.declared.request.Import.{Import}
-use Rattle.fr_base.specs.declared.request.Replacement.{Replacement}
+use Rattle.fr_base.specs.declared.delivery.Delivery.{Delivery}
+use Rattle.fr_base.specs.declared.name.Name.{Name}
 use Rattle.fr_base.specs.Sound.{IsSound}
 use Rattle.fr_base.specs.Tables.{get}
 use Rattle.fr_world.specs.Held.{Applies, Reads, Standing}
@@ -94,18 +94,18 @@ on_stopped (Ok x) e P is = cc
 on_stopped (Err f) e P is = tt
 
 module _ {R : Type 0} (g : Ghosts R) (old mid : R) (read : Reads g.clean g.params g.leaves old mid) (r : Result Answer Refusal) (e : Refusal) (is : r ≡ Err e) where
-  pub import_refused : (i : Import) → (g.clean mid → GivesImport (g.stands old) (g.stands mid) (Err e) i) → CarriesImport g i old mid r
-  import_refused i gives = record {
+  pub import_refused : (i : Delivery) (label : Name) → (g.clean mid → GivesImport (g.stands old) (g.stands mid) (Err e) i label) → CarriesImport g i label old mid r
+  import_refused i label gives = record {
     falls = read.falls;
-    serves = λ now. on_stopped r e (λ answer. (c : Cluster) (b : Book) → g.stands old c b → IsSound c b → get b.imports (i.supplier, i.label) ≡ None → WhereImported answer (g.serves mid)) is;
+    serves = λ now. on_stopped r e (λ answer. (c : Cluster) (b : Book) → g.stands old c b → IsSound c b → get b.imports (i.supplier, label) ≡ None → WhereImported answer (g.serves mid)) is;
     leaves = λ now c b books stood sound known left. inl (read.leaves now c books left);
-    gives = λ now. subst (λ said. GivesImport (g.stands old) (g.stands mid) said i) (sym is) (gives now);
+    gives = λ now. subst (λ said. GivesImport (g.stands old) (g.stands mid) said i label) (sym is) (gives now);
   }
 
-  pub replacement_refused : (replacement : Replacement) → (g.clean mid → GivesReplacement (g.stands old) (g.stands mid) (Err e) replacement) → CarriesReplacement g replacement old mid r
-  replacement_refused replacement gives = record {
+  pub replacement_refused : (replacement : Delivery) (whole : Bool) → (g.clean mid → GivesReplacement (g.stands old) (g.stands mid) (Err e) replacement whole) → CarriesReplacement g replacement whole old mid r
+  replacement_refused replacement whole gives = record {
     falls = read.falls;
     serves = λ now. on_stopped r e (λ answer. WhereReplaced answer (g.serves mid)) is;
     leaves = λ now c b books stood sound known left. inl (read.leaves now c books left);
-    gives = λ now. subst (λ said. GivesReplacement (g.stands old) (g.stands mid) said replacement) (sym is) (gives now);
+    gives = λ now. subst (λ said. GivesReplacement (g.stands old) (g.stands mid) said replacement whole) (sym is) (gives now);
   }

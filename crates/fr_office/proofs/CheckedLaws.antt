@@ -2,7 +2,7 @@
 -- asks.
 use Rattle.std.proofs.Common.{◌≡◌, Ok, IfOk, refl, subst}
 use Rattle.std.specs.Prelude.{⊤}
-use Rattle.fr_base.specs.Checks.{asking, channel, check, key, name, beginning, placement, query, signal, slot}
+use Rattle.fr_base.specs.Checks.{asking, channel, check, key, name, beginning, placement, purpose, query, signal, slot}
 use Rattle.fr_base.specs.declared.actor.Actor.{Actor}
 use Rattle.fr_base.specs.declared.actor.Actor.TheVariants.{Integrator, Supplier}
 use Rattle.fr_base.specs.declared.name.Name.{Name}
@@ -51,9 +51,7 @@ command-checked p actor request command said = form-checked p command (subst (λ
 -- who changes a frame is who asks
 abbrev IsOwn : Actor → Checked → Type 0
 IsOwn actor (checked.Command command) = IsOwnCommand actor command
-IsOwn actor (checked.Import i) = ⊤
-IsOwn actor (checked.Replace r) = ⊤
-IsOwn actor (checked.Try t) = ⊤
+IsOwn actor (checked.Deliver d) = ⊤
 IsOwn actor (checked.Query query) = ⊤
 
 asking-own : (actor : Actor) → IfOk (asking actor) (λ s. actor ≡ Supplier s)
@@ -115,16 +113,10 @@ check-own p actor (request.DropSignal variant frame named) =
     gives_each _ (name variant) _ (λ v _.
     gives_each _ (name frame) _ (λ f _.
     gives_each _ (name named) _ (λ n _. own))))
-check-own p actor (request.Import variant label body) =
+check-own p actor (request.Deliver variant how body) =
     gives_each _ (asking actor) _ (λ s _.
     gives_each _ (name variant) _ (λ v _.
-    gives_each _ (name label) _ (λ l _. tt)))
-check-own p actor (request.Replace variant whole body) =
-    gives_each _ (asking actor) _ (λ s _.
-    gives_each _ (name variant) _ (λ v _. tt))
-check-own p actor (request.Try variant manner body) =
-    gives_each _ (asking actor) _ (λ s _.
-    gives_each _ (name variant) _ (λ v _. tt))
+    gives_each _ (purpose how) _ (λ h _. tt)))
 check-own p actor (request.Query asked) = gives_when _ _ _ _ (λ _. gives_each _ (query asked) _ (λ q _. gives_when _ _ _ _ (λ _. tt)))
 
 pub command-own : (p : Params) (actor : Actor) (request : Request) (command : Command) → check p actor request ≡ Ok (checked.Command command) → IsOwnCommand actor command

@@ -10,12 +10,10 @@ use Rattle.fr_base.specs.declared.answer.Answer.TheVariants.{Done}
 use Rattle.fr_base.specs.declared.refusal.Refusal.{Refusal}
 use Rattle.fr_base.specs.declared.request.Command.{Command}
 use Rattle.fr_base.specs.declared.request.Checked.TheVariants as checked
-use Rattle.fr_base.specs.declared.request.Import.{Import}
-use Rattle.fr_base.specs.declared.request.Replacement.{Replacement}
+use Rattle.fr_base.specs.declared.delivery.Delivery.{Delivery}
 use Rattle.fr_office.specs.Answers.{LeavesAct}
 use Rattle.fr_office.specs.Carried.{Does, LeavesDone, MayLeave}
-use Rattle.fr_office.specs.Imports.{LeavesImport}
-use Rattle.fr_office.specs.Replacements.{LeavesReplacement}
+use Rattle.fr_office.specs.Deliveries.{LeavesDelivery}
 use Rattle.fr_world.specs.Held.{Leaving, LeavesNoMore, Standing}
 
 -- where records may be left for a book more, seen as records that stand for it
@@ -48,10 +46,6 @@ module _ (stands : Standing) (old new : Leaving) (actor : Actor) where
   unfolding act
   act_command command may c b books stood sound known left = may c b books stood sound left
 
-  pub act_import : (i : Import) → actor ≡ Supplier i.supplier → LeavesImport stands old new i → LeavesAct stands old new actor (checked.Import i)
+  pub act_deliver : (d : Delivery) → actor ≡ Supplier d.supplier → LeavesDelivery stands old new d d.how → LeavesAct stands old new actor (checked.Deliver d)
   unfolding act
-  act_import i asks may c b books stood sound known left = may c b books stood sound (subst (λ a. IsTrue (knows b a)) asks known) left
-
-  pub act_replace : (r : Replacement) → actor ≡ Supplier r.supplier → LeavesReplacement stands old new r → LeavesAct stands old new actor (checked.Replace r)
-  unfolding act
-  act_replace r asks may c b books stood sound known left = may c b books stood sound (subst (λ a. IsTrue (knows b a)) asks known) left
+  act_deliver d asks may c b books stood sound known left = may c b books stood sound (subst (λ a. IsTrue (knows b a)) asks known) left

@@ -7,7 +7,7 @@ use Rattle.fr_base.specs.Checks.{check}
 use Rattle.fr_base.specs.Queries.{found, reply}
 use Rattle.fr_base.specs.Refusing.{◌or◌}
 use Rattle.fr_base.specs.Sound.{IsSound}
-use Rattle.fr_base.specs.Step.{Outcome, RefusedAt, act, add_node, add_supplier, set_key, change_rows, common, done, import, imported, knows, outcome, perform, replace, replaced, try, step}
+use Rattle.fr_base.specs.Step.{Outcome, RefusedAt, act, deliver, add_node, add_supplier, set_key, change_rows, common, done, import, imported, knows, outcome, perform, replace, replaced, try, step}
 use Rattle.fr_base.specs.Tables.{get}
 use Rattle.fr_base.specs.declared.actor.Actor.{Actor}
 use Rattle.fr_base.specs.declared.answer.Answer.{Answer}
@@ -21,14 +21,16 @@ use Rattle.fr_base.specs.declared.request.Command.TheVariants.{Common, AddSuppli
 use Rattle.fr_base.specs.declared.request.Request.{Request}
 use Rattle.fr_base.specs.declared.request.Checked.{Checked}
 use Rattle.fr_base.specs.declared.request.Checked.TheVariants as checked
-use Rattle.fr_base.specs.declared.request.Import.{Import}
-use Rattle.fr_base.specs.declared.request.Replacement.{Replacement}
-use Rattle.fr_base.specs.declared.request.Trial.{Trial}
+use Rattle.fr_base.specs.declared.delivery.Delivery.{Delivery}
+use Rattle.fr_base.specs.declared.delivery.Manner.{Manner}
 use Rattle.fr_base.specs.declared.query.Query.{Query}
 use Rattle.fr_base.proofs.SoundRefusing.{gives_bind, gives_bind_last, gives_each, gives_unless, gives_when}
 use Rattle.fr_base.proofs.SoundTrials.{trial-leaves}
+use Rattle.fr_office.specs.Deliveries.{AfterDelivery}
 use Rattle.fr_office.specs.Answers.{AfterAct, WhereChanged}
 use Rattle.fr_world.specs.Held.{Standing}
+use Rattle.fr_base.specs.declared.delivery.Purpose.TheVariants as purpose
+use Rattle.fr_base.specs.declared.delivery.Purpose.{Purpose}
 
 -- whether the answer is that of an import, or of a replacement, that was carried out
 abbrev is_imported : Answer → Bool
@@ -46,13 +48,13 @@ IsNoChange answer = (is_done answer ≡ false) × (is_replaced answer ≡ false)
 abbrev IsNoImport : Answer → Type 0
 IsNoImport answer = (is_done answer ≡ false) × (is_imported answer ≡ false)
 
-module _ (p : Params) (b : Book) (i : Import) where
-  imported-told : (count : ℕ) (r : Result Book RefusedAt) → IsNoChange (imported b i count r).answer
+module _ (p : Params) (b : Book) (i : Delivery) (label : Name) where
+  imported-told : (count : ℕ) (r : Result Book RefusedAt) → IsNoChange (imported b i label count r).answer
   unfolding imported
   imported-told count (Ok d) = (refl, refl)
   imported-told count (Err fault) = (refl, refl)
 
-  import-told : (kept : Option Kept) → IfOk (import p b i kept) (λ o. IsNoChange o.answer)
+  import-told : (kept : Option Kept) → IfOk (import p b i label kept) (λ o. IsNoChange o.answer)
   unfolding import
   import-told None =
       gives_each _ (get b.variants i.variant or NoVariant) _ (λ x _.
@@ -61,13 +63,13 @@ module _ (p : Params) (b : Book) (i : Import) where
       gives_when _ _ _ _ (λ _. imported-told _ _))))
   import-told (Some one) = gives_unless _ _ _ _ (λ _. (refl, refl))
 
-module _ (p : Params) (b : Book) (r : Replacement) where
+module _ (p : Params) (b : Book) (r : Delivery) (whole : Bool) where
   replaced-told : (count : ℕ) (made : Result Book RefusedAt) → IsNoImport (replaced b count made).answer
   unfolding replaced
   replaced-told count (Ok d) = (refl, refl)
   replaced-told count (Err fault) = (refl, refl)
 
-  replace-told : IfOk (replace p b r) (λ o. IsNoImport o.answer)
+  replace-told : IfOk (replace p b r whole) (λ o. IsNoImport o.answer)
   unfolding replace
   replace-told =
       gives_each _ (get b.variants r.variant or NoVariant) _ (λ x _.
@@ -75,9 +77,9 @@ module _ (p : Params) (b : Book) (r : Replacement) where
       gives_when _ _ _ _ (λ _. replaced-told _ _)))
 
 -- a trial tells of rows
-trial-told : (p : Params) (b : Book) (t : Trial) → IfOk (try p b t) (λ o. IsNoChange o.answer)
+trial-told : (p : Params) (b : Book) (t : Delivery) (how : Manner) → IfOk (try p b t how) (λ o. IsNoChange o.answer)
 unfolding try
-trial-told p b t =
+trial-told p b t how =
     gives_each _ (get b.variants t.variant or NoVariant) _ (λ x _.
     gives_when _ _ _ _ (λ _.
     gives_when _ _ _ _ (λ _. (refl, refl))))
@@ -109,38 +111,42 @@ module _ (b : Book) where
   perform-quiet c (AddNode s n) = gives_each _ (add_node b s n) _ (λ after _ quiet. cc)
   perform-quiet c (Rows rows) = gives_each _ (change_rows c.params b rows.supplier rows.variant rows.change) _ (λ after _ quiet. cc)
 
-  imported-quiet : (i : Import) (count : ℕ) (r : Result Book RefusedAt) → Quiet (imported b i count r)
+  imported-quiet : (i : Delivery) (label : Name) (count : ℕ) (r : Result Book RefusedAt) → Quiet (imported b i label count r)
   unfolding imported
-  imported-quiet i count (Ok d) quiet = cc
-  imported-quiet i count (Err fault) quiet = refl
+  imported-quiet i label count (Ok d) quiet = cc
+  imported-quiet i label count (Err fault) quiet = refl
 
-  import-quiet : (p : Params) (i : Import) (kept : Option Kept) → IfOk (import p b i kept) Quiet
+  import-quiet : (p : Params) (i : Delivery) (label : Name) (kept : Option Kept) → IfOk (import p b i label kept) Quiet
   unfolding import
-  import-quiet p i None =
+  import-quiet p i label None =
       gives_each _ (get b.variants i.variant or NoVariant) _ (λ x _.
       gives_when _ _ _ _ (λ _.
       gives_when _ _ _ _ (λ _.
-      gives_when _ _ _ _ (λ _. imported-quiet i _ _))))
-  import-quiet p i (Some one) = gives_unless _ _ _ _ (λ _ quiet. refl)
+      gives_when _ _ _ _ (λ _. imported-quiet i label _ _))))
+  import-quiet p i label (Some one) = gives_unless _ _ _ _ (λ _ quiet. refl)
 
   replaced-quiet : (count : ℕ) (r : Result Book RefusedAt) → Quiet (replaced b count r)
   unfolding replaced
   replaced-quiet count (Ok d) quiet = cc
   replaced-quiet count (Err fault) quiet = refl
 
-  replace-quiet : (p : Params) (r : Replacement) → IfOk (replace p b r) Quiet
+  replace-quiet : (p : Params) (r : Delivery) (whole : Bool) → IfOk (replace p b r whole) Quiet
   unfolding replace
-  replace-quiet p r =
+  replace-quiet p r whole =
       gives_each _ (get b.variants r.variant or NoVariant) _ (λ x _.
       gives_when _ _ _ _ (λ _.
       gives_when _ _ _ _ (λ _. replaced-quiet _ _)))
 
+  delivered-quiet : (p : Params) (d : Delivery) (how : Purpose Name) → IfOk (deliver p b d how) Quiet
+  unfolding deliver
+  delivered-quiet p d (purpose.Import label) = import-quiet p d label (get b.imports (d.supplier, label))
+  delivered-quiet p d (purpose.Replacement whole) = replace-quiet p d whole
+  delivered-quiet p d (purpose.Trial how) = gives_bind_last Quiet (λ (o : Outcome). o.book ≡ b) _ (trial-leaves (λ e. e ≡ b) b refl p d how) (λ o still quiet. still)
+
   act-quiet : (c : Cluster) (actor : Actor) (what : Checked) → IfOk (act c b actor what) Quiet
   unfolding act
   act-quiet c actor (checked.Command command) = perform-quiet c command
-  act-quiet c actor (checked.Import i) = import-quiet c.params i (get b.imports (i.supplier, i.label))
-  act-quiet c actor (checked.Replace r) = replace-quiet c.params r
-  act-quiet c actor (checked.Try t) = gives_bind_last Quiet (λ (o : Outcome). o.book ≡ b) _ (trial-leaves (λ d. d ≡ b) b refl c.params t) (λ o still quiet. still)
+  act-quiet c actor (checked.Deliver d) = delivered-quiet c.params d d.how
   act-quiet c actor (checked.Query query) = gives_each _ (reply c.params b actor query) _ (λ rows _ quiet. refl)
 
   outcome-quiet : (r : Result Outcome Refusal) → IfOk r Quiet → Quiet (outcome b r)
@@ -155,9 +161,9 @@ step-quiet c b actor request = outcome-quiet b _ (
     gives_each _ (check c.params actor request) _ (λ what _. act-quiet b c actor what)))
 
 -- an import that is kept already changes nothing
-again-same : (p : Params) (b : Book) (i : Import) (one : Kept) → IfOk (import p b i (Some one)) (λ o. o.book ≡ b)
+again-same : (p : Params) (b : Book) (i : Delivery) (label : Name) (one : Kept) → IfOk (import p b i label (Some one)) (λ o. o.book ≡ b)
 unfolding import
-again-same p b i one = gives_unless _ _ _ _ (λ _. refl)
+again-same p b i label one = gives_unless _ _ _ _ (λ _. refl)
 
 module _ (c : Cluster) (b : Book) (actor : Actor) where
   query-told : (query : Query Name ℕ) (after : Book) (answer : Answer) → act c b actor (checked.Query query) ≡ Ok (record { book = after; answer = answer }) → IsNoChange answer
@@ -165,15 +171,41 @@ module _ (c : Cluster) (b : Book) (actor : Actor) where
   query-told query after answer made =
       subst (λ r. IfOk r (λ (o : Outcome). IsNoChange o.answer)) made (gives_bind _ IsNoChange (reply c.params b actor query) _ (reply-told c.params actor b query) (λ a none. none))
 
+  delivered_done : (stands : Standing) (d : Delivery) (how : Purpose Name) (P : Type 0) (after : Book) → deliver c.params b d how ≡ Ok (record { book = after; answer = Done }) → P
+  unfolding deliver
+  delivered_done stands d (purpose.Import label) P after made =
+      absurd (true≢false (subst (λ r. IfOk r (λ (o : Outcome). IsNoChange o.answer)) made (import-told c.params b d label (get b.imports (d.supplier, label)))).0)
+  delivered_done stands d (purpose.Replacement whole) P after made =
+      absurd (true≢false (subst (λ r. IfOk r (λ (o : Outcome). IsNoImport o.answer)) made (replace-told c.params b d whole)).0)
+  delivered_done stands d (purpose.Trial how) P after made =
+      absurd (true≢false (subst (λ r. IfOk r (λ (o : Outcome). IsNoChange o.answer)) made (trial-told c.params b d how)).0)
+
+  delivered_imported : (stands : Standing) (d : Delivery) (how : Purpose Name) (P : Type 0) (after : Book) (rows : ℕ) → stands c b → IsSound c b → deliver c.params b d how ≡ Ok (record { book = after; answer = Imported rows })
+      → AfterDelivery stands d how (Ok (Imported rows)) P → (after ≡ b) ⊎ P
+  unfolding deliver
+  delivered_imported stands d (purpose.Import label) P after rows stood sound made h =
+      elim (get b.imports (d.supplier, label)) as (λ found. get b.imports (d.supplier, label) ≡ found → import c.params b d label found ≡ Ok (record { book = after; answer = Imported rows }) → (after ≡ b) ⊎ P) [
+        | None ↦ λ free made. inr (h c b stood sound free)
+        | Some one ↦ λ kept made. inl (subst (λ r. IfOk r (λ (o : Outcome). o.book ≡ b)) made (again-same c.params b d label one))
+      ] refl made
+  delivered_imported stands d (purpose.Replacement whole) P after rows stood sound made h =
+      absurd (true≢false (subst (λ r. IfOk r (λ (o : Outcome). IsNoImport o.answer)) made (replace-told c.params b d whole)).1)
+  delivered_imported stands d (purpose.Trial how) P after rows stood sound made h =
+      inl (subst (λ r. IfOk r (λ (o : Outcome). o.book ≡ b)) made (trial-leaves (λ e. e ≡ b) b refl c.params d how))
+
+  delivered_replaced : (stands : Standing) (d : Delivery) (how : Purpose Name) (P : Type 0) (after : Book) (rows : ℕ) → deliver c.params b d how ≡ Ok (record { book = after; answer = Replaced rows })
+      → AfterDelivery stands d how (Ok (Replaced rows)) P → P
+  unfolding deliver
+  delivered_replaced stands d (purpose.Import label) P after rows made h =
+      absurd (true≢false (subst (λ r. IfOk r (λ (o : Outcome). IsNoChange o.answer)) made (import-told c.params b d label (get b.imports (d.supplier, label)))).1)
+  delivered_replaced stands d (purpose.Replacement whole) P after rows made h = h
+  delivered_replaced stands d (purpose.Trial how) P after rows made h =
+      absurd (true≢false (subst (λ r. IfOk r (λ (o : Outcome). IsNoChange o.answer)) made (trial-told c.params b d how)).1)
+
   done_so : (stands : Standing) (valid : Checked) (P : Type 0) (after : Book) → act c b actor valid ≡ Ok (record { book = after; answer = Done }) → AfterAct stands valid (Ok Done) P → P
   unfolding act
   done_so stands (checked.Command command) P after made h = h
-  done_so stands (checked.Import i) P after made h =
-      absurd (true≢false (subst (λ r. IfOk r (λ (o : Outcome). IsNoChange o.answer)) made (import-told c.params b i (get b.imports (i.supplier, i.label)))).0)
-  done_so stands (checked.Replace r) P after made h =
-      absurd (true≢false (subst (λ r. IfOk r (λ (o : Outcome). IsNoImport o.answer)) made (replace-told c.params b r)).0)
-  done_so stands (checked.Try t) P after made h =
-      absurd (true≢false (subst (λ r. IfOk r (λ (o : Outcome). IsNoChange o.answer)) made (trial-told c.params b t)).0)
+  done_so stands (checked.Deliver d) P after made h = delivered_done stands d d.how P after made
   done_so stands (checked.Query query) P after made h =
       absurd (true≢false (query-told query after Done made).0)
 
@@ -181,26 +213,14 @@ module _ (c : Cluster) (b : Book) (actor : Actor) where
       → AfterAct stands valid (Ok (Imported rows)) P → (after ≡ b) ⊎ P
   unfolding act
   imported_so stands (checked.Command command) P after rows stood sound made h = inr h
-  imported_so stands (checked.Try t) P after rows stood sound made h =
-      inl (subst (λ r. IfOk r (λ (o : Outcome). o.book ≡ b)) made (trial-leaves (λ d. d ≡ b) b refl c.params t))
+  imported_so stands (checked.Deliver d) P after rows stood sound made h = delivered_imported stands d d.how P after rows stood sound made h
   imported_so stands (checked.Query query) P after rows stood sound made h =
       inl (subst (λ r. IfOk r (λ (o : Outcome). o.book ≡ b)) made (gives_each _ (reply c.params b actor query) _ (λ shown _. refl)))
-  imported_so stands (checked.Import i) P after rows stood sound made h =
-      elim (get b.imports (i.supplier, i.label)) as (λ found. get b.imports (i.supplier, i.label) ≡ found → import c.params b i found ≡ Ok (record { book = after; answer = Imported rows }) → (after ≡ b) ⊎ P) [
-        | None ↦ λ free made. inr (h c b stood sound free)
-        | Some one ↦ λ kept made. inl (subst (λ r. IfOk r (λ (o : Outcome). o.book ≡ b)) made (again-same c.params b i one))
-      ] refl made
-  imported_so stands (checked.Replace r) P after rows stood sound made h =
-      absurd (true≢false (subst (λ r. IfOk r (λ (o : Outcome). IsNoImport o.answer)) made (replace-told c.params b r)).1)
 
   replaced_so : (stands : Standing) (valid : Checked) (P : Type 0) (after : Book) (rows : ℕ) → act c b actor valid ≡ Ok (record { book = after; answer = Replaced rows }) → AfterAct stands valid (Ok (Replaced rows)) P → P
   unfolding act
   replaced_so stands (checked.Command command) P after rows made h = h
-  replaced_so stands (checked.Import i) P after rows made h =
-      absurd (true≢false (subst (λ r. IfOk r (λ (o : Outcome). IsNoChange o.answer)) made (import-told c.params b i (get b.imports (i.supplier, i.label)))).1)
-  replaced_so stands (checked.Replace r) P after rows made h = h
-  replaced_so stands (checked.Try t) P after rows made h =
-      absurd (true≢false (subst (λ r. IfOk r (λ (o : Outcome). IsNoChange o.answer)) made (trial-told c.params b t)).1)
+  replaced_so stands (checked.Deliver d) P after rows made h = delivered_replaced stands d d.how P after rows made h
   replaced_so stands (checked.Query query) P after rows made h = absurd (true≢false (query-told query after (Replaced rows) made).1)
 
   -- what holds after a command, a new import or a replacement holds after what tells of a change

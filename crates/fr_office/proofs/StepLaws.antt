@@ -7,7 +7,7 @@ use Rattle.fr_base.specs.Cluster.{Cluster, ClusterFile}
 use Rattle.fr_base.specs.Book.{Book, file_of}
 use Rattle.fr_base.specs.Run.{IsRun}
 use Rattle.fr_base.specs.Queries.{reply}
-use Rattle.fr_base.specs.Step.{Outcome, act, knows, outcome, perform, step}
+use Rattle.fr_base.specs.Step.{Outcome, act, deliver, knows, outcome, perform, step}
 use Rattle.fr_base.specs.declared.actor.Actor.{Actor}
 use Rattle.fr_base.specs.declared.actor.Actor.TheVariants.{Integrator, Supplier}
 use Rattle.fr_base.specs.declared.answer.Answer.{Answer}
@@ -17,9 +17,9 @@ use Rattle.fr_base.specs.declared.refusal.Refusal.{Refusal}
 use Rattle.fr_base.specs.declared.refusal.Refusal.TheVariants.{UnknownKey}
 use Rattle.fr_base.specs.declared.request.Ask.{Ask}
 use Rattle.fr_base.specs.declared.request.Command.{Command}
-use Rattle.fr_base.specs.declared.request.Import.{Import}
-use Rattle.fr_base.specs.declared.request.Replacement.{Replacement}
-use Rattle.fr_base.specs.declared.request.Trial.{Trial}
+use Rattle.fr_base.specs.declared.delivery.Delivery.{Delivery}
+use Rattle.fr_base.specs.declared.delivery.Manner.{Manner}
+use Rattle.fr_base.specs.declared.delivery.Purpose.TheVariants as purpose
 use Rattle.fr_base.specs.declared.name.Name.{Name}
 use Rattle.fr_base.specs.declared.query.Query.{Query}
 use Rattle.fr_base.specs.declared.request.Request.{Request}
@@ -30,8 +30,7 @@ use Rattle.fr_base.proofs.SuppliersLaws.{contains-listed}
 use Rattle.fr_office.specs.Answers.{Acts, Answers, HasPassed, answer_of, is_known}
 use Rattle.fr_office.specs.Carried.{Performs, Replies}
 use Rattle.fr_world.specs.Held.{Standing}
-use Rattle.fr_office.specs.Imports.{GivesImport}
-use Rattle.fr_office.specs.Replacements.{GivesReplacement}
+use Rattle.fr_office.specs.Deliveries.{GivesDelivery}
 use Rattle.fr_office.specs.Trials.{TellsTrial}
 use Rattle.fr_office.proofs.CheckedLaws.{command-checked, command-own}
 
@@ -43,9 +42,7 @@ known-so c b (Supplier s) = sym (contains-listed b s)
 -- what passed the check
 pub passed : (p : Params) (actor : Actor) (request : Request) (valid : Checked) → check p actor request ≡ Ok valid → HasPassed p actor valid
 passed p actor request (checked.Command command) said = (command-checked p actor request command said, command-own p actor request command said)
-passed p actor request (checked.Import i) said = (subst (λ r. IfOk r (IsFormed p actor)) said (check-form p actor request)).asks
-passed p actor request (checked.Replace r) said = subst (λ r. IfOk r (IsFormed p actor)) said (check-form p actor request)
-passed p actor request (checked.Try t) said = subst (λ r. IfOk r (IsFormed p actor)) said (check-form p actor request)
+passed p actor request (checked.Deliver d) said = (subst (λ r. IfOk r (IsFormed p actor)) said (check-form p actor request)).asks
 passed p actor request (checked.Query query) said = subst (λ r. IfOk r (IsFormed p actor)) said (check-form p actor request)
 
 module _ (c : Cluster) (b : Book) (ask : Ask) where
@@ -106,6 +103,14 @@ module _ (now : Standing) (config : ClusterFile) (same : (c : Cluster) (b : Book
 
 -- ---- what is made of it
 
+-- a trial
+pub trial_given : (old new : Standing) (t : Delivery) (how : Manner) (r : Result Answer Refusal) → TellsTrial t how old new r → GivesDelivery old new r t (purpose.Trial how)
+unfolding deliver
+trial_given old new t how (Ok answer) tells c b stood sound known =
+    let k = tells c b stood sound known in
+    (b, k.1, k.0)
+trial_given old new t how (Err e) tells c b stood sound known = tells c b stood sound known
+
 module _ (old new : Standing) (actor : Actor) where
   -- a command that was carried out, or was not
   pub command_acts : (command : Command) (carried : Result ⊤ Refusal) (said : Result Answer Refusal) → MatchResult carried (λ _. said ≡ Ok Done) (λ e. said ≡ Err e) → Performs old new carried (λ c b. perform c b command)
@@ -114,25 +119,10 @@ module _ (old new : Standing) (actor : Actor) where
   command_acts command (Ok x) said is does = subst (λ (r : Result Answer Refusal). Acts old new r actor (checked.Command command)) (sym is) (λ c b stood sound known. does c b stood sound)
   command_acts command (Err e) said is refused = subst (λ (r : Result Answer Refusal). Acts old new r actor (checked.Command command)) (sym is) (λ c b stood sound known. refused c b stood sound)
 
-  -- an import
-  pub import_acts : (i : Import) (r : Result Answer Refusal) → actor ≡ Supplier i.supplier → GivesImport old new r i → Acts old new r actor (checked.Import i)
+  -- a delivered file
+  pub delivery_acts : (d : Delivery) (r : Result Answer Refusal) → actor ≡ Supplier d.supplier → GivesDelivery old new r d d.how → Acts old new r actor (checked.Deliver d)
   unfolding act
-  import_acts i r asks gives c b stood sound known = gives c b stood sound (subst (λ a. IsTrue (knows b a)) asks known)
-
-  -- a replacement
-  pub replacement_acts : (replacement : Replacement) (r : Result Answer Refusal) → actor ≡ Supplier replacement.supplier → GivesReplacement old new r replacement → Acts old new r actor (checked.Replace replacement)
-  unfolding act
-  replacement_acts replacement r asks gives c b stood sound known = gives c b stood sound (subst (λ a. IsTrue (knows b a)) asks known)
-
-  -- a trial
-  pub trial_acts : (t : Trial) (r : Result Answer Refusal) → actor ≡ Supplier t.supplier → TellsTrial t old new r → Acts old new r actor (checked.Try t)
-  unfolding act
-  trial_acts t (Ok answer) asks tells c b stood sound known =
-      let k = tells c b stood sound (subst (λ a. IsTrue (knows b a)) asks known) in
-      (b, k.1, k.0)
-  trial_acts t (Err e) asks tells c b stood sound known =
-      let k = tells c b stood sound (subst (λ a. IsTrue (knows b a)) asks known) in
-      (k.0, k.1)
+  delivery_acts d r asks gives c b stood sound known = gives c b stood sound (subst (λ a. IsTrue (knows b a)) asks known)
 
   -- a query
   pub query_acts : (query : Query Name ℕ) (r : Result Answer Refusal) → Replies (λ c b. reply c.params b actor query) old new r → Acts old new r actor (checked.Query query)

@@ -21,8 +21,7 @@ use Rattle.fr_base.specs.declared.request.Checked.{Checked}
 use Rattle.fr_base.specs.declared.request.Checked.TheVariants as checked
 use Rattle.fr_office.specs.Carried.{IsRefused}
 use Rattle.fr_office.specs.Decided.{IsCheckedCommand, IsOwnCommand}
-use Rattle.fr_office.specs.Imports.{AfterNew}
-use Rattle.fr_office.specs.Replacements.{OnReplaced}
+use Rattle.fr_office.specs.Deliveries.{AfterDelivery}
 use Rattle.fr_world.specs.Held.{Leaving, Standing}
 use Rattle.fr_world.specs.declared.records.Records.{Ghosts}
 
@@ -32,13 +31,11 @@ is_known f Integrator = true
 is_known f (Supplier s) = list_any (λ t. same_text s t.name) f.suppliers
 
 -- What is needed of a request that was checked. A command's values fit the cluster. A change of a
--- frame, an import, a replacement and a trial are of the sender. The repetition of a query, where
+-- frame and a delivered file are of the sender. The repetition of a query, where
 -- it has one, divides the count of cycles.
 abbrev pub HasPassed : Params → Actor → Checked → Type 0
 HasPassed p actor (checked.Command command) = IsCheckedCommand p command × IsOwnCommand actor command
-HasPassed p actor (checked.Import i) = actor ≡ Supplier i.supplier
-HasPassed p actor (checked.Replace r) = actor ≡ Supplier r.supplier
-HasPassed p actor (checked.Try t) = actor ≡ Supplier t.supplier
+HasPassed p actor (checked.Deliver d) = actor ≡ Supplier d.supplier
 HasPassed p actor (checked.Query query) = IsTrue (has_repetition p query)
 
 -- In a sound book that knows the sender, a request with checked values was carried out as the
@@ -61,9 +58,7 @@ Answers old new ask answer = (c : Cluster) (b : Book) → old c b → IsSound c 
 -- out.
 abbrev pub AfterAct : Standing → Checked → Result Answer Refusal → Type 0 → Type 0
 AfterAct stands (checked.Command command) r P = OnOk r P
-AfterAct stands (checked.Import i) r P = AfterNew stands i r P
-AfterAct stands (checked.Replace replacement) r P = OnReplaced r P
-AfterAct stands (checked.Try t) r P = ⊤
+AfterAct stands (checked.Deliver d) r P = AfterDelivery stands d d.how r P
 AfterAct stands (checked.Query query) r P = ⊤
 
 -- This holds after a step from the first book to the second, if its answer tells of a change. An

@@ -5,6 +5,7 @@ pub mod Headline
 pub mod Imports
 pub mod Replacements
 pub mod Trials
+pub mod Deliveries
 pub mod ImportCounts
 pub mod KeptPages
 pub mod Shared

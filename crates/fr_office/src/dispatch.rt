@@ -7,11 +7,9 @@ use crate::commands::common::change_common;
 use crate::commands::nodes::add_node;
 use crate::commands::rows::{change_frame, grant, revoke};
 use crate::commands::suppliers::{add_supplier, set_key};
-use crate::imports::import;
+use crate::deliveries::deliver;
 use crate::lender::Lender;
 use crate::queries::reply;
-use crate::replacing::replace;
-use crate::trials::try_file;
 use fr_base::{Actor, Answer, Ask, Change, Checked, Command, Config, Refusal, check};
 use fr_world::Records;
 use std::alloc::Global;
@@ -90,9 +88,7 @@ fn act<R: Lender>(
                 Change::Frame { .. } => done(change_frame(alloc, records, rows)),
             },
         },
-        Checked::Import(new) => import(alloc, records, new),
-        Checked::Replace(new) => replace(alloc, records, new),
-        Checked::Try(trial) => try_file(alloc, records, trial),
+        Checked::Deliver(delivery) => deliver(alloc, records, delivery),
         Checked::Query(query) => reply(alloc, records, actor, query),
     }
 }

@@ -9,7 +9,7 @@ ghost use Rattle.fr_office.specs.Imports.{CarriesImport, CarriesRows, kept_edits
 ghost use Rattle.fr_world.specs.ImportLabels.{label_decision};
 
 use crate::lender::{Lender, open_page};
-use fr_base::{Answer, Body, Import, Refusal};
+use fr_base::{Answer, Body, Delivery, Name, Refusal};
 use fr_text::read_import;
 use fr_world::{
     Draft, Edit, Records, RowFault, admit_import, decide_label, decide_rows, rows_are_checked,
@@ -22,33 +22,35 @@ use std::alloc::Global;
 pub(crate) fn import<R: Lender>(
     alloc: Global,
     records: &mut R,
-    import: &Import<'_>,
+    delivery: &Delivery<'_>,
+    label: Name,
 ) -> Result<Answer, Refusal>
-    ensures { CarriesImport R.Records import.now records.old records.new result }
+    ensures { CarriesImport R.Records delivery.now label records.old records.new result }
 {
-    if let Some(rows) = rows_kept(alloc, records, import)? {
+    if let Some(rows) = rows_kept(alloc, records, delivery, label)? {
         return Ok(Answer::Imported { rows });
     }
-    let count = records.imports(alloc, import.supplier)?;
-    open_page(alloc, records, import.supplier, import.variant)?;
-    admit_import(import, count)?;
-    import_rows(alloc, records, import)
+    let count = records.imports(alloc, delivery.supplier)?;
+    open_page(alloc, records, delivery.supplier, delivery.variant)?;
+    admit_import(delivery, count)?;
+    import_rows(alloc, records, delivery, label)
 }
 
 // How many rows the import has, if it is kept under its label.
 fn rows_kept<R: Records>(
     alloc: Global,
     records: &mut R,
-    import: &Import<'_>,
+    delivery: &Delivery<'_>,
+    label: Name,
 ) -> Result<Option<u32>, Refusal>
     ensures { OnlyReads R.Records
         (Replies
-        (λ c b. label_decision (get b.imports (import.now.supplier, import.now.label))
-        import.now))
+        (λ c b. label_decision (get b.imports (delivery.now.supplier, label))
+        delivery.now))
         records.old records.new result }
 {
-    let kept = records.import(alloc, import.supplier, import.label)?;
-    decide_label(kept.as_ref(), import)
+    let kept = records.import(alloc, delivery.supplier, label)?;
+    decide_label(kept.as_ref(), delivery)
 }
 
 // Carries out the rows of the import's file and keeps the import, or tells the first row that is
@@ -56,21 +58,22 @@ fn rows_kept<R: Records>(
 fn import_rows<R: Lender>(
     alloc: Global,
     records: &mut R,
-    import: &Import<'_>,
+    delivery: &Delivery<'_>,
+    label: Name,
 ) -> Result<Answer, Refusal>
     requires lent { IsSome (R.lent records.old) }
     requires open { IfSome (R.lent records.old) (λ page. page.released ≡ false) }
     ensures { IfSome (R.lent records.old)
-        (CarriesRows R.Records import.now records.old records.new result) }
+        (CarriesRows R.Records delivery.now label records.old records.new result) }
 {
     let page = records.lent();
-    let rows = read_import(alloc, &page.params(), import.body.as_slice())?;
+    let rows = read_import(alloc, &page.params(), delivery.body.as_slice())?;
     rows_are_checked();
     match decide_rows(alloc, page.clone()?, rows.as_slice()) {
         Ok(draft) => {
             // A file of which no row is refused has at most 512.
             let count = rows.len() as u32;
-            keep(alloc, records, import, draft, count)?;
+            keep(alloc, records, delivery, label, draft, count)?;
             Ok(Answer::Imported { rows: count })
         }
         Err(RowFault::Row { line, refusal }) => Ok(Answer::RefusedRow { line, refusal }),
@@ -83,22 +86,23 @@ fn import_rows<R: Lender>(
 fn keep<R: Lender>(
     alloc: Global,
     records: &mut R,
-    import: &Import<'_>,
+    delivery: &Delivery<'_>,
+    label: Name,
     draft: Draft,
     rows: u32,
 ) -> Result<(), Refusal>
     requires lent { IsSome (R.lent records.old) }
     requires leads { IfSome (R.lent records.old)
-        (λ page. LeadsTo page (kept_edits draft.edits.items import.now rows) draft.page) }
-    ensures { CarriesEdits R.Records (kept_edits draft.edits.items import.now rows)
+        (λ page. LeadsTo page (kept_edits draft.edits.items delivery.now label rows) draft.page) }
+    ensures { CarriesEdits R.Records (kept_edits draft.edits.items delivery.now label rows)
         records.old records.new result }
 {
     let Draft { page, mut edits } = draft;
     edits.push(Edit::KeepImport {
-        supplier: import.supplier,
-        label: import.label,
-        variant: import.variant,
-        body: Body::copy(alloc, import.body.as_slice())?,
+        supplier: delivery.supplier,
+        label,
+        variant: delivery.variant,
+        body: Body::copy(alloc, delivery.body.as_slice())?,
         rows,
     })?;
     records.change_to(alloc, &edits, page)

@@ -3,6 +3,7 @@
 #![tactic(auto)]
 
 mod commands;
+mod deliveries;
 mod dispatch;
 mod import_counts;
 mod imports;

@@ -8,7 +8,7 @@ ghost use Rattle.fr_office.specs.Decided.{LeadsTo};
 ghost use Rattle.fr_office.specs.Replacements.{CarriesReplaced, CarriesReplacement, replacement_room, whole_in};
 
 use crate::lender::{Lender, open_page};
-use fr_base::{Answer, Header, MAX_IMPORT_BYTES, Refusal, Replacement};
+use fr_base::{Answer, Delivery, Header, MAX_IMPORT_BYTES, Refusal};
 use fr_text::{read_header, read_import};
 use fr_world::{Draft, Records, RowFault, decide_replacement, rows_are_checked};
 use std::alloc::Global;
@@ -18,21 +18,22 @@ use std::alloc::Global;
 pub(crate) fn replace<R: Lender>(
     alloc: Global,
     records: &mut R,
-    replacement: &Replacement<'_>,
+    delivery: &Delivery<'_>,
+    whole: bool,
 ) -> Result<Answer, Refusal>
-    ensures { CarriesReplacement R.Records replacement.now records.old records.new result }
+    ensures { CarriesReplacement R.Records delivery.now whole records.old records.new result }
 {
-    open_page(alloc, records, replacement.supplier, replacement.variant)?;
-    admit_file(replacement)?;
-    replace_rows(alloc, records, replacement)
+    open_page(alloc, records, delivery.supplier, delivery.variant)?;
+    admit_file(delivery)?;
+    replace_rows(alloc, records, delivery, whole)
 }
 
 // `Limit`, where the file has more than 65,536 bytes.
 #[tactic(auto, unfolding(crate::proofs::ReplacementLaws::room_open))]
-fn admit_file(replacement: &Replacement<'_>) -> Result<(), Refusal>
-    ensures { result ≡ replacement_room replacement.now }
+fn admit_file(delivery: &Delivery<'_>) -> Result<(), Refusal>
+    ensures { result ≡ replacement_room delivery.now }
 {
-    if replacement.body.as_slice().len() > MAX_IMPORT_BYTES {
+    if delivery.body.as_slice().len() > MAX_IMPORT_BYTES {
         return Err(Refusal::Limit);
     }
     Ok(())
@@ -44,18 +45,19 @@ fn admit_file(replacement: &Replacement<'_>) -> Result<(), Refusal>
 fn replace_rows<R: Lender>(
     alloc: Global,
     records: &mut R,
-    replacement: &Replacement<'_>,
+    delivery: &Delivery<'_>,
+    whole: bool,
 ) -> Result<Answer, Refusal>
     requires lent { IsSome (R.lent records.old) }
     requires open { IfSome (R.lent records.old) (λ page. page.released ≡ false) }
     ensures { IfSome (R.lent records.old)
-        (CarriesReplaced R.Records replacement.now records.old records.new result) }
+        (CarriesReplaced R.Records delivery.now whole records.old records.new result) }
 {
     let page = records.lent();
-    let whole = kind_of_whole(alloc, replacement)?;
-    let rows = read_import(alloc, &page.params(), replacement.body.as_slice())?;
+    let kind = kind_of_whole(alloc, delivery, whole)?;
+    let rows = read_import(alloc, &page.params(), delivery.body.as_slice())?;
     rows_are_checked();
-    match decide_replacement(alloc, page, whole, rows.as_slice()) {
+    match decide_replacement(alloc, page, kind, rows.as_slice()) {
         Ok(draft) => {
             // A file of which no row is refused has at most 512.
             let count = rows.len() as u32;
@@ -68,12 +70,16 @@ fn replace_rows<R: Lender>(
 }
 
 // The kind of rows of which the replacement's file is the whole, if it is one.
-fn kind_of_whole(alloc: Global, replacement: &Replacement<'_>) -> Result<Option<Header>, Refusal>
-    ensures { MatchResult result (λ kind. kind ≡ whole_in replacement.now)
+fn kind_of_whole(
+    alloc: Global,
+    delivery: &Delivery<'_>,
+    whole: bool,
+) -> Result<Option<Header>, Refusal>
+    ensures { MatchResult result (λ kind. kind ≡ whole_in delivery.now whole)
         (λ e. e ≡ Unavailable) }
 {
-    if replacement.whole {
-        read_header(alloc, replacement.body.as_slice())
+    if whole {
+        read_header(alloc, delivery.body.as_slice())
     } else {
         Ok(None)
     }

@@ -7,7 +7,7 @@ ghost use Rattle.fr_office.specs.Carried.{OnlyReads};
 ghost use Rattle.fr_office.specs.Trials.{TellsTrial, fates_on, told_on};
 
 use crate::lender::{Lender, open_page};
-use fr_base::{Answer, FateRow, MAX_IMPORT_BYTES, Refusal, ReportRows, Rows, Trial};
+use fr_base::{Answer, Delivery, FateRow, MAX_IMPORT_BYTES, Manner, Refusal, ReportRows, Rows};
 use fr_text::{read_header, read_rows};
 use fr_world::{Page, all_rows_are_checked, try_rows};
 use std::alloc::Global;
@@ -17,24 +17,30 @@ use std::alloc::Global;
 pub(crate) fn try_file<R: Lender>(
     alloc: Global,
     records: &mut R,
-    trial: &Trial<'_>,
+    delivery: &Delivery<'_>,
+    manner: Manner,
 ) -> Result<Answer, Refusal>
-    ensures { OnlyReads R.Records (TellsTrial trial.now) records.old records.new result }
+    ensures { OnlyReads R.Records (TellsTrial delivery.now manner) records.old records.new result }
 {
-    open_page(alloc, records, trial.supplier, trial.variant)?;
-    tell_rows(alloc, records.lent(), trial)
+    open_page(alloc, records, delivery.supplier, delivery.variant)?;
+    tell_rows(alloc, records.lent(), delivery, manner)
 }
 
 // The answer to the trial on this page. `Limit`, where the file has more than 65,536 bytes.
 #[tactic(auto, unfolding(crate::proofs::TrialLaws::told_open))]
-fn tell_rows(alloc: Global, page: &Page, trial: &Trial<'_>) -> Result<Answer, Refusal>
-    ensures { MatchResult result (λ answer. told_on page.now trial.now ≡ Ok answer)
-        (λ e. (e ≡ Unavailable) ⊎ (told_on page.now trial.now ≡ Err e)) }
+fn tell_rows(
+    alloc: Global,
+    page: &Page,
+    delivery: &Delivery<'_>,
+    manner: Manner,
+) -> Result<Answer, Refusal>
+    ensures { MatchResult result (λ answer. told_on page.now delivery.now manner ≡ Ok answer)
+        (λ e. (e ≡ Unavailable) ⊎ (told_on page.now delivery.now manner ≡ Err e)) }
 {
-    if trial.body.as_slice().len() > MAX_IMPORT_BYTES {
+    if delivery.body.as_slice().len() > MAX_IMPORT_BYTES {
         return Err(Refusal::Limit);
     }
-    let fates = fates(alloc, page, trial)?;
+    let fates = fates(alloc, page, delivery, manner)?;
     Ok(Answer::Report {
         all: false,
         rows: ReportRows::Fates(fates),
@@ -42,12 +48,17 @@ fn tell_rows(alloc: Global, page: &Page, trial: &Trial<'_>) -> Result<Answer, Re
 }
 
 // The fate of each row of the file, on a copy of the page.
-fn fates(alloc: Global, page: &Page, trial: &Trial<'_>) -> Result<Rows<FateRow>, Refusal>
-    ensures { MatchResult result (λ fates. fates ≡ fates_on page.now trial.now)
+fn fates(
+    alloc: Global,
+    page: &Page,
+    delivery: &Delivery<'_>,
+    manner: Manner,
+) -> Result<Rows<FateRow>, Refusal>
+    ensures { MatchResult result (λ fates. fates ≡ fates_on page.now delivery.now manner)
         (λ e. e ≡ Unavailable) }
 {
-    let header = read_header(alloc, trial.body.as_slice())?;
-    let rows = read_rows(alloc, &page.params(), trial.body.as_slice())?;
+    let header = read_header(alloc, delivery.body.as_slice())?;
+    let rows = read_rows(alloc, &page.params(), delivery.body.as_slice())?;
     all_rows_are_checked();
-    try_rows(alloc, page.clone()?, header, rows.as_slice(), trial.manner)
+    try_rows(alloc, page.clone()?, header, rows.as_slice(), manner)
 }

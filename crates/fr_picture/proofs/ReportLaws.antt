@@ -27,9 +27,7 @@ use Rattle.fr_picture.specs.Reports.{Answered, MayRefuse, Reports, Standing, ans
 
 abbrev IsQuery : Checked → Type 0
 IsQuery (checked.Command command) = ⊥
-IsQuery (checked.Import i) = ⊥
-IsQuery (checked.Replace r) = ⊥
-IsQuery (checked.Try t) = ⊥
+IsQuery (checked.Deliver d) = ⊥
 IsQuery (checked.Query query) = ⊤
 
 abbrev Same : Book → Outcome → Type 0
@@ -38,9 +36,7 @@ Same b o = o.book ≡ b
 act_same : (c : Cluster) (b : Book) (actor : Actor) (what : Checked) → IsQuery what → IfOk (act c b actor what) (Same b)
 unfolding act
 act_same c b actor (checked.Command command) is = absurd is
-act_same c b actor (checked.Import i) is = absurd is
-act_same c b actor (checked.Replace r) is = absurd is
-act_same c b actor (checked.Try t) is = absurd is
+act_same c b actor (checked.Deliver d) is = absurd is
 act_same c b actor (checked.Query query) is = gives_each _ (reply c.params b actor query) _ (λ rows _. refl)
 
 outcome_same : (b : Book) (r : Result Outcome Refusal) → IfOk r (Same b) → Same b (outcome b r)

@@ -1,9 +1,9 @@
 //! The jobs on files. The check would let pass a job that ends in a fault, or never sees what the jobs before it did,
 //! though nothing fails.
 use crate::fixture::{CLUSTER, PLAN, carried_out};
-use fr_base::{Query, Report};
+use fr_base::{Purpose, Query, Report};
 use fr_cli::perform::perform;
-use fr_cli::{Delivery, DeliveryKind, Inquiry, Job, LocalFiles, LocalListener};
+use fr_cli::{Delivery, Inquiry, Job, LocalFiles, LocalListener};
 use fr_desks::file_desk;
 use sqlite::Unknown;
 use std::fs;
@@ -49,11 +49,11 @@ fn report_of<'a>(db: &'a str, report: Report<&'a str>) -> Job<'a> {
 }
 
 // The job that delivers a file of rows of `v1` to the register file.
-fn delivery_of<'a>(db: &'a str, kind: DeliveryKind<'a>, file: &'a str) -> Job<'a> {
+fn delivery_of<'a>(db: &'a str, how: Purpose<&'a str>, file: &'a str) -> Job<'a> {
     let delivery = Delivery {
         key: "supplier01",
         variant: "v1",
-        kind,
+        how,
         file,
     };
     Job::Deliver { db, delivery }
@@ -79,9 +79,9 @@ fn each_command_finds_what_the_others_did(rt: HostRuntime) -> Result<(), Fail> {
     let gaps = report_of(db, Report::Gaps);
     assert!(rt; fails(&rt, &gaps, "{\"no\":10,\"refused\":\"NoVariant\"}\n"));
     granted(&rt, db)?;
-    let import = delivery_of(db, DeliveryKind::Import { label: "l1" }, file);
+    let import = delivery_of(db, Purpose::Import { label: "l1" }, file);
     assert!(rt; prints(&rt, &import, "{\"ok\":\"imported\",\"rows\":1}\n"));
-    let replacement = delivery_of(db, DeliveryKind::Replacement { whole: false }, file);
+    let replacement = delivery_of(db, Purpose::Replacement { whole: false }, file);
     assert!(rt; prints(&rt, &replacement, "{\"ok\":\"replaced\",\"rows\":1}\n"));
     assert!(rt;
         prints(

@@ -4,8 +4,9 @@ use Rattle.std.specs.Prelude.{nat_lt}
 use Rattle.std.specs.List.{list_all}
 use Rattle.fr_base.specs.declared.beginning.Beginning.TheVariants.{Empty, From, Flat}
 use Rattle.fr_base.specs.declared.request.Request.{Request}
-use Rattle.fr_base.specs.declared.request.Request.TheVariants.{OpenVariant, Release, AddSupplier, SetKey, AddNode, Grant, Revoke, AddFrame, DropFrame, Place, Unplace, AddSignal, DropSignal, Import, Try, Replace, Query}
-use Rattle.fr_base.specs.declared.request.Manner.TheVariants as manner
+use Rattle.fr_base.specs.declared.request.Request.TheVariants.{OpenVariant, Release, AddSupplier, SetKey, AddNode, Grant, Revoke, AddFrame, DropFrame, Place, Unplace, AddSignal, DropSignal, Deliver, Query}
+use Rattle.fr_base.specs.declared.delivery.Manner.TheVariants as manner
+use Rattle.fr_base.specs.declared.delivery.Purpose.TheVariants as purpose
 use Rattle.fr_base.specs.declared.query.Inventory.TheVariants.{Cluster, Variants, Nodes}
 use Rattle.fr_base.specs.declared.query.Query.TheVariants.{Register as OfRegister, Variant as OfVariant, Difference as OfTwo}
 use Rattle.fr_base.specs.declared.report.Report.TheVariants.{Grants, Frames, Schedule, Gaps, Layout, Load, Rows, Room, Export}
@@ -46,12 +47,12 @@ fields_read (AddSignal v f x start length order) fit =
     let first = both (nat_lt start (2 ^ 32)) _ fit in
     rw (first.0, (both (nat_lt length (2 ^ 32)) _ first.1).0) refl
 fields_read (DropSignal v f x) fit = refl
-fields_read (Import v label body) fit = refl
-fields_read (Replace v true body) fit = refl
-fields_read (Replace v false body) fit = refl
-fields_read (Try v manner.Import body) fit = refl
-fields_read (Try v (manner.Replace true) body) fit = refl
-fields_read (Try v (manner.Replace false) body) fit = refl
+fields_read (Deliver v (purpose.Import label) body) fit = refl
+fields_read (Deliver v (purpose.Replacement true) body) fit = refl
+fields_read (Deliver v (purpose.Replacement false) body) fit = refl
+fields_read (Deliver v (purpose.Trial manner.Import) body) fit = refl
+fields_read (Deliver v (purpose.Trial (manner.Replace true)) body) fit = refl
+fields_read (Deliver v (purpose.Trial (manner.Replace false)) body) fit = refl
 fields_read (Query (OfRegister Cluster)) fit = refl
 fields_read (Query (OfRegister Variants)) fit = refl
 fields_read (Query (OfRegister Nodes)) fit = refl

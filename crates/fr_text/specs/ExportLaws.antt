@@ -24,7 +24,8 @@ use Rattle.fr_base.specs.declared.import.Row.{Row}
 use Rattle.fr_base.specs.declared.import.RowRead.{RowRead}
 use Rattle.fr_base.specs.declared.query.Query.TheVariants.{Variant as OfVariant}
 use Rattle.fr_base.specs.declared.report.Report.TheVariants.{Export}
-use Rattle.fr_base.specs.declared.request.Request.TheVariants.{Replace}
+use Rattle.fr_base.specs.declared.request.Request.TheVariants.{Deliver}
+use Rattle.fr_base.specs.declared.delivery.Purpose.TheVariants as purpose
 use Rattle.fr_text.specs.AnswerText.{report_of}
 
 -- the rows as they are read, none refused, the first of them at this line
@@ -57,7 +58,7 @@ ExportIsWithinBytes = (c : Cluster) (b : Book) (s v : Name) (header : Header) (p
 abbrev pub SentBackChangesNothing : Type 0
 SentBackChangesNothing = (c : Cluster) (b : Book) (s v : Name) (x : Variant) (header : Header) (part : ℕ) (rows : ReportRows) →
     IsSound c b → IsTrue (knows b (Supplier s)) → get b.variants v ≡ Some x → IsFalse x.released → IsExport c b s v header part rows
-    → step c b (Supplier s) (Replace v false (sent rows)) ≡ record { book = b; answer = Replaced (length (exported_rows rows)) }
+    → step c b (Supplier s) (Deliver v (purpose.Replacement false) (sent rows)) ≡ record { book = b; answer = Replaced (length (exported_rows rows)) }
 
 -- In a sound book a supplier sends back what it was sent of part 0 of its own export of an open
 -- variant, of any kind, as a whole replacement there. Part 1 has no record. It changes nothing, and
@@ -66,7 +67,7 @@ abbrev pub SentWholeChangesNothing : Type 0
 SentWholeChangesNothing = (c : Cluster) (b : Book) (s v : Name) (x : Variant) (header : Header) (rows behind : ReportRows) →
     IsSound c b → IsTrue (knows b (Supplier s)) → get b.variants v ≡ Some x → IsFalse x.released →
     IsExport c b s v header 0 rows → IsExport c b s v header 1 behind → exported_rows behind ≡ []
-    → step c b (Supplier s) (Replace v true (sent rows)) ≡ record { book = b; answer = Replaced (length (exported_rows rows)) }
+    → step c b (Supplier s) (Deliver v (purpose.Replacement true) (sent rows)) ≡ record { book = b; answer = Replaced (length (exported_rows rows)) }
 
 -- ---- elsewhere
 

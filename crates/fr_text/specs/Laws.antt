@@ -8,9 +8,10 @@ use Rattle.fr_base.specs.Queries.{word_of_query}
 use Rattle.fr_base.specs.declared.beginning.Beginning.{Beginning}
 use Rattle.fr_base.specs.declared.beginning.Beginning.TheVariants.{Empty, From, Flat}
 use Rattle.fr_base.specs.declared.request.Request.{Request}
-use Rattle.fr_base.specs.declared.request.Request.TheVariants.{OpenVariant, Release, AddSupplier, SetKey, AddNode, Grant, Revoke, AddFrame, DropFrame, Place, Unplace, AddSignal, DropSignal, Import, Try, Replace, Query}
-use Rattle.fr_base.specs.declared.request.Manner.{Manner}
-use Rattle.fr_base.specs.declared.request.Manner.TheVariants as manner
+use Rattle.fr_base.specs.declared.request.Request.TheVariants.{OpenVariant, Release, AddSupplier, SetKey, AddNode, Grant, Revoke, AddFrame, DropFrame, Place, Unplace, AddSignal, DropSignal, Deliver, Query}
+use Rattle.fr_base.specs.declared.delivery.Manner.{Manner}
+use Rattle.fr_base.specs.declared.delivery.Manner.TheVariants as manner
+use Rattle.fr_base.specs.declared.delivery.Purpose.TheVariants as purpose
 use Rattle.fr_base.specs.declared.query.Query as asked
 use Rattle.fr_base.specs.declared.query.Query.TheVariants.{Register as OfRegister, Variant as OfVariant, Difference as OfTwo}
 use Rattle.fr_base.specs.declared.report.Report.{Report}
@@ -80,9 +81,9 @@ fields_of (Place v f k c b r) = fields ((codes "do", string (codes "place")) ∷
 fields_of (Unplace v f k c b r) = fields ((codes "do", string (codes "unplace")) ∷ (codes "variant", string v) ∷ (codes "frame", string f) ∷ (codes "slot", count k) ∷ (codes "channels", string c) ∷ (codes "base", count b) ∷ (codes "repetition", count r) ∷ [])
 fields_of (AddSignal v f x start length order) = fields ((codes "do", string (codes "add_signal")) ∷ (codes "variant", string v) ∷ (codes "frame", string f) ∷ (codes "signal", string x) ∷ (codes "start", count start) ∷ (codes "length", count length) ∷ (codes "order", string order) ∷ [])
 fields_of (DropSignal v f x) = fields ((codes "do", string (codes "drop_signal")) ∷ (codes "variant", string v) ∷ (codes "frame", string f) ∷ (codes "signal", string x) ∷ [])
-fields_of (Import v label body) = fields ((codes "do", string (codes "import")) ∷ (codes "variant", string v) ∷ (codes "label", string label) ∷ (codes "body", string body) ∷ [])
-fields_of (Replace v whole body) = fields ((codes "do", string (codes "replace")) ∷ (codes "variant", string v) ∷ (codes "body", string body) ∷ (codes "whole", boolean whole) ∷ [])
-fields_of (Try v how body) = fields ((codes "do", string (codes "try")) ∷ (codes "variant", string v) ∷ (codes "body", string body) ∷ (codes "replace", boolean (is_replacement how)) ∷ (codes "whole", boolean (is_whole how)) ∷ [])
+fields_of (Deliver v (purpose.Import label) body) = fields ((codes "do", string (codes "import")) ∷ (codes "variant", string v) ∷ (codes "label", string label) ∷ (codes "body", string body) ∷ [])
+fields_of (Deliver v (purpose.Replacement whole) body) = fields ((codes "do", string (codes "replace")) ∷ (codes "variant", string v) ∷ (codes "body", string body) ∷ (codes "whole", boolean whole) ∷ [])
+fields_of (Deliver v (purpose.Trial how) body) = fields ((codes "do", string (codes "try")) ∷ (codes "variant", string v) ∷ (codes "body", string body) ∷ (codes "replace", boolean (is_replacement how)) ∷ (codes "whole", boolean (is_whole how)) ∷ [])
 fields_of (Query query) = fields ((codes "do", string (word_of_query query)) ∷ query_fields query)
 
 -- a query's numbers

@@ -9,9 +9,10 @@ use Rattle.fr_base.specs.Forms.{form_of}
 use Rattle.fr_base.specs.declared.beginning.Beginning.{Beginning}
 use Rattle.fr_base.specs.declared.beginning.Beginning.TheVariants.{Empty, From, Flat}
 use Rattle.fr_base.specs.declared.request.Request.{Request}
-use Rattle.fr_base.specs.declared.request.Request.TheVariants.{OpenVariant, Release, AddSupplier, SetKey, AddNode, Grant, Revoke, AddFrame, DropFrame, Place, Unplace, AddSignal, DropSignal, Import, Replace, Try, Query}
-use Rattle.fr_base.specs.declared.request.Manner.{Manner}
-use Rattle.fr_base.specs.declared.request.Manner.TheVariants as manner
+use Rattle.fr_base.specs.declared.request.Request.TheVariants.{OpenVariant, Release, AddSupplier, SetKey, AddNode, Grant, Revoke, AddFrame, DropFrame, Place, Unplace, AddSignal, DropSignal, Deliver, Query}
+use Rattle.fr_base.specs.declared.delivery.Manner.{Manner}
+use Rattle.fr_base.specs.declared.delivery.Manner.TheVariants as manner
+use Rattle.fr_base.specs.declared.delivery.Purpose.TheVariants as purpose
 use Rattle.fr_base.specs.declared.query.Inventory.TheVariants.{Cluster, Variants, Nodes}
 use Rattle.fr_base.specs.declared.query.Query.TheVariants.{Register as OfRegister, Variant as OfVariant, Difference as OfTwo}
 use Rattle.fr_base.specs.declared.report.Report.TheVariants.{Grants, Frames, Schedule, Gaps, Layout, Load, Rows, Room, Export}
@@ -58,9 +59,9 @@ manner_of false whole = manner.Import
 -- a supplier's, by a file
 unfoldable pub of_files : Arms
 of_files =
-    (codes "import", λ o. Import (text o (codes "variant")) (text o (codes "label")) (text o (codes "body")))
-    ∷ (codes "replace", λ o. Replace (text o (codes "variant")) (flag o (codes "whole")) (text o (codes "body")))
-    ∷ (codes "try", λ o. Try (text o (codes "variant")) (manner_of (flag o (codes "replace")) (flag o (codes "whole"))) (text o (codes "body")))
+    (codes "import", λ o. Deliver (text o (codes "variant")) (purpose.Import (text o (codes "label"))) (text o (codes "body")))
+    ∷ (codes "replace", λ o. Deliver (text o (codes "variant")) (purpose.Replacement (flag o (codes "whole"))) (text o (codes "body")))
+    ∷ (codes "try", λ o. Deliver (text o (codes "variant")) (purpose.Trial (manner_of (flag o (codes "replace")) (flag o (codes "whole")))) (text o (codes "body")))
     ∷ []
 
 -- queries

@@ -25,8 +25,8 @@ use Rattle.fr_base.specs.declared.refusal.Refusal.TheVariants.{NoNode, NodeDiffe
 use Rattle.fr_base.specs.declared.request.Change.TheVariants as change
 use Rattle.fr_base.specs.declared.request.FrameChange.TheVariants.{Add, Drop, AddSignal}
 use Rattle.fr_base.specs.declared.signal.Signal.{Signal}
-use Rattle.fr_base.specs.declared.request.Manner.{Manner}
-use Rattle.fr_base.specs.declared.request.Manner.TheVariants as manner
+use Rattle.fr_base.specs.declared.delivery.Manner.{Manner}
+use Rattle.fr_base.specs.declared.delivery.Manner.TheVariants as manner
 use Rattle.fr_base.proofs.TableLaws.{equal, get-insert, kept, same_table}
 use Rattle.fr_base.proofs.SoundTables.{get-put, same_key}
 use Rattle.fr_base.proofs.AloneTables.{get-remove}

@@ -16,8 +16,8 @@ use Rattle.fr_base.specs.declared.import.RowRead.{RowRead}
 use Rattle.fr_base.specs.declared.name.Name.{Name}
 use Rattle.fr_base.specs.declared.params.Params.{Params}
 use Rattle.fr_base.specs.declared.refusal.Refusal.{Refusal}
-use Rattle.fr_base.specs.declared.request.Manner.{Manner}
-use Rattle.fr_base.specs.declared.request.Manner.TheVariants as manner
+use Rattle.fr_base.specs.declared.delivery.Manner.{Manner}
+use Rattle.fr_base.specs.declared.delivery.Manner.TheVariants as manner
 use Rattle.fr_base.proofs.ImportForms.{IsFormedRow, IsFormedRead, all_rows-form}
 use Rattle.fr_base.proofs.TrialLaws.{body_ends}
 use Rattle.fr_world.specs.Pages.{page_in}

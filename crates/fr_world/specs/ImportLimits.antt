@@ -7,31 +7,32 @@ use Rattle.fr_base.specs.Book.{Variant, Book, own}
 use Rattle.fr_base.specs.ImportRows.{rows_of_body}
 use Rattle.fr_base.specs.Step.{Outcome, imported}
 use Rattle.fr_base.specs.declared.limits.TheConstants.{MAX_IMPORTS, MAX_IMPORT_BYTES}
+use Rattle.fr_base.specs.declared.name.Name.{Name}
 use Rattle.fr_base.specs.declared.params.Params.{Params}
 use Rattle.fr_base.specs.declared.refusal.Refusal.{Refusal}
 use Rattle.fr_base.specs.declared.refusal.Refusal.TheVariants.{NoVariant, Released, Limit}
-use Rattle.fr_base.specs.declared.request.Import.{Import}
+use Rattle.fr_base.specs.declared.delivery.Delivery.{Delivery}
 use Rattle.fr_world.specs.BookEdits.{all_applied}
 use Rattle.fr_world.specs.Pages.{page_in}
 use Rattle.fr_world.specs.RowDecisions.{rows_decision}
 
 -- whether there is room for the import, where its supplier keeps so many
-unfoldable pub import_room : Import → ℕ → Result ⊤ Refusal
-import_room i kept = do
-  refuse Limit when nat_lt MAX_IMPORT_BYTES (length i.body)
+unfoldable pub import_room : Delivery → ℕ → Result ⊤ Refusal
+import_room d kept = do
+  refuse Limit when nat_lt MAX_IMPORT_BYTES (length d.body)
   refuse Limit when nat_le MAX_IMPORTS kept
 
 -- the decision on the import in this variant, by the decision on its rows on the supplier's page
-abbrev pub page_import : Params → Book → Import → Variant → Outcome
-page_import p b i x =
-    let rows = rows_of_body p i.body in
-    imported b i (length rows) (rows_decision (page_in p b i.supplier i.variant x) rows >>= λ edits. Ok (all_applied b edits))
+abbrev pub page_import : Params → Book → Delivery → Name → Variant → Outcome
+page_import p b d label x =
+    let rows = rows_of_body p d.body in
+    imported b d label (length rows) (rows_decision (page_in p b d.supplier d.variant x) rows >>= λ edits. Ok (all_applied b edits))
 
 -- the decision on a new import: its variant is there and open, there is room for it, and then its
 -- rows
-unfoldable pub new_import : Params → Book → Import → Result Outcome Refusal
-new_import p b i = do
-  x ← get b.variants i.variant or NoVariant
+unfoldable pub new_import : Params → Book → Delivery → Name → Result Outcome Refusal
+new_import p b d label = do
+  x ← get b.variants d.variant or NoVariant
   refuse Released when x.released
-  import_room i (len (own i.supplier b.imports))
-  Ok (page_import p b i x)
+  import_room d (len (own d.supplier b.imports))
+  Ok (page_import p b d label x)

@@ -25,8 +25,8 @@ use Rattle.fr_base.specs.declared.request.Change.{Change}
 use Rattle.fr_base.specs.declared.request.Change.TheVariants.{Grant, Revoke, Frame}
 use Rattle.fr_base.specs.declared.request.CommonCommand.{CommonCommand}
 use Rattle.fr_base.specs.declared.request.FrameChange.{FrameChange}
-use Rattle.fr_base.specs.declared.request.Import.{Import}
-use Rattle.fr_base.specs.declared.request.Manner.{Manner}
+use Rattle.fr_base.specs.declared.delivery.Delivery.{Delivery}
+use Rattle.fr_base.specs.declared.delivery.Manner.{Manner}
 use Rattle.fr_world.specs.BookEdits.{SparesOthers, applied, all_applied, variants_in}
 use Rattle.fr_world.specs.Common.{common_edit}
 use Rattle.fr_world.specs.Decisions.{IsChecked, decision}
@@ -163,11 +163,11 @@ CommonDecides = (b : Book) (command : CommonCommand) → common b command ≡ (c
 
 -- In any book an import is decided by its label, and then as one whose label is new.
 abbrev pub LabelDecides : Type 0
-LabelDecides = (p : Params) (b : Book) (i : Import) (kept : Option Kept) → import p b i kept ≡ (label_decision kept i >>= after_label p b i)
+LabelDecides = (p : Params) (b : Book) (d : Delivery) (label : Name) (kept : Option Kept) → import p b d label kept ≡ (label_decision kept d >>= after_label p b d label)
 
 -- In a sound book a new import by a supplier that is there is decided by its variant, the limits, and its rows on the supplier's page.
 abbrev pub NewImportDecides : Type 0
-NewImportDecides = (c : Cluster) (b : Book) (i : Import) → IsSound c b → IsTrue (contains b.suppliers i.supplier) → import c.params b i None ≡ new_import c.params b i
+NewImportDecides = (c : Cluster) (b : Book) (d : Delivery) (label : Name) → IsSound c b → IsTrue (contains b.suppliers d.supplier) → import c.params b d label None ≡ new_import c.params b d label
 
 -- An edit of a supplier's rows of a variant that is there makes of the supplier's own rows in the register what it makes of the
 -- page; and the variant is released where the edit releases it, or where it was before.

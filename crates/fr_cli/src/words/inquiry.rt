@@ -31,10 +31,10 @@ impl Inquiry<'_> {
     }
 }
 
-// Reads a query: its names are copied, its numbers stay as they are.
+/// Reads a query, or what a file is delivered for: its names are copied, its numbers stay as they are.
 #[derive(Drop)]
-struct Copies {
-    alloc: Global,
+pub(crate) struct Copies {
+    pub(crate) alloc: Global,
 }
 
 impl<'a> QueryReader<&'a str, u32, Text, NoMemory> for Copies {

@@ -5,7 +5,7 @@ ghost use Rattle.fr_guide.specs.Requests.{formed_in, has_form, have_forms, names
 
 use crate::form::Form;
 use crate::shown::shown;
-use fr_base::{Beginning, Key, Name, NoMemory, Query, Report, Request, Text};
+use fr_base::{Beginning, Key, Name, NoMemory, Purpose, Query, Report, Request, Text};
 use std::alloc::Global;
 
 /// A text of a request that must have a form, and its field.
@@ -119,21 +119,19 @@ pub fn name_faults(alloc: Global, request: &Request) -> Result<Vec<String>, NoMe
                 name("signal", signal),
             ],
         ),
-        Request::Import {
+        Request::Deliver {
             variant,
-            label,
+            how,
             body: _,
-        } => faults(alloc, &[name("variant", variant), name("label", label)]),
-        Request::Replace {
-            variant,
-            whole: _,
-            body: _,
+        } => {
+            let variant = name("variant", variant);
+            match how {
+                Purpose::Import { label } => faults(alloc, &[variant, name("label", label)]),
+                Purpose::Replacement { whole: _ } | Purpose::Trial { manner: _ } => {
+                    faults(alloc, &[variant])
+                }
+            }
         }
-        | Request::Try {
-            variant,
-            manner: _,
-            body: _,
-        } => faults(alloc, &[name("variant", variant)]),
         Request::Query(query) => query_faults(alloc, query),
     }
 }

@@ -1,10 +1,10 @@
 //! The requests that a supplier gives by a file, made of the values of their fields.
-ghost use Rattle.std.specs.Prelude.{◌≡◌, codes, IfOk};
-ghost use Rattle.fr_text.specs.Fields.{fields_in, flag};
+ghost use Rattle.std.specs.Prelude.{◌≡◌, Some, codes, IfOk};
+ghost use Rattle.fr_text.specs.Fields.{fields_in, flag, text};
 ghost use Rattle.fr_text.specs.RequestText.{manner_of, of_files, picked};
 
 use crate::fields::{Fields, copy_body, copy_text, flag_in};
-use fr_base::{Manner, NoMemory, Request};
+use fr_base::{Manner, NoMemory, Purpose, Request, Text};
 use std::alloc::Global;
 
 /// The request of this word, if it is one of these.
@@ -13,23 +13,33 @@ pub(super) fn pick(alloc: Global, word: &str, fields: &Fields) -> Result<Option<
     ensures { IfOk result (λ request. request ≡ picked of_files word.now (fields_in fields.now)) }
 {
     match word {
-        "import" => Ok(Some(Request::Import {
-            variant: copy_text(alloc, fields, "variant")?,
-            label: copy_text(alloc, fields, "label")?,
-            body: copy_body(alloc, fields, "body")?,
-        })),
-        "replace" => Ok(Some(Request::Replace {
-            variant: copy_text(alloc, fields, "variant")?,
-            whole: flag_in(fields, "whole"),
-            body: copy_body(alloc, fields, "body")?,
-        })),
-        "try" => Ok(Some(Request::Try {
-            variant: copy_text(alloc, fields, "variant")?,
-            manner: manner_in(fields),
-            body: copy_body(alloc, fields, "body")?,
-        })),
+        "import" => {
+            let label = copy_text(alloc, fields, "label")?;
+            delivery(alloc, fields, Purpose::Import { label })
+        }
+        "replace" => {
+            let whole = flag_in(fields, "whole");
+            delivery(alloc, fields, Purpose::Replacement { whole })
+        }
+        "try" => {
+            let manner = manner_in(fields);
+            delivery(alloc, fields, Purpose::Trial { manner })
+        }
         _ => Ok(None),
     }
+}
+
+// The request that delivers the file of the fields.
+fn delivery(alloc: Global, fields: &Fields, how: Purpose<Text>) -> Result<Option<Request>, NoMemory>
+    ensures { IfOk result (λ request. request ≡ Some (Request.Deliver
+        (text (fields_in fields.now) (codes "variant")) how
+        (text (fields_in fields.now) (codes "body")))) }
+{
+    Ok(Some(Request::Deliver {
+        variant: copy_text(alloc, fields, "variant")?,
+        how,
+        body: copy_body(alloc, fields, "body")?,
+    }))
 }
 
 // How the rows of a file that is tried act: as a replacement, which may be whole, or else as an import.

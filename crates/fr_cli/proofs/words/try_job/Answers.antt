@@ -1,8 +1,8 @@
 use Rattle.std.proofs.Common.{sym}
 use Rattle.clap.specs.Walk.{rows_of}
 use Rattle.clap.specs.Words.{found_of}
-use Rattle.fr_base.specs.declared.request.Manner.TheVariants.{Import}
-use Rattle.fr_cli.specs.declared.words.delivery.DeliveryKind.TheVariants.{Trial}
+use Rattle.fr_base.specs.declared.delivery.Manner.TheVariants.{Import}
+use Rattle.fr_base.specs.declared.delivery.Purpose.TheVariants.{Trial}
 use Rattle.fr_cli.proofs.ReportLaws.{undelivered, untried}
 use Rattle.fr_cli.proofs.words.try_job.Goals as goal
 

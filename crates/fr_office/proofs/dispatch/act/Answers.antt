@@ -7,8 +7,8 @@ use Rattle.fr_base.specs.Step.{knows, perform}
 use Rattle.fr_office.specs.Answers.{CarriesAct, HasPassed}
 use Rattle.fr_office.specs.Decided.{IsOwnChange}
 use Rattle.fr_office.proofs.CallLaws.{command_carried, only_read}
-use Rattle.fr_office.proofs.StepLaws.{import_acts, query_acts, replacement_acts, trial_acts}
-use Rattle.fr_office.proofs.CrashLaws.{act_import, act_replace}
+use Rattle.fr_office.proofs.StepLaws.{delivery_acts, query_acts}
+use Rattle.fr_office.proofs.CrashLaws.{act_deliver}
 use Rattle.fr_office.proofs.dispatch.act.Goals as goal
 
 pub grant-requires : goal.grant-requires
@@ -86,44 +86,20 @@ returns-in-Frame g c =
 pub reply-requires : goal.reply-requires
 reply-requires g c = subst (λ (valid : Checked). HasPassed (g.R.Records.params c.args.records.now) c.args.actor.now valid) c.in-Query.is c.requires.passed
 
-pub returns-in-Import : goal.returns-in-Import
-returns-in-Import g c =
+pub returns-in-Deliver : goal.returns-in-Deliver
+returns-in-Deliver g c =
     let records = g.R.Records in
     let old = c.args.records.now in
-    let new = c.import.new.records in
+    let new = c.deliver.new.records in
     let actor = c.args.actor.now in
-    let asks : actor ≡ Supplier c.in-Import.new.supplier = subst (λ (valid : Checked). HasPassed (records.params old) actor valid) c.in-Import.is c.requires.passed in
-    subst (λ (valid : Checked). CarriesAct records actor valid old new c.import.result) (sym c.in-Import.is) (record {
-      falls = c.import.ensures.falls;
-      serves = c.import.ensures.serves;
-      leaves = λ clean. act_import (records.stands old) (records.leaves old) (records.leaves new) actor c.in-Import.new asks (c.import.ensures.leaves clean);
-      acts = λ clean. import_acts (records.stands old) (records.stands new) actor c.in-Import.new c.import.result asks (c.import.ensures.gives clean);
+    let d = c.in-Deliver.delivery in
+    let asks : actor ≡ Supplier d.supplier = subst (λ (valid : Checked). HasPassed (records.params old) actor valid) c.in-Deliver.is c.requires.passed in
+    subst (λ (valid : Checked). CarriesAct records actor valid old new c.deliver.result) (sym c.in-Deliver.is) (record {
+      falls = c.deliver.ensures.falls;
+      serves = c.deliver.ensures.serves;
+      leaves = λ clean. act_deliver (records.stands old) (records.leaves old) (records.leaves new) actor d asks (c.deliver.ensures.leaves clean);
+      acts = λ clean. delivery_acts (records.stands old) (records.stands new) actor d c.deliver.result asks (c.deliver.ensures.gives clean);
     })
-
-pub returns-in-Replace : goal.returns-in-Replace
-returns-in-Replace g c =
-    let records = g.R.Records in
-    let old = c.args.records.now in
-    let new = c.replace.new.records in
-    let actor = c.args.actor.now in
-    let asks : actor ≡ Supplier c.in-Replace.new.supplier = subst (λ (valid : Checked). HasPassed (records.params old) actor valid) c.in-Replace.is c.requires.passed in
-    subst (λ (valid : Checked). CarriesAct records actor valid old new c.replace.result) (sym c.in-Replace.is) (record {
-      falls = c.replace.ensures.falls;
-      serves = c.replace.ensures.serves;
-      leaves = λ clean. act_replace (records.stands old) (records.leaves old) (records.leaves new) actor c.in-Replace.new asks (c.replace.ensures.leaves clean);
-      acts = λ clean. replacement_acts (records.stands old) (records.stands new) actor c.in-Replace.new c.replace.result asks (c.replace.ensures.gives clean);
-    })
-
-pub returns-in-Try : goal.returns-in-Try
-returns-in-Try g c =
-    let records = g.R.Records in
-    let old = c.args.records.now in
-    let new = c.try_file.new.records in
-    let actor = c.args.actor.now in
-    let asks : actor ≡ Supplier c.in-Try.trial.supplier = subst (λ (valid : Checked). HasPassed (records.params old) actor valid) c.in-Try.is c.requires.passed in
-    subst (λ (valid : Checked). CarriesAct records actor valid old new c.try_file.result) (sym c.in-Try.is)
-    (only_read records actor (checked.Try c.in-Try.trial) old new c.try_file.result c.try_file.ensures.reads (λ clean. tt) (λ clean.
-    trial_acts (records.stands old) (records.stands new) actor c.in-Try.trial c.try_file.result asks (c.try_file.ensures.told clean)))
 
 pub returns-in-Query : goal.returns-in-Query
 returns-in-Query g c =

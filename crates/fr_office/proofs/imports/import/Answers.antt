@@ -9,84 +9,90 @@ use Rattle.fr_office.proofs.imports.import.Goals as goal
 pub returns-in_err-rows : goal.returns-in_err-rows
 returns-in_err-rows g c =
     let records = g.R.Records in
-    let i = c.args.import.now in
+    let i = c.args.delivery.now in
+    let label = c.args.label in
     let old = c.args.records.now in
     let mid = c.rows_kept.new.records in
-    import_refused records old mid c.rows_kept.ensures.reads c.from_residual.result c.in_err-rows.field-0.0 (search rules) i (λ clean.
-    label_stopped i (records.stands old) (records.stands mid) c.in_err-rows.field-0.0 (c.in_err-rows.ensures.told clean))
+    import_refused records old mid c.rows_kept.ensures.reads c.from_residual.result c.in_err-rows.field-0.0 (search rules) i label (λ clean.
+    label_stopped i label (records.stands old) (records.stands mid) c.in_err-rows.field-0.0 (c.in_err-rows.ensures.told clean))
 
 pub returns-in-Some : goal.returns-in-Some
 returns-in-Some g c =
     let records = g.R.Records in
-    let i = c.args.import.now in
+    let i = c.args.delivery.now in
+    let label = c.args.label in
     let old = c.args.records.now in
     let mid = c.rows_kept.new.records in
     record {
       falls = c.rows_kept.ensures.reads.falls;
       serves = λ clean cl b stood sound free.
-          absurd (label_taken i (records.stands old) (records.stands mid) c.in_ok-rows.field-0 c.in-Some.rows (search rules) (c.in_ok-rows.ensures.told clean) cl b stood sound free);
+          absurd (label_taken i label (records.stands old) (records.stands mid) c.in_ok-rows.field-0 c.in-Some.rows (search rules) (c.in_ok-rows.ensures.told clean) cl b stood sound free);
       leaves = λ clean cl b books stood sound known left. inl (c.rows_kept.ensures.reads.leaves clean cl books left);
-      gives = λ clean. label_again i (records.stands old) (records.stands mid) c.in_ok-rows.field-0 c.in-Some.rows (search rules) (c.in_ok-rows.ensures.told clean);
+      gives = λ clean. label_again i label (records.stands old) (records.stands mid) c.in_ok-rows.field-0 c.in-Some.rows (search rules) (c.in_ok-rows.ensures.told clean);
     }
 
 pub returns-in_err-count : goal.returns-in_err-count
 returns-in_err-count g c =
     let records = g.R.Records in
-    let i = c.args.import.now in
+    let i = c.args.delivery.now in
+    let label = c.args.label in
     let old = c.args.records.now in
     let mid = c.rows_kept.new.records in
     let next = c.imports.new.self in
-    import_refused records old next (search (rules, reads_then)) c.from_residual-in_err-count.result c.in_err-count.field-0.0 (search rules) i (λ clean.
-    let new : IsNew (records.stands old) (records.stands mid) i = label_free i (records.stands old) (records.stands mid) c.in_ok-rows.field-0 (search rules) (c.in_ok-rows.ensures.told (c.imports.ensures.reads.falls clean)) in
-    count_lacked i (records.stands old) (records.stands mid) new (records.stands next) c.imports.result c.in_err-count.field-0.0 (search rules) (c.imports.ensures.imports clean))
+    import_refused records old next (search (rules, reads_then)) c.from_residual-in_err-count.result c.in_err-count.field-0.0 (search rules) i label (λ clean.
+    let new : IsNew (records.stands old) (records.stands mid) i label = label_free i label (records.stands old) (records.stands mid) c.in_ok-rows.field-0 (search rules) (c.in_ok-rows.ensures.told (c.imports.ensures.reads.falls clean)) in
+    count_lacked i label (records.stands old) (records.stands mid) new (records.stands next) c.imports.result c.in_err-count.field-0.0 (search rules) (c.imports.ensures.imports clean))
 
 pub returns-in_err-open_page : goal.returns-in_err-open_page
 returns-in_err-open_page g c =
     let records = g.R.Records in
-    let i = c.args.import.now in
+    let i = c.args.delivery.now in
+    let label = c.args.label in
     let old = c.args.records.now in
     let mid = c.rows_kept.new.records in
     let next = c.imports.new.self in
     let last = c.open_page.new.records in
-    import_refused records old last (search (rules, reads_then)) c.from_residual-in_err-open_page.result c.in_err-open_page.field-0.0 (search rules) i (λ clean.
+    import_refused records old last (search (rules, reads_then)) c.from_residual-in_err-open_page.result c.in_err-open_page.field-0.0 (search rules) i label (λ clean.
     let clean_next = c.open_page.ensures.opens.reads.falls clean in
-    let new : IsNew (records.stands old) (records.stands mid) i = label_free i (records.stands old) (records.stands mid) c.in_ok-rows.field-0 (search rules) (c.in_ok-rows.ensures.told (c.imports.ensures.reads.falls clean_next)) in
-    page_stopped i (records.stands old) (records.stands mid) new (records.stands next) c.in_ok-count.count (c.in_ok-count.ensures.imports clean_next) (records.stands last) (g.R.Lender.lent last) c.in_err-open_page.field-0.0 (c.in_err-open_page.ensures.opens.told clean))
+    let new : IsNew (records.stands old) (records.stands mid) i label = label_free i label (records.stands old) (records.stands mid) c.in_ok-rows.field-0 (search rules) (c.in_ok-rows.ensures.told (c.imports.ensures.reads.falls clean_next)) in
+    page_stopped i label (records.stands old) (records.stands mid) new (records.stands next) c.in_ok-count.count (c.in_ok-count.ensures.imports clean_next) (records.stands last) (g.R.Lender.lent last) c.in_err-open_page.field-0.0 (c.in_err-open_page.ensures.opens.told clean))
 
 pub returns-in_err-admit_import : goal.returns-in_err-admit_import
 returns-in_err-admit_import g c =
     let records = g.R.Records in
-    let i = c.args.import.now in
+    let i = c.args.delivery.now in
+    let label = c.args.label in
     let old = c.args.records.now in
     let mid = c.rows_kept.new.records in
     let next = c.imports.new.self in
     let last = c.open_page.new.records in
     let page = some_of (g.R.Lender.lent last) c.in_ok-open_page.ensures.lent in
-    import_refused records old last (search (rules, reads_then)) c.from_residual-in_err-admit_import.result c.in_err-admit_import.field-0.0 (search rules) i (λ clean.
+    import_refused records old last (search (rules, reads_then)) c.from_residual-in_err-admit_import.result c.in_err-admit_import.field-0.0 (search rules) i label (λ clean.
     let clean_next = c.open_page.ensures.opens.reads.falls clean in
-    let new : IsNew (records.stands old) (records.stands mid) i = label_free i (records.stands old) (records.stands mid) c.in_ok-rows.field-0 (search rules) (c.in_ok-rows.ensures.told (c.imports.ensures.reads.falls clean_next)) in
-    no_room i (records.stands old) (records.stands mid) new (records.stands next) c.in_ok-count.count (c.in_ok-count.ensures.imports clean_next) (records.stands last) (g.R.Lender.lent last) page.0 page.1 (c.in_ok-open_page.ensures.opens.told clean) c.in_err-admit_import.field-0.0 (search rules))
+    let new : IsNew (records.stands old) (records.stands mid) i label = label_free i label (records.stands old) (records.stands mid) c.in_ok-rows.field-0 (search rules) (c.in_ok-rows.ensures.told (c.imports.ensures.reads.falls clean_next)) in
+    no_room i label (records.stands old) (records.stands mid) new (records.stands next) c.in_ok-count.count (c.in_ok-count.ensures.imports clean_next) (records.stands last) (g.R.Lender.lent last) page.0 page.1 (c.in_ok-open_page.ensures.opens.told clean) c.in_err-admit_import.field-0.0 (search rules))
 
 pub returns : goal.returns
 returns g c =
     let records = g.R.Records in
-    let i = c.args.import.now in
+    let i = c.args.delivery.now in
+    let label = c.args.label in
     let old = c.args.records.now in
     let mid = c.rows_kept.new.records in
     let next = c.imports.new.self in
     let last = c.open_page.new.records in
     let lent = g.R.Lender.lent last in
     let page = some_of lent c.in_ok-open_page.ensures.lent in
-    let rows : CarriesRows records i last c.import_rows.new.records c.import_rows.result page.0 = some_has (CarriesRows records i last c.import_rows.new.records c.import_rows.result) lent page.0 page.1 c.import_rows.ensures in
+    let rows : CarriesRows records i label last c.import_rows.new.records c.import_rows.result page.0 = some_has (CarriesRows records i label last c.import_rows.new.records c.import_rows.result) lent page.0 page.1 c.import_rows.ensures in
     record {
       falls = λ clean. c.rows_kept.ensures.reads.falls (c.imports.ensures.reads.falls (c.open_page.ensures.opens.reads.falls (rows.falls clean)));
-      serves = λ clean. after_new (records.stands old) i (records.serves c.import_rows.new.records) c.import_rows.result (rows.serves clean);
+      serves = λ clean. after_new (records.stands old) i label (records.serves c.import_rows.new.records) c.import_rows.result (rows.serves clean);
       leaves = λ clean cl b books stood sound known left.
           let clean_last = rows.falls clean in
           let clean_next = c.open_page.ensures.opens.reads.falls clean_last in
           let clean_mid = c.imports.ensures.reads.falls clean_next in
-          let new : IsNew (records.stands old) (records.stands mid) i = label_free i (records.stands old) (records.stands mid) c.in_ok-rows.field-0 (search rules) (c.in_ok-rows.ensures.told clean_mid) in
-          let so = rows_left i (records.stands old) (records.stands mid) new (records.stands next) c.in_ok-count.count (c.in_ok-count.ensures.imports clean_next) (records.stands last) lent page.0 page.1 (c.in_ok-open_page.ensures.opens.told clean_last) (search rules) cl b stood sound known in
+          let new : IsNew (records.stands old) (records.stands mid) i label = label_free i label (records.stands old) (records.stands mid) c.in_ok-rows.field-0 (search rules) (c.in_ok-rows.ensures.told clean_mid) in
+          let so = rows_left i label (records.stands old) (records.stands mid) new (records.stands next) c.in_ok-count.count (c.in_ok-count.ensures.imports clean_next) (records.stands last) lent page.0 page.1 (c.in_ok-open_page.ensures.opens.told clean_last) (search rules) cl b stood sound known in
           let before = c.open_page.ensures.opens.reads.leaves clean_last cl books (c.imports.ensures.reads.leaves clean_next cl books (c.rows_kept.ensures.reads.leaves clean_mid cl books left)) in
           elim (rows.leaves clean cl b books so.0 sound known so.1 so.2 before) [
             | inl stays ↦ inl stays
@@ -95,7 +101,7 @@ returns g c =
       gives = λ clean.
           let clean_last = rows.falls clean in
           let clean_next = c.open_page.ensures.opens.reads.falls clean_last in
-          let new : IsNew (records.stands old) (records.stands mid) i = label_free i (records.stands old) (records.stands mid) c.in_ok-rows.field-0 (search rules) (c.in_ok-rows.ensures.told (c.imports.ensures.reads.falls clean_next)) in
-          rows_given i (records.stands old) (records.stands mid) new (records.stands next) c.in_ok-count.count (c.in_ok-count.ensures.imports clean_next) (records.stands last) lent page.0 page.1 (c.in_ok-open_page.ensures.opens.told clean_last) (search rules)
-          (records.stands c.import_rows.new.records) c.import_rows.result (has_some (GivesRows (records.stands last) (records.stands c.import_rows.new.records) c.import_rows.result i) lent page.0 page.1 (rows.gives clean));
+          let new : IsNew (records.stands old) (records.stands mid) i label = label_free i label (records.stands old) (records.stands mid) c.in_ok-rows.field-0 (search rules) (c.in_ok-rows.ensures.told (c.imports.ensures.reads.falls clean_next)) in
+          rows_given i label (records.stands old) (records.stands mid) new (records.stands next) c.in_ok-count.count (c.in_ok-count.ensures.imports clean_next) (records.stands last) lent page.0 page.1 (c.in_ok-open_page.ensures.opens.told clean_last) (search rules)
+          (records.stands c.import_rows.new.records) c.import_rows.result (has_some (GivesRows (records.stands last) (records.stands c.import_rows.new.records) c.import_rows.result i label) lent page.0 page.1 (rows.gives clean));
     }

@@ -10,7 +10,7 @@ use Rattle.fr_office.proofs.imports.import_rows.Goals as goal
 
 pub overflow_cast-count : goal.overflow_cast-count
 overflow_cast-count g c =
-    let few : length c.in_ok-rows.rows ≤ MAX_ROWS = few_made c.lent-page.result.now c.args.import.now.body c.in_ok-rows.rows c.in-Ok.draft.edits.items (search rules) (search rules) in
+    let few : length c.in_ok-rows.rows ≤ MAX_ROWS = few_made c.lent-page.result.now c.args.delivery.now.body c.in_ok-rows.rows c.in-Ok.draft.edits.items (search rules) (search rules) in
     let counted : c.len-count.result ≡ length c.in_ok-rows.rows = search rules in
     omega (arith, few, counted)
 
@@ -18,14 +18,15 @@ pub keep-requires : goal.keep-requires
 keep-requires g c =
     let lent = g.R.Lender.lent c.args.records.now in
     let page = c.lent-page.result.now in
-    let i = c.args.import.now in
+    let i = c.args.delivery.now in
+    let label = c.args.label in
     let copy = c.in_ok-clone.field-0 in
     let same : copy ≡ page = search rules in
     let count = c.len-count.result in
     let draft = c.in-Ok.draft in
-    let leads = subst (λ page. LeadsTo page (kept_edits draft.edits.items i count) draft.page) same
-    (page_leads i count copy draft.page draft.edits.items c.in-Ok.ensures.leads c.in-Ok.ensures.page c.in-Ok.ensures.still) in
-    record { lent = c.requires.lent; leads = has_some (λ page. LeadsTo page (kept_edits draft.edits.items i count) draft.page) lent page c.lent-page.ensures leads }
+    let leads = subst (λ page. LeadsTo page (kept_edits draft.edits.items i label count) draft.page) same
+    (page_leads i label count copy draft.page draft.edits.items c.in-Ok.ensures.leads c.in-Ok.ensures.page c.in-Ok.ensures.still) in
+    record { lent = c.requires.lent; leads = has_some (λ page. LeadsTo page (kept_edits draft.edits.items i label count) draft.page) lent page c.lent-page.ensures leads }
 
 pub returns-in-Ok : goal.returns-in-Ok
 returns-in-Ok g c =
@@ -34,16 +35,17 @@ returns-in-Ok g c =
     let new = c.keep.new.records in
     let lent = g.R.Lender.lent old in
     let page = c.lent-page.result.now in
-    let i = c.args.import.now in
+    let i = c.args.delivery.now in
+    let label = c.args.label in
     let unreleased : page.released ≡ false = some_has (λ page. page.released ≡ false) lent page c.lent-page.ensures c.requires.open in
-    has_some (CarriesRows records i old new (Ok (Imported c.len-count.result))) lent page c.lent-page.ensures (record {
+    has_some (CarriesRows records i label old new (Ok (Imported c.len-count.result))) lent page c.lent-page.ensures (record {
       falls = c.keep.ensures.falls;
       serves = search rules;
       leaves = λ clean cl b books stood sound known free opened left.
-          (rows_kept i page c.in_ok-rows.rows (search rules) (records.stands old) (AddsTo books (records.leaves old) (records.leaves new)) c.in-Ok.draft.edits.items (search rules) unreleased c.len-count.result (search rules) (Ok tt) (search rules)
+          (rows_kept i label page c.in_ok-rows.rows (search rules) (records.stands old) (AddsTo books (records.leaves old) (records.leaves new)) c.in-Ok.draft.edits.items (search rules) unreleased c.len-count.result (search rules) (Ok tt) (search rules)
           (λ k d there fit before. c.keep.ensures.leaves clean k d books there fit before) cl b stood sound known free opened).1 left;
       gives = λ clean.
-          rows_kept i page c.in_ok-rows.rows (search rules) (records.stands old) (records.stands new) c.in-Ok.draft.edits.items (search rules) unreleased c.len-count.result (search rules) c.keep.result (search rules) (c.keep.ensures.applies clean);
+          rows_kept i label page c.in_ok-rows.rows (search rules) (records.stands old) (records.stands new) c.in-Ok.draft.edits.items (search rules) unreleased c.len-count.result (search rules) c.keep.result (search rules) (c.keep.ensures.applies clean);
     })
 
 pub returns-in_err-keep-in-Ok : goal.returns-in_err-keep-in-Ok
@@ -53,16 +55,17 @@ returns-in_err-keep-in-Ok g c =
     let new = c.keep.new.records in
     let lent = g.R.Lender.lent old in
     let page = c.lent-page.result.now in
-    let i = c.args.import.now in
+    let i = c.args.delivery.now in
+    let label = c.args.label in
     let unreleased : page.released ≡ false = some_has (λ page. page.released ≡ false) lent page c.lent-page.ensures c.requires.open in
-    has_some (CarriesRows records i old new c.from_residual-in_err-keep-in-Ok.result) lent page c.lent-page.ensures (record {
+    has_some (CarriesRows records i label old new c.from_residual-in_err-keep-in-Ok.result) lent page c.lent-page.ensures (record {
       falls = c.keep.ensures.falls;
       serves = search rules;
       leaves = λ clean cl b books stood sound known free opened left.
-          (rows_kept i page c.in_ok-rows.rows (search rules) (records.stands old) (AddsTo books (records.leaves old) (records.leaves new)) c.in-Ok.draft.edits.items (search rules) unreleased c.len-count.result (search rules) (Ok tt) (search rules)
+          (rows_kept i label page c.in_ok-rows.rows (search rules) (records.stands old) (AddsTo books (records.leaves old) (records.leaves new)) c.in-Ok.draft.edits.items (search rules) unreleased c.len-count.result (search rules) (Ok tt) (search rules)
           (λ k d there fit before. c.keep.ensures.leaves clean k d books there fit before) cl b stood sound known free opened).1 left;
       gives = λ clean.
-          rows_lacked i page c.in_ok-rows.rows (search rules) (records.stands old) (records.stands new) c.in-Ok.draft.edits.items (search rules) unreleased c.len-count.result (search rules) c.from_residual-in_err-keep-in-Ok.result c.keep.result
+          rows_lacked i label page c.in_ok-rows.rows (search rules) (records.stands old) (records.stands new) c.in-Ok.draft.edits.items (search rules) unreleased c.len-count.result (search rules) c.from_residual-in_err-keep-in-Ok.result c.keep.result
           c.in_err-keep-in-Ok.field-0.0 (search rules) (search rules) (c.keep.ensures.applies clean);
     })
 
@@ -71,10 +74,11 @@ returns-in-Err-Row g c =
     let records = g.R.Records in
     let old = c.args.records.now in
     let page = c.lent-page.result.now in
-    let i = c.args.import.now in
-    has_some (CarriesRows records i old old (Ok (RefusedRow _ _))) (g.R.Lender.lent old) page c.lent-page.ensures (record {
+    let i = c.args.delivery.now in
+    let label = c.args.label in
+    has_some (CarriesRows records i label old old (Ok (RefusedRow _ _))) (g.R.Lender.lent old) page c.lent-page.ensures (record {
       falls = λ clean. clean;
       serves = λ clean. tt;
       leaves = λ clean cl b books stood sound known free opened left. inl left;
-      gives = λ clean. rows_refused i page c.in_ok-rows.rows (search rules) (records.stands old) _ _ (search rules);
+      gives = λ clean. rows_refused i label page c.in_ok-rows.rows (search rules) (records.stands old) _ _ (search rules);
     })

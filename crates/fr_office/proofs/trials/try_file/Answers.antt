@@ -9,7 +9,7 @@ returns-in_err-open_page g c = record {
   told = λ clean.
       let old = g.R.Records.stands c.args.records.now in
       let last = g.R.Records.stands c.open_page.new.records in
-      page_stopped c.args.trial.now old last (g.R.Lender.lent c.open_page.new.records) c.in_err-open_page.field-0.0 (c.in_err-open_page.ensures.opens.told clean) c.from_residual.result (search rules);
+      page_stopped c.args.delivery.now c.args.manner old last (g.R.Lender.lent c.open_page.new.records) c.in_err-open_page.field-0.0 (c.in_err-open_page.ensures.opens.told clean) c.from_residual.result (search rules);
 }
 
 pub returns : goal.returns
@@ -18,5 +18,5 @@ returns g c = record {
   told = λ clean.
       let old = g.R.Records.stands c.args.records.now in
       let last = g.R.Records.stands c.open_page.new.records in
-      page_told c.args.trial.now old last (g.R.Lender.lent c.open_page.new.records) c.lent.result.now c.lent.ensures (c.in_ok-open_page.ensures.opens.told clean) c.tell_rows.result c.tell_rows.ensures;
+      page_told c.args.delivery.now c.args.manner old last (g.R.Lender.lent c.open_page.new.records) c.lent.result.now c.lent.ensures (c.in_ok-open_page.ensures.opens.told clean) c.tell_rows.result c.tell_rows.ensures;
 }
