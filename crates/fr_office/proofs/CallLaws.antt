@@ -1,5 +1,5 @@
 -- Calls on records, by what was read of these, and what was carried out then.
-use Rattle.std.proofs.Common.{Bool, ◌≡◌, ◌∙◌, inl, List, None, Result, Ok, Err, IfOk, subst, sym}
+use Rattle.std.proofs.Common.{◌≡◌, ◌∙◌, inl, List, None, Result, Ok, Err, IfOk, subst, sym}
 use Rattle.std.specs.Prelude.{MatchResult, OnOk, ⊤}
 use Rattle.fr_base.specs.Book.{Book}
 use Rattle.fr_base.specs.Cluster.{Cluster}
@@ -12,17 +12,16 @@ use Rattle.fr_base.specs.declared.request.Checked.{Checked}
 use Rattle.fr_base.specs.declared.request.Checked.TheVariants as checked
 use Rattle.fr_base.specs.declared.request.Command.{Command}
 use Rattle.fr_base.specs.declared.delivery.Delivery.{Delivery}
+use Rattle.fr_base.specs.declared.delivery.Purpose.{Purpose}
 use Rattle.fr_base.specs.declared.name.Name.{Name}
-use Rattle.fr_base.specs.Sound.{IsSound}
-use Rattle.fr_base.specs.Tables.{get}
 use Rattle.fr_world.specs.Held.{Applies, Reads, Standing}
 use Rattle.fr_world.specs.declared.edit.Edit.{Edit}
 use Rattle.fr_world.specs.declared.records.Records.{Ghosts}
 use Rattle.fr_office.specs.Answers.{Acts, AfterAct, CarriesAct}
 use Rattle.fr_office.specs.Carried.{CarriesEdits, CarriesStep, Does, LeavesDone, Performs}
-use Rattle.fr_office.specs.Imports.{CarriesImport, GivesImport, WhereImported}
-use Rattle.fr_office.specs.Replacements.{CarriesReplacement, GivesReplacement, WhereReplaced}
+use Rattle.fr_office.specs.Deliveries.{CarriesDelivery, GivesDelivery}
 use Rattle.fr_office.proofs.CommandLaws.{performed}
+use Rattle.fr_office.proofs.DeliveryLaws.{after_refused}
 use Rattle.fr_office.proofs.CrashLaws.{AddsTo, act_command, may_do, may_perform, may_stay}
 use Rattle.fr_office.proofs.StepLaws.{command_acts}
 
@@ -86,26 +85,13 @@ only_read g actor valid old new r read serves acts = record {
   acts = acts;
 }
 
--- ---- an import or a replacement, by what was only read
+-- ---- a delivered file, by what was only read
 
--- what is said of some answers is said of no refusal
-on_stopped : (r : Result Answer Refusal) (e : Refusal) (P : Answer → Type 0) → r ≡ Err e → IfOk r P
-on_stopped (Ok x) e P is = cc
-on_stopped (Err f) e P is = tt
-
-module _ {R : Type 0} (g : Ghosts R) (old mid : R) (read : Reads g.clean g.params g.leaves old mid) (r : Result Answer Refusal) (e : Refusal) (is : r ≡ Err e) where
-  pub import_refused : (i : Delivery) (label : Name) → (g.clean mid → GivesImport (g.stands old) (g.stands mid) (Err e) i label) → CarriesImport g i label old mid r
-  import_refused i label gives = record {
-    falls = read.falls;
-    serves = λ now. on_stopped r e (λ answer. (c : Cluster) (b : Book) → g.stands old c b → IsSound c b → get b.imports (i.supplier, label) ≡ None → WhereImported answer (g.serves mid)) is;
-    leaves = λ now c b books stood sound known left. inl (read.leaves now c books left);
-    gives = λ now. subst (λ said. GivesImport (g.stands old) (g.stands mid) said i label) (sym is) (gives now);
-  }
-
-  pub replacement_refused : (replacement : Delivery) (whole : Bool) → (g.clean mid → GivesReplacement (g.stands old) (g.stands mid) (Err e) replacement whole) → CarriesReplacement g replacement whole old mid r
-  replacement_refused replacement whole gives = record {
-    falls = read.falls;
-    serves = λ now. on_stopped r e (λ answer. WhereReplaced answer (g.serves mid)) is;
-    leaves = λ now c b books stood sound known left. inl (read.leaves now c books left);
-    gives = λ now. subst (λ said. GivesReplacement (g.stands old) (g.stands mid) said replacement whole) (sym is) (gives now);
-  }
+pub delivery_refused : {R : Type 0} (g : Ghosts R) (old mid : R) → Reads g.clean g.params g.leaves old mid → (r : Result Answer Refusal) (e : Refusal) → r ≡ Err e → (d : Delivery) (how : Purpose Name)
+    → (g.clean mid → GivesDelivery (g.stands old) (g.stands mid) (Err e) d how) → CarriesDelivery g d how old mid r
+delivery_refused g old mid read r e is d how gives = record {
+  falls = read.falls;
+  serves = λ now. after_refused (g.stands old) d how (g.serves mid) r e is;
+  leaves = λ now c b books stood sound known left. inl (read.leaves now c books left);
+  gives = λ now. subst (λ said. GivesDelivery (g.stands old) (g.stands mid) said d how) (sym is) (gives now);
+}

@@ -1,9 +1,7 @@
 pub mod CommandLaws
 pub mod RowsLaws
 pub mod CheckedLaws
-pub mod ImportLaws
-pub mod ReplacementLaws
-pub mod TrialLaws
+pub mod DeliveryLaws
 pub mod RunLaws
 pub mod PageBack
 pub mod FreshLaws

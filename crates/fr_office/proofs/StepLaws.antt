@@ -7,7 +7,7 @@ use Rattle.fr_base.specs.Cluster.{Cluster, ClusterFile}
 use Rattle.fr_base.specs.Book.{Book, file_of}
 use Rattle.fr_base.specs.Run.{IsRun}
 use Rattle.fr_base.specs.Queries.{reply}
-use Rattle.fr_base.specs.Step.{Outcome, act, deliver, knows, outcome, perform, step}
+use Rattle.fr_base.specs.Step.{Outcome, act, knows, outcome, perform, step}
 use Rattle.fr_base.specs.declared.actor.Actor.{Actor}
 use Rattle.fr_base.specs.declared.actor.Actor.TheVariants.{Integrator, Supplier}
 use Rattle.fr_base.specs.declared.answer.Answer.{Answer}
@@ -18,8 +18,6 @@ use Rattle.fr_base.specs.declared.refusal.Refusal.TheVariants.{UnknownKey}
 use Rattle.fr_base.specs.declared.request.Ask.{Ask}
 use Rattle.fr_base.specs.declared.request.Command.{Command}
 use Rattle.fr_base.specs.declared.delivery.Delivery.{Delivery}
-use Rattle.fr_base.specs.declared.delivery.Manner.{Manner}
-use Rattle.fr_base.specs.declared.delivery.Purpose.TheVariants as purpose
 use Rattle.fr_base.specs.declared.name.Name.{Name}
 use Rattle.fr_base.specs.declared.query.Query.{Query}
 use Rattle.fr_base.specs.declared.request.Request.{Request}
@@ -31,7 +29,6 @@ use Rattle.fr_office.specs.Answers.{Acts, Answers, HasPassed, answer_of, is_know
 use Rattle.fr_office.specs.Carried.{Performs, Replies}
 use Rattle.fr_world.specs.Held.{Standing}
 use Rattle.fr_office.specs.Deliveries.{GivesDelivery}
-use Rattle.fr_office.specs.Trials.{TellsTrial}
 use Rattle.fr_office.proofs.CheckedLaws.{command-checked, command-own}
 
 -- who is in the book is in what a cluster file says of it
@@ -102,14 +99,6 @@ module _ (now : Standing) (config : ClusterFile) (same : (c : Cluster) (b : Book
     acts_so valid checks c b stood = (knows-so true is c b stood, λ after made. checked_so (Ok valid) checks c b stood ∙ ap (outcome b) made)
 
 -- ---- what is made of it
-
--- a trial
-pub trial_given : (old new : Standing) (t : Delivery) (how : Manner) (r : Result Answer Refusal) → TellsTrial t how old new r → GivesDelivery old new r t (purpose.Trial how)
-unfolding deliver
-trial_given old new t how (Ok answer) tells c b stood sound known =
-    let k = tells c b stood sound known in
-    (b, k.1, k.0)
-trial_given old new t how (Err e) tells c b stood sound known = tells c b stood sound known
 
 module _ (old new : Standing) (actor : Actor) where
   -- a command that was carried out, or was not

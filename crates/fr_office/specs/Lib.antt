@@ -2,9 +2,6 @@ pub mod Answers
 pub mod Carried
 pub mod Decided
 pub mod Headline
-pub mod Imports
-pub mod Replacements
-pub mod Trials
 pub mod Deliveries
 pub mod ImportCounts
 pub mod KeptPages

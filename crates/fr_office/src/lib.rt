@@ -6,7 +6,6 @@ mod commands;
 mod deliveries;
 mod dispatch;
 mod import_counts;
-mod imports;
 mod kept;
 mod laws;
 mod lender;
@@ -15,10 +14,8 @@ mod office;
 mod page_bytes;
 mod pages;
 mod queries;
-mod replacing;
 mod running;
 mod shelf;
-mod trials;
 mod warm;
 
 pub use dispatch::{answer, decline};

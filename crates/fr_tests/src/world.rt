@@ -5,12 +5,12 @@ ghost use Rattle.fr_world.specs.Decisions.{IsChecked};
 
 use crate::page_rows::{fits, frame, grant, name, no_rows, placement, signal, slot};
 use fr_base::{
-    Change, Channel, Channels, FrameChange, MAX_NODES, Name, Placement, Refusal, Row, RowRead,
-    Rows, Signal,
+    Change, Channel, Channels, FrameChange, Header, MAX_NODES, Name, Placement, Purpose, Refusal,
+    Row, RowRead, Rows, Signal,
 };
 use fr_world::{
-    Edit, MaskOccupancy, Occupancy, Page, PageFrame, PageRows, RowFault, RowOccupancy, TakenCell,
-    Triggerings, decide, decide_rows, frame_row, push_signal_rows, sent,
+    Edit, FileDecision, MaskOccupancy, Occupancy, Page, PageFrame, PageRows, RowFault,
+    RowOccupancy, TakenCell, Triggerings, decide, decide_file, frame_row, push_signal_rows, sent,
 };
 use std::alloc::Global;
 use std::test::Fail;
@@ -284,9 +284,12 @@ fn three_rows(
         read(3, "f2", second)?,
         read(4, "f3", third)?,
     ];
-    match decide_rows(alloc, page, &reads) {
+    let how = Purpose::Import { label: name("l1")? };
+    match decide_file(alloc, &page, Some(Header::Placements), &reads, &how) {
+        Ok(FileDecision::Acts(draft)) => Ok(Ok(draft.edits.len())),
+        Ok(FileDecision::Told(_fates)) => Err(Fail::from("no trial")),
         Err(RowFault::Unavailable) => Err(Fail::from("no memory")),
-        decided => Ok(decided.map(|draft| draft.edits.len())),
+        Err(fault) => Ok(Err(fault)),
     }
 }
 

@@ -13,7 +13,8 @@ use Rattle.fr_base.specs.declared.name.Name.{Name}
 use Rattle.fr_base.specs.declared.refusal.Refusal.{Refusal}
 use Rattle.fr_base.specs.declared.refusal.Refusal.TheVariants.{NoVariant, Released, Limit}
 use Rattle.fr_base.specs.declared.delivery.Delivery.{Delivery}
-use Rattle.fr_world.specs.ImportLimits.{import_room, new_import, page_import}
+use Rattle.fr_base.specs.declared.delivery.Purpose.TheVariants.{Import}
+use Rattle.fr_world.specs.ImportLimits.{file_room, new_import, page_import}
 use Rattle.fr_world.proofs.RowsDecide.{rows-decide}
 
 in_turn : {A : Type 0} (one two : Result ⊤ Refusal) (last : Result A Refusal) → (one >> (two >> last)) ≡ ((one >> two) >> last)
@@ -34,11 +35,11 @@ module _ (c : Cluster) (b : Book) (i : Delivery) (label : Name) (sound : IsSound
 
   found-alike : (o : Option Variant) → get b.variants i.variant ≡ o →
       ((o or NoVariant) >>= λ x. (refuse Released when x.released) >> ((refuse Limit when nat_lt MAX_IMPORT_BYTES (length i.body)) >> ((refuse Limit when nat_le MAX_IMPORTS (len (own i.supplier b.imports))) >> Ok (import_rows c.params b i label (rows_of_body c.params i.body)))))
-      ≡ ((o or NoVariant) >>= λ x. (refuse Released when x.released) >> (import_room i (len (own i.supplier b.imports)) >> Ok (page_import c.params b i label x)))
-  unfolding ◌or◌ ◌>>=◌ import_room
+      ≡ ((o or NoVariant) >>= λ x. (refuse Released when x.released) >> (file_room i (Import label) (len (own i.supplier b.imports)) >> Ok (page_import c.params b i label x)))
+  unfolding ◌or◌ ◌>>=◌ file_room
   found-alike None e = refl
   found-alike (Some x) e =
-      ap (λ r. (refuse Released when x.released) >> r) (in_turn _ _ _) ∙ released-alike (import_room i (len (own i.supplier b.imports))) x x.released e refl
+      ap (λ r. (refuse Released when x.released) >> r) (in_turn _ _ _) ∙ released-alike (file_room i (Import label) (len (own i.supplier b.imports))) x x.released e refl
 
   pub new-import-decides : import c.params b i label None ≡ new_import c.params b i label
   unfolding import new_import

@@ -57,6 +57,7 @@ pub mod TrialRows
 pub mod ReplacementsLead
 pub mod ReplacementsDecide
 pub mod TrialsDecide
+pub mod FileLaws
 pub mod RoomLaws
 pub mod RecordLaws
 pub mod PartLaws

@@ -1,6 +1,6 @@
--- Room: whether there is room for a new import. How it is decided: its variant is there and open,
+-- Room: whether there is room for a delivered file. How a new import is decided: its variant is there and open,
 -- there is room, and then its rows are decided on the supplier's page.
-use Rattle.std.specs.Prelude.{ℕ, length, nat_le, nat_lt, Result, Ok, ⊤}
+use Rattle.std.specs.Prelude.{ℕ, ◌&&◌, Bool, true, false, length, nat_le, nat_lt, Result, Ok, ⊤}
 use Rattle.fr_base.specs.Refusing.{◌>>=◌, ◌>>◌, ◌or◌, refuse◌when◌}
 use Rattle.fr_base.specs.Tables.{get, len}
 use Rattle.fr_base.specs.Book.{Variant, Book, own}
@@ -12,15 +12,21 @@ use Rattle.fr_base.specs.declared.params.Params.{Params}
 use Rattle.fr_base.specs.declared.refusal.Refusal.{Refusal}
 use Rattle.fr_base.specs.declared.refusal.Refusal.TheVariants.{NoVariant, Released, Limit}
 use Rattle.fr_base.specs.declared.delivery.Delivery.{Delivery}
+use Rattle.fr_base.specs.declared.delivery.Purpose.{Purpose}
+use Rattle.fr_base.specs.declared.delivery.Purpose.TheVariants.{Import}
 use Rattle.fr_world.specs.BookEdits.{all_applied}
 use Rattle.fr_world.specs.Pages.{page_in}
 use Rattle.fr_world.specs.RowDecisions.{rows_decision}
 
--- whether there is room for the import, where its supplier keeps so many
-unfoldable pub import_room : Delivery → ℕ → Result ⊤ Refusal
-import_room d kept = do
+abbrev pub is_import : {N : Type 0} → Purpose N → Bool
+is_import (Import label) = true
+is_import _ = false
+
+-- whether there is room for the file, where its supplier keeps so many imports; these limit a new import alone
+unfoldable pub file_room : Delivery → Purpose Name → ℕ → Result ⊤ Refusal
+file_room d how kept = do
   refuse Limit when nat_lt MAX_IMPORT_BYTES (length d.body)
-  refuse Limit when nat_le MAX_IMPORTS kept
+  refuse Limit when is_import how && nat_le MAX_IMPORTS kept
 
 -- the decision on the import in this variant, by the decision on its rows on the supplier's page
 abbrev pub page_import : Params → Book → Delivery → Name → Variant → Outcome
@@ -34,5 +40,5 @@ unfoldable pub new_import : Params → Book → Delivery → Name → Result Out
 new_import p b d label = do
   x ← get b.variants d.variant or NoVariant
   refuse Released when x.released
-  import_room d (len (own d.supplier b.imports))
+  file_room d (Import label) (len (own d.supplier b.imports))
   Ok (page_import p b d label x)

@@ -14,6 +14,7 @@ pub mod ReplacementDecisions
 pub mod Trials
 pub mod Drafts
 pub mod RowFaults
+pub mod FileDecisions
 pub mod BookEdits
 pub mod Fits
 pub mod FirstPlaces

@@ -7,6 +7,7 @@ ghost use Rattle.fr_world.specs.Pages.{own_rows_of};
 
 mod clearing;
 mod draft;
+mod file;
 mod frames;
 mod freeing;
 mod grants;
@@ -22,10 +23,9 @@ use crate::edit::Edit;
 use crate::page::Page;
 pub use draft::Draft;
 use fr_base::{Change, FrameChange, Refusal, RowsChange};
-pub use import_rows::{RowFault, decide_rows};
-pub use replacement::decide_replacement;
+pub use file::{FileDecision, decide_file};
+pub use import_rows::RowFault;
 use std::alloc::Global;
-pub use trial::try_rows;
 
 /// The edits that a change of the page's rows makes, or the first refusal that applies. `Released`
 /// comes before all others. Then come

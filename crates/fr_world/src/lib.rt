@@ -9,12 +9,12 @@ mod decision;
 mod differences;
 mod edit;
 mod file_records;
+mod file_room;
 mod filled_cycles;
 mod frame_rows;
 mod gap;
 mod grants;
 mod import_label;
-mod import_room;
 mod kept_import;
 mod keyed_rows;
 mod lanes;
@@ -36,14 +36,14 @@ mod suppliers;
 mod triggerings;
 mod variants;
 
-pub use decision::{Draft, RowFault, decide, decide_replacement, decide_rows, try_rows};
+pub use decision::{Draft, FileDecision, RowFault, decide, decide_file};
 pub use differences::{KeyedRow, push_differences};
 pub use edit::Edit;
 pub use file_records::FileRecord;
+pub use file_room::admit_file;
 pub use frame_rows::{frame_row, gap_row, push_signal_rows};
 pub use gap::greatest_gap;
 pub use import_label::decide_label;
-pub use import_room::admit_import;
 pub use kept_import::KeptImport;
 pub use laws::{
     all_rows_are_checked, common_decides, common_fits, decision_fits, decision_leads, edits_agree,

@@ -12,7 +12,7 @@ use crate::page::Page;
 use fr_base::{Refusal, RowRead};
 use std::alloc::Global;
 
-/// Why the rows of an import were not carried out.
+/// Why the rows of a file were not carried out.
 #[derive(Clone, Copy, Debug, PartialEq, Eq)]
 pub enum RowFault {
     /// A row was refused.
@@ -38,7 +38,7 @@ pub enum RowFault {
 /// The page's variant has to be open, and the rows have to be read under its parameters. Where a
 /// row is refused the page is given up, so a caller who wants to keep it gives a copy. The label
 /// and the limits of imports are not looked at, and none of the edits keeps the import.
-pub fn decide_rows(alloc: Global, page: Page, rows: &[RowRead]) -> Result<Draft, RowFault>
+pub(super) fn decide_rows(alloc: Global, page: Page, rows: &[RowRead]) -> Result<Draft, RowFault>
     requires open { page.released ≡ false }
     requires checked { AreChecked page.params rows.now }
     ensures edits { IfOk result (λ draft. rows_decision page rows.now ≡ Ok draft.edits.items) }

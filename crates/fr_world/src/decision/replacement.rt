@@ -30,7 +30,7 @@ use std::alloc::Global;
 /// The edits are those between the page and what becomes of it, so a row that stays is in none of
 /// them, and where all stay there are none. The page's variant is open, and the rows were read under
 /// its parameters.
-pub fn decide_replacement(
+pub(super) fn decide_replacement(
     alloc: Global,
     page: &Page,
     whole: Option<Header>,

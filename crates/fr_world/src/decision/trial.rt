@@ -1,6 +1,5 @@
 //! What would become of each row of a file, on the supplier's page.
 ghost use Rattle.std.specs.Prelude.{◌≡◌, ◌⊎◌, Ok, Err, IfOk, IfErr, MatchResult, None, OnOk};
-ghost use Rattle.fr_base.specs.ImportRows.{up_to_refused};
 ghost use Rattle.fr_base.specs.Sound.{FitsCluster};
 ghost use Rattle.fr_base.specs.Tables.{get};
 ghost use Rattle.fr_base.specs.declared.import.Row.TheVariants as row;
@@ -11,6 +10,7 @@ ghost use Rattle.fr_world.specs.RowDecisions.{AreChecked, IsCheckedRow, draft_of
 ghost use Rattle.fr_world.specs.Trials.{IsMade, read_fate, trial, tried, try_row};
 
 use super::draft::Draft;
+use super::file::readable;
 use super::replacement::begin;
 use super::rows::frame_named;
 use crate::page::Page;
@@ -24,7 +24,7 @@ use std::alloc::Global;
 /// `Unavailable` where memory is refused.
 ///
 /// The page is given up. The rows were read under its parameters, below the header.
-pub fn try_rows(
+pub(super) fn try_rows(
     alloc: Global,
     page: Page,
     header: Option<Header>,
@@ -63,18 +63,6 @@ fn first_draft(
             begin(alloc, page, kind, readable(rows))
         }
     }
-}
-
-// The rows up to the first one that its own text refuses.
-fn readable(rows: &[RowRead]) -> &[RowRead]
-    ensures { result.now ≡ up_to_refused rows.now }
-{
-    for (place, read) in rows.iter().enumerate() {
-        if read.row.is_err() {
-            return &rows[..place + 1];
-        }
-    }
-    rows
 }
 
 // The fate of the row as it was read. The draft is the one that the row leaves.

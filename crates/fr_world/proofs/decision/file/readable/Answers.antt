@@ -1,7 +1,7 @@
 use Rattle.std.proofs.Common.{◌≡◌, ◌∙◌, ap, is_err, rules, arith, true, false}
 use Rattle.fr_base.specs.ImportRows.{up_to_refused}
 use Rattle.fr_world.proofs.TrialRows.{readable-end, readable-last, readable-next}
-use Rattle.fr_world.proofs.decision.trial.readable.Goals as goal
+use Rattle.fr_world.proofs.decision.file.readable.Goals as goal
 
 pub loop-place-preserved : goal.loop-place-preserved
 loop-place-preserved c =

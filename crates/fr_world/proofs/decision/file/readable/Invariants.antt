@@ -1,6 +1,6 @@
 use Rattle.std.proofs.Common.{◌≡◌, ◌++◌, drop, take}
 use Rattle.fr_base.specs.ImportRows.{up_to_refused}
-use Rattle.fr_world.proofs.decision.trial.readable.Given as goal
+use Rattle.fr_world.proofs.decision.file.readable.Given as goal
 
 -- No row so far is refused by its own text.
 abbrev pub invariant-loop-place : goal.invariant-loop-place
