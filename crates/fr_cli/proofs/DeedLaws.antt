@@ -10,6 +10,7 @@ use Rattle.sqlite_disk.specs.declared.Disk.{Ghosts}
 use Rattle.sqlite_wal.specs.Recovery.{Image}
 use Rattle.fr_base.specs.Book.{Book, opening}
 use Rattle.fr_base.specs.Cluster.{Cluster, ClusterFile}
+use Rattle.fr_base.specs.Desks.{InSound}
 use Rattle.fr_base.specs.Sound.{IsSound}
 use Rattle.fr_base.specs.declared.actor.Actor.{Actor}
 use Rattle.fr_base.specs.declared.answer.Answer.{Answer}
@@ -20,7 +21,6 @@ use Rattle.fr_base.proofs.SoundLaws.{opening-sound}
 use Rattle.fr_store.specs.StoreFiles.{HoldsBook}
 use Rattle.fr_desks.specs.FileDesk.{Held, IsLeftWith}
 use Rattle.fr_desks.specs.Sessions.{Session}
-use Rattle.fr_http.specs.Connection.{InSound}
 use Rattle.fr_picture.specs.Pages.{IsPage}
 use Rattle.fr_picture.specs.Plans.{since_of}
 use Rattle.fr_picture.specs.declared.plan.Plan.{Plan}

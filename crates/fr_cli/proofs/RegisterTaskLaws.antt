@@ -6,9 +6,9 @@ use Rattle.sqlite_disk.specs.declared.Disk.{Ghosts}
 use Rattle.sqlite_wal.specs.Recovery.{Image}
 use Rattle.fr_base.specs.Book.{Book}
 use Rattle.fr_base.specs.Cluster.{Cluster}
+use Rattle.fr_base.specs.Desks.{InSound}
 use Rattle.fr_base.specs.declared.desk.Desk as Desk
 use Rattle.fr_desks.specs.FileDesk.{FindsHeld, FindsRegister, Held, IsLeftWith}
-use Rattle.fr_http.specs.Connection.{InSound}
 use Rattle.fr_world.specs.Held.{Standing}
 use Rattle.fr_cli.specs.Faults.{IsNotOpened}
 use Rattle.fr_cli.specs.Opened.{IsOver}

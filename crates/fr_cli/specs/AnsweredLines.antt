@@ -5,6 +5,7 @@ use Rattle.std.specs.Prelude.{◌≡◌, ◌⊎◌, ℕ, Bool, List, [], ◌∷�
 use Rattle.std.specs.Io.KnownBytes.{Appends}
 use Rattle.fr_base.specs.Book.{Book}
 use Rattle.fr_base.specs.Cluster.{Cluster}
+use Rattle.fr_base.specs.Desks.{InSound}
 use Rattle.fr_base.specs.Sound.{IsSound}
 use Rattle.fr_base.specs.declared.answer.Answer.{Answer}
 use Rattle.fr_base.specs.declared.desk.Desk as Desk
@@ -19,7 +20,6 @@ use Rattle.fr_cli.specs.ScriptRun.{AreAnswered, Replied}
 use Rattle.fr_cli.specs.Visits.{SinkGhosts}
 use Rattle.fr_cli.specs.declared.script_fault.ScriptFault.{ScriptFault}
 use Rattle.fr_cli.specs.declared.script_fault.ScriptFault.TheVariants.{NoMemory, WriteFailed}
-use Rattle.fr_http.specs.Connection.{InSound}
 use Rattle.fr_text.specs.declared.output.Output.{Output}
 use Rattle.fr_world.specs.Held.{Standing}
 

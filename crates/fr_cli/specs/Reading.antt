@@ -4,10 +4,10 @@ use Rattle.std.specs.Prelude.{◌≡◌, ℕ, List, Result, Ok, Err}
 use Rattle.std.specs.Global.{Vec}
 use Rattle.fr_base.specs.Book.{Book}
 use Rattle.fr_base.specs.Cluster.{Cluster}
+use Rattle.fr_base.specs.Desks.{InSound}
 use Rattle.fr_base.specs.declared.answer.Answer.TheVariants as answer
 use Rattle.fr_base.specs.declared.refusal.Refusal.{Refusal}
 use Rattle.fr_world.specs.Held.{Standing}
-use Rattle.fr_http.specs.Connection.{InSound}
 use Rattle.fr_cli.specs.SingleRequest.{for_reader}
 use Rattle.fr_cli.specs.Outcomes.{line_of}
 use Rattle.fr_cli.specs.declared.failure.Failure.{Failure}

@@ -5,6 +5,7 @@ use Rattle.std.specs.Global.{Vec}
 use Rattle.fr_base.specs.Actors.{actor_of}
 use Rattle.fr_base.specs.Book.{Book}
 use Rattle.fr_base.specs.Cluster.{Cluster}
+use Rattle.fr_base.specs.Desks.{InSound}
 use Rattle.fr_base.specs.declared.answer.Answer.{Answer}
 use Rattle.fr_base.specs.declared.answer.Answer.TheVariants.{Refused}
 use Rattle.fr_base.specs.declared.refusal.Refusal.{Refusal}
@@ -12,7 +13,6 @@ use Rattle.fr_base.specs.declared.refusal.Refusal.TheVariants.{NoSupplier, Unkno
 use Rattle.fr_base.specs.declared.request.Ask.{Ask}
 use Rattle.fr_base.specs.declared.request.Request.{Request}
 use Rattle.fr_world.specs.Held.{Standing}
-use Rattle.fr_http.specs.Connection.{InSound}
 use Rattle.fr_cli.specs.Asked.{asked_by}
 use Rattle.fr_cli.specs.Outcomes.{line_of, outcome_of, printed_of}
 use Rattle.fr_cli.specs.Queries.{reader_of, request_for}

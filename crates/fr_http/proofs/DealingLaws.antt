@@ -3,6 +3,7 @@ use Rattle.std.proofs.Common.{◌≡◌, ℕ, List, [], ◌∷◌, Option, Resul
 use Rattle.std.specs.Global.{Vec}
 use Rattle.fr_base.specs.Book.{Book}
 use Rattle.fr_base.specs.Cluster.{Cluster}
+use Rattle.fr_base.specs.Desks.{Standing}
 use Rattle.fr_base.specs.Run.{IsRun}
 use Rattle.fr_base.specs.Sound.{IsSound}
 use Rattle.fr_base.specs.declared.actor.Actor.{Actor}
@@ -13,7 +14,7 @@ use Rattle.fr_base.specs.declared.refusal.Refusal.TheVariants.{Unavailable}
 use Rattle.fr_base.specs.declared.request.Ask.{Ask}
 use Rattle.fr_picture.specs.Pages.{IsPage}
 use Rattle.fr_picture.specs.Plans.{IsPicture, MayRefusePicture}
-use Rattle.fr_picture.specs.Reports.{Reads, Standing}
+use Rattle.fr_picture.specs.Reports.{Reads}
 use Rattle.fr_picture.specs.declared.plan.Plan.{Plan}
 use Rattle.fr_http.specs.Connection.{HasDealt, HasDrawn}
 use Rattle.fr_guide.specs.declared.advice.Subject.{Subject}

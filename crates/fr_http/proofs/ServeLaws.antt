@@ -6,19 +6,19 @@ use Rattle.httparse.specs.Grammar.{RequestHead}
 use Rattle.fr_base.specs.Actors.{actor_of}
 use Rattle.fr_base.specs.Book.{Book}
 use Rattle.fr_base.specs.Cluster.{Cluster}
+use Rattle.fr_base.specs.Desks.{InSound, Standing}
 use Rattle.fr_base.specs.Refusing.{◌>>=◌, ◌>>◌, ◌or◌}
 use Rattle.fr_base.specs.Sound.{IsSound}
 use Rattle.fr_base.specs.declared.actor.Actor.{Actor}
 use Rattle.fr_base.specs.declared.refusal.Refusal.TheVariants.{BadText, UnknownKey}
 use Rattle.fr_base.specs.declared.request.Request.{Request}
-use Rattle.fr_picture.specs.Reports.{Standing}
 use Rattle.fr_http.specs.Operations.{FindsActor, MakesOperation}
 use Rattle.std.specs.Prelude.{IfOk}
 use Rattle.fr_http.specs.Reply.{Reply, print}
 use Rattle.fr_http.specs.Replying.{IsReply}
 use Rattle.fr_http.specs.declared.reply.ReplyText.{ReplyText}
 use Rattle.fr_http.specs.declared.serve.Served.{Served}
-use Rattle.fr_http.specs.Connection.{AppendsFront, HasAnswered, HasDealt, HasReplied, HasTaken, IsConnection, InSound, ReadsNoMore, Sends, Takes}
+use Rattle.fr_http.specs.Connection.{AppendsFront, HasAnswered, HasDealt, HasReplied, HasTaken, IsConnection, ReadsNoMore, Sends, Takes}
 use Rattle.fr_http.specs.Exchanges.{Deals, Dealing, IsAnswered, IsBrokenOff, IsExchange, IsFront, IsInterim, IsTold, IsExplanation, IsReplyWithout, IsUnasked, is_asked}
 use Rattle.fr_http.specs.Head.{BeginsWith, HeadData, key_of, max_head, said}
 use Rattle.fr_http.specs.Outcome.{IsOutcome, Wanted, asked_before, asked_by, continue_if, continue_reply, due, front, holder, interim, is_ask, outcome_of, plan_of}

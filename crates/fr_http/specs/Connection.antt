@@ -7,12 +7,10 @@ use Rattle.std.specs.declared.io.Error.{Error}
 use Rattle.httparse.specs.Grammar.{RequestHead}
 use Rattle.fr_base.specs.Actors.{actor_of}
 use Rattle.fr_base.specs.Book.{Book}
-use Rattle.fr_base.specs.Cluster.{Cluster}
-use Rattle.fr_base.specs.Sound.{IsSound}
+use Rattle.fr_base.specs.Desks.{InSound, Standing}
 use Rattle.fr_base.specs.declared.actor.Actor.{Actor}
 use Rattle.fr_base.specs.declared.refusal.Refusal.{Refusal}
 use Rattle.fr_picture.specs.Pages.{IsPage}
-use Rattle.fr_picture.specs.Reports.{Standing}
 use Rattle.fr_picture.specs.declared.plan.Plan.{Plan as Picture}
 use Rattle.fr_http.specs.Exchanges.{Deals, Dealing, IsExchange, IsFront, IsInterim, IsInterimFront, IsReplyTo, MayDraw, asked_in}
 use Rattle.fr_http.specs.Head.{BeginsWith, HeadData, max_head, said}
@@ -32,10 +30,6 @@ use Rattle.fr_http.specs.declared.serve.Served.{Served}
 abbrev pub is_silent : LinkFault → Bool
 is_silent (WriteFailed _) = false
 is_silent _ = true
-
--- in each sound book for which the register stood
-abbrev pub InSound : Standing → (Cluster → Book → Type 0) → Type 0
-InSound old P = (c : Cluster) (b : Book) → old c b → IsSound c b → P c b
 
 -- No more was read than a head may have; or, where a head came, no more than it and the body that
 -- is read for it.

@@ -3,13 +3,13 @@ use Rattle.std.specs.Prelude.{ℕ, ◌≡◌, ◌⊎◌, false, List, Option, No
 use Rattle.fr_base.specs.Actors.{actor_of}
 use Rattle.fr_base.specs.Book.{Book}
 use Rattle.fr_base.specs.Cluster.{Cluster}
+use Rattle.fr_base.specs.Desks.{Standing}
 use Rattle.fr_base.specs.Sound.{IsSound}
 use Rattle.fr_base.specs.declared.actor.Actor.{Actor}
 use Rattle.fr_base.specs.declared.refusal.Refusal.{Refusal}
 use Rattle.fr_base.specs.declared.refusal.Refusal.TheVariants.{BadText, Unavailable}
 use Rattle.fr_base.specs.declared.request.Request.{Request}
 use Rattle.fr_text.specs.RequestText.{request_of}
-use Rattle.fr_picture.specs.Reports.{Standing}
 use Rattle.fr_http.specs.Head.{HeadData, key_of}
 use Rattle.fr_http.specs.Outcome.{holder}
 use Rattle.fr_http.specs.Routes.{number_in, operation_by, part}

@@ -2,7 +2,7 @@
 //! reports say, or advice is given on a text.
 ghost use Rattle.std.specs.Prelude.{◌≡◌, false};
 ghost use Rattle.fr_picture.specs.Plans.{since_of};
-ghost use Rattle.fr_picture.specs.Reports.{AsksDesk};
+ghost use Rattle.fr_base.specs.Desks.{AsksDesk};
 ghost use Rattle.fr_http.specs.Connection.{GivesReply, HasDrawn};
 ghost use Rattle.fr_http.specs.Outcome.{is_ask};
 

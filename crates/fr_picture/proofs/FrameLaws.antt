@@ -5,6 +5,7 @@ use Rattle.std.specs.Prelude.{IsPermutation, Vec}
 use Rattle.std.specs.declared.alloc.Global.{Global}
 use Rattle.fr_base.specs.Book.{Book}
 use Rattle.fr_base.specs.Cluster.{Cluster}
+use Rattle.fr_base.specs.Desks.{Standing}
 use Rattle.fr_base.specs.Sound.{IsSound}
 use Rattle.fr_base.specs.declared.actor.Actor.{Actor}
 use Rattle.fr_base.specs.declared.actor.Actor.TheVariants.{Supplier}
@@ -20,7 +21,7 @@ use Rattle.fr_picture.specs.Strips.{HasItsBits}
 use Rattle.fr_picture.specs.declared.frame_table.DrawnFrame.{DrawnFrame}
 use Rattle.fr_picture.specs.declared.signals.DrawnSignal.{DrawnSignal}
 use Rattle.fr_picture.specs.Frames.{AreDrawn, AreDrawnOf, AreFrames, AreSignals, IsDrawn, IsOfPlan, MayRefusePlan}
-use Rattle.fr_picture.specs.Reports.{MayRefuse, Reads, Reports, Standing, answer_to, asks, with_frames, with_gaps, with_signals}
+use Rattle.fr_picture.specs.Reports.{MayRefuse, Reads, Reports, answer_to, asks, with_frames, with_gaps, with_signals}
 
 module _ (c : Cluster) (b : Book) (variant : List ℕ) (row : FrameRow) (gap : GapRow) (frame : DrawnFrame) (is : IsDrawn c b variant row gap.gap frame) where
   -- one frame more

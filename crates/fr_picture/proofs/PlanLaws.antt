@@ -6,6 +6,7 @@ use Rattle.std.specs.Prelude.{Contains, Vec}
 use Rattle.std.specs.declared.alloc.Global.{Global}
 use Rattle.fr_base.specs.Book.{Book, file_of}
 use Rattle.fr_base.specs.Cluster.{Cluster, ClusterFile}
+use Rattle.fr_base.specs.Desks.{Standing}
 use Rattle.fr_base.specs.Sound.{IsSound}
 use Rattle.fr_base.specs.declared.actor.Actor.{Actor}
 use Rattle.fr_base.specs.declared.answer.Answer.{Answer}
@@ -25,7 +26,7 @@ use Rattle.fr_picture.specs.declared.plan.Plan.{Plan}
 use Rattle.fr_picture.proofs.FrameLaws.{refuses_plan}
 use Rattle.fr_picture.specs.Frames.{AreFrames, IsOfPlan, MayRefusePlan}
 use Rattle.fr_picture.specs.Plans.{AreChanges, IsListed, IsPicture, IsPlan, MayRefusePicture, since_of, supplier_of, suppliers_seen}
-use Rattle.fr_picture.specs.Reports.{Reads, Reports, Standing, asks, asks_difference, asks_variants, with_cells, with_difference, with_grants, with_variants}
+use Rattle.fr_picture.specs.Reports.{Reads, Reports, asks, asks_difference, asks_variants, with_cells, with_difference, with_grants, with_variants}
 
 -- ---- the row
 

@@ -4,6 +4,7 @@ use Rattle.std.specs.Prelude.{List, ℕ, ⊤}
 use Rattle.fr_base.specs.Book.{Book}
 use Rattle.fr_base.specs.Checks.{check, query}
 use Rattle.fr_base.specs.Cluster.{Cluster}
+use Rattle.fr_base.specs.Desks.{Standing}
 use Rattle.fr_base.specs.Queries.{reply, rows_in}
 use Rattle.fr_base.specs.Sound.{IsSound}
 use Rattle.fr_base.specs.Step.{Outcome, act, knows, outcome, step}
@@ -21,7 +22,7 @@ use Rattle.fr_base.specs.declared.query.Query.{Query}
 use Rattle.fr_base.specs.declared.report.Report.{Report}
 use Rattle.fr_base.specs.declared.request.Request.TheVariants as request
 use Rattle.fr_base.proofs.SoundRefusing.{gives_each, gives_unless, gives_when}
-use Rattle.fr_picture.specs.Reports.{Answered, MayRefuse, Reports, Standing, answer_to, asks, asks_difference}
+use Rattle.fr_picture.specs.Reports.{Answered, MayRefuse, Reports, answer_to, asks, asks_difference}
 
 -- ---- the book stays
 

@@ -1,9 +1,10 @@
--- Reports: what a call on a register comes to, in a record. The answer to a request for a report.
+-- Reports: the answer to a request for a report.
 -- The rows that were read are those of the answer; or why they may be refused. The register stands
 -- for the same book as before.
 use Rattle.std.specs.Prelude.{◌≡◌, ◌⊎◌, ℕ, Bool, List, [], ◌∷◌, Result, MatchResult}
 use Rattle.fr_base.specs.Book.{Book}
 use Rattle.fr_base.specs.Cluster.{Cluster}
+use Rattle.fr_base.specs.Desks.{Standing}
 use Rattle.fr_base.specs.Run.{IsRun}
 use Rattle.fr_base.specs.Sound.{IsSound}
 use Rattle.fr_base.specs.Step.{step}
@@ -18,7 +19,6 @@ use Rattle.fr_base.specs.declared.answer.Sending.{Sending}
 use Rattle.fr_base.specs.declared.answer.GapRow.{GapRow}
 use Rattle.fr_base.specs.declared.answer.SignalRow.{SignalRow}
 use Rattle.fr_base.specs.declared.answer.VariantRow.{VariantRow}
-use Rattle.fr_base.specs.declared.desk.Desk as Desk
 use Rattle.fr_base.specs.declared.query.Inventory.TheVariants.{Variants}
 use Rattle.fr_base.specs.declared.query.Query.TheVariants.{Register, Variant, Difference}
 use Rattle.fr_base.specs.declared.refusal.Refusal.{Refusal}
@@ -26,16 +26,6 @@ use Rattle.fr_base.specs.declared.refusal.Refusal.TheVariants.{Unavailable}
 use Rattle.fr_base.specs.declared.report.Report.{Report}
 use Rattle.fr_base.specs.declared.request.Request.{Request}
 use Rattle.fr_base.specs.declared.request.Request.TheVariants.{Query}
-
--- the books for which a register stands, each in a cluster
-abbrev pub Standing : Type 1
-Standing = Cluster → Book → Type 0
-
--- A call asks a register. This is so of whether it is clean now, of what it stood for, of what it stands for, and of what the call
--- gives. It was clean before if it is now.
-pub record AsksDesk {D X : Type 0} (desk : Desk.Ghosts D) (Does : Type 0 → Standing → Standing → X → Type 0) (old new : D) (given : X) : Type 0 where
-  pub does : Does (desk.clean new) (desk.stands old) (desk.stands new) given
-  pub falls : desk.clean new → desk.clean old
 
 -- the answer to a request
 abbrev pub answer_to : Cluster → Book → Actor → Request → Answer

@@ -1,10 +1,11 @@
 //! The frames of a plan, with their gaps and signals.
 ghost use Rattle.std.specs.List.{All, slice_get};
 ghost use Rattle.std.specs.Prelude.{◌≡◌, map, IfOk};
+ghost use Rattle.fr_base.specs.Desks.{AsksDesk};
 ghost use Rattle.fr_base.specs.declared.refusal.Refusal.TheVariants.{Unavailable};
 ghost use Rattle.fr_picture.specs.Strips.{HasItsBits};
 ghost use Rattle.fr_picture.specs.Frames.{AreDrawn, AreDrawnOf, AreFrames, AreSignals, IsDrawn, MayRefusePlan};
-ghost use Rattle.fr_picture.specs.Reports.{AsksDesk, GivesRead};
+ghost use Rattle.fr_picture.specs.Reports.{GivesRead};
 
 use crate::frame_table::{DrawnFrame, worst_first};
 use crate::reports::{View, copy, frame_rows, gaps, signal_rows};

@@ -3,7 +3,8 @@
 ghost use Rattle.std.specs.Prelude.{◌≡◌, [], ◌∷◌, IfOk, IfSome, Contains, Some, map};
 ghost use Rattle.fr_picture.specs.Frames.{MayRefusePlan};
 ghost use Rattle.fr_picture.specs.Plans.{AreChanges, IsListed, IsPicture, IsPlan, MayRefusePicture, since_of, supplier_of, suppliers_seen};
-ghost use Rattle.fr_picture.specs.Reports.{AsksDesk, GivesRead, Reads};
+ghost use Rattle.fr_base.specs.Desks.{AsksDesk};
+ghost use Rattle.fr_picture.specs.Reports.{GivesRead, Reads};
 
 use crate::changes::Changes;
 use crate::drawn_frames::frames;

@@ -1,10 +1,11 @@
 //! The rows of each report, asked of a desk.
 ghost use Rattle.std.specs.Prelude.{◌≡◌, IfOk};
+ghost use Rattle.fr_base.specs.Desks.{AsksDesk};
 ghost use Rattle.fr_base.specs.declared.answer.Answer.TheVariants.{Report as Told};
 ghost use Rattle.fr_base.specs.declared.report.Report.TheVariants.{Grants, Frames, Schedule, Gaps, Layout};
 ghost use Rattle.fr_base.specs.declared.actor.Actor.TheVariants.{Supplier};
 ghost use Rattle.fr_base.specs.declared.request.Request.TheVariants.{Query as Queries};
-ghost use Rattle.fr_picture.specs.Reports.{AsksDesk, GivesRows, asks, asks_difference, asks_variants, with_cells, with_difference, with_frames, with_gaps, with_grants, with_signals, with_variants};
+ghost use Rattle.fr_picture.specs.Reports.{GivesRows, asks, asks_difference, asks_variants, with_cells, with_difference, with_frames, with_gaps, with_grants, with_signals, with_variants};
 
 use fr_base::{
     Actor, Ask, Desk, DifferenceRow, FrameRow, GapRow, GrantRow, Inventory, Name, NoMemory, Query,

@@ -1,8 +1,7 @@
 //! Answers lines of requests by a desk, one after another.
 ghost use Rattle.std.specs.Prelude.{◌≡◌, ◌<◌, ◌^◌, IfErr};
 ghost use Rattle.fr_base.specs.Actors.{actor_of};
-ghost use Rattle.fr_http.specs.Connection.{InSound};
-ghost use Rattle.fr_picture.specs.Reports.{AsksDesk};
+ghost use Rattle.fr_base.specs.Desks.{AsksDesk, InSound};
 ghost use Rattle.fr_cli.specs.AnsweredLines.{GivesAnswer, HasWritten, Reads};
 
 use crate::script_fault::ScriptFault;

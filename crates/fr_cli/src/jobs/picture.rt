@@ -2,7 +2,7 @@
 ghost use Rattle.std.specs.Prelude.{◌≡◌};
 ghost use Rattle.fr_picture.specs.Pages.{IsPage};
 ghost use Rattle.fr_picture.specs.Plans.{since_of};
-ghost use Rattle.fr_picture.specs.Reports.{AsksDesk};
+ghost use Rattle.fr_base.specs.Desks.{AsksDesk};
 ghost use Rattle.fr_cli.specs.Picturing.{plans_for};
 ghost use Rattle.fr_cli.specs.Queries.{reader_named};
 ghost use Rattle.fr_cli.specs.Reading.{IsRead, PrintsRead, Stays};

@@ -1,6 +1,6 @@
 //! Asks a register for a report, a change or a trial, and gives the text of its answer.
 ghost use Rattle.std.specs.Prelude.{◌≡◌, IfOk};
-ghost use Rattle.fr_picture.specs.Reports.{AsksDesk};
+ghost use Rattle.fr_base.specs.Desks.{AsksDesk};
 ghost use Rattle.fr_cli.specs.Asked.{asked_by};
 ghost use Rattle.fr_cli.specs.Reading.{Stays};
 ghost use Rattle.fr_cli.specs.SingleRequest.{IsAnswer, IsForReader, IsRefusedBy, IsToldBy, Leads, Prints, asked_with, for_reader, query_of};
