@@ -1,5 +1,5 @@
 -- A change of one table's rows is a change of the tables.
-use Rattle.std.proofs.Common.{◌≡◌, ◌≢◌, ◌==◌, ◌<◌, ◌≤◌, lit≤, inl, inr, ℕ, Bool, true, false, List, [], ◌∷◌, map, MatchBool, arith, refl, sym, ap, subst, ◌∙◌, if◌then◌else◌}
+use Rattle.std.proofs.Common.{◌≡◌, ◌≢◌, ◌==◌, ◌<◌, ◌≤◌, inl, inr, ℕ, Bool, true, false, List, [], ◌∷◌, map, MatchBool, arith, refl, sym, ap, subst, ◌∙◌, if◌then◌else◌}
 use Rattle.std.specs.Bool.{⊤}
 use Rattle.std.specs.List.{AllByRecursion}
 use Rattle.std.proofs.lemmas.Bool.{cases_Bool}
@@ -10,7 +10,7 @@ use Rattle.sqlite.specs.Tree.{Trees}
 use Rattle.sqlite.specs.State.{State, Shows}
 use Rattle.sqlite_catalog.specs.Listing.{IsSound}
 use Rattle.fr_tables.specs.Schema.{Layout, IsBehind, register_schema, layout_of}
-use Rattle.fr_tables.specs.Rows.{RegisterRow, ClusterRow, SupplierRow, NodeRow, VariantRow, GrantRow, FrameRow, PlacementRow, SignalRow, ImportRow, DroppedRow, Cluster2Row, of_register, of_cluster, of_supplier, of_node, of_variant, of_grant, of_frame, of_placement, of_signal, of_import, of_dropped, of_cluster2, register_in, cluster_in, supplier_in, node_in, variant_in, grant_in, frame_in, placement_in, signal_in, import_in, dropped_in, cluster2_in}
+use Rattle.fr_tables.specs.Rows.{of_register, of_cluster, of_supplier, of_node, of_variant, of_grant, of_frame, of_placement, of_signal, of_import, of_dropped, of_cluster2, register_in, cluster_in, supplier_in, node_in, variant_in, grant_in, frame_in, placement_in, signal_in, import_in, dropped_in, cluster2_in}
 use Rattle.fr_tables.specs.Tables.{Tables, HasTables, AreKept, tables_in}
 use Rattle.fr_tables.specs.Changes.{Changes, tables_of}
 use Rattle.fr_tables.proofs.Written.{IsStill, WritesTo, AreMade}
@@ -33,16 +33,16 @@ others tree db next (t ∷ ts) h = (
 pub apart : (tree at : ℕ) → 20 < tree → at ≤ 20 → (tree == at) ≡ false
 apart tree at after low = grind (arith, nat_tests)
 
-apart_back : (tree at : ℕ) → 20 < tree → at ≤ 20 → (at == tree) ≡ false
+pub apart_back : (tree at : ℕ) → 20 < tree → at ≤ 20 → (at == tree) ≡ false
 apart_back tree at after low = grind (arith, nat_tests)
 
-itself : (tree : ℕ) → (tree == tree) ≡ true
+pub itself : (tree : ℕ) → (tree == tree) ≡ true
 itself tree = grind (arith, nat_tests)
 
-unlike : {b : Bool} {Q : Type 0} (P : Type 0) → b ≡ false → Q → MatchBool b P Q
+pub unlike : {b : Bool} {Q : Type 0} (P : Type 0) → b ≡ false → Q → MatchBool b P Q
 unlike P is q = rw is q
 
-alike : {b : Bool} {P : Type 0} (Q : Type 0) → b ≡ true → P → MatchBool b P Q
+pub alike : {b : Bool} {P : Type 0} (Q : Type 0) → b ≡ true → P → MatchBool b P Q
 alike Q is p = rw is p
 
 -- the tables, where it is known where `cluster2` stands
@@ -137,9 +137,10 @@ module _ (old new : State) where
 
   module _ (was : HasTables old.now) where
     -- a change of the rows in one tree is a change of the tables
-    pub written : (tree : ℕ) → WritesTo (register_schema stood) tree old new → (after : Tables) → BecomeAll tree after → (change : Tables → Tables) → after ≡ change (tables_of old) → Changes change old new
-    written tree w after b =
+    pub written : (tree : ℕ) → WritesTo (register_schema stood) tree old new → (change : Tables → Tables) → BecomeAll tree (change (tables_of old)) → Changes change old new
+    written tree w change b =
         let k = w.others in
+        let after = change (tables_of old) in
         whole after was w.still w.shown
         (becomes tree 0 of_register register_in after.register b.register k.0 was.register)
         (becomes tree 1 of_cluster cluster_in after.cluster b.cluster k.1.0 was.cluster)
@@ -153,51 +154,4 @@ module _ (old new : State) where
         (becomes tree 17 of_import import_in after.imports b.imports k.1.1.1.1.1.1.1.1.1.0 was.imports)
         (becomes tree 19 of_dropped dropped_in after.dropped b.dropped k.1.1.1.1.1.1.1.1.1.1.0 was.dropped)
         (becomes tree stood.cluster2 of_cluster2 cluster2_in after.cluster2 b.cluster2 (last_of _ stood k.1.1.1.1.1.1.1.1.1.1.1) was.cluster2)
-
-    pub register_made : (f : List RegisterRow → List RegisterRow) → WritesTo (register_schema stood) 0 old new → AreMade of_register register_in (next 0) (f (map register_in (old.now.trees 0)))
-        → Changes (λ t. record t { register = f t.register }) old new
-    register_made f w made = written 0 w (record (tables_of old) { register = f (tables_of old).register }) (record { register = made; cluster = refl; suppliers = refl; nodes = refl; variants = refl; grants = refl; frames = refl; placements = refl; signals = refl; imports = refl; dropped = refl; cluster2 = unlike _ (apart stood.cluster2 0 was.behind.0.0 (lit≤ tt)) refl }) (λ t. record t { register = f t.register }) refl
-
-    pub cluster_made : (f : List ClusterRow → List ClusterRow) → WritesTo (register_schema stood) 1 old new → AreMade of_cluster cluster_in (next 1) (f (map cluster_in (old.now.trees 1)))
-        → Changes (λ t. record t { cluster = f t.cluster }) old new
-    cluster_made f w made = written 1 w (record (tables_of old) { cluster = f (tables_of old).cluster }) (record { register = refl; cluster = made; suppliers = refl; nodes = refl; variants = refl; grants = refl; frames = refl; placements = refl; signals = refl; imports = refl; dropped = refl; cluster2 = unlike _ (apart stood.cluster2 1 was.behind.0.0 (lit≤ tt)) refl }) (λ t. record t { cluster = f t.cluster }) refl
-
-    pub suppliers_made : (f : List SupplierRow → List SupplierRow) → WritesTo (register_schema stood) 2 old new → AreMade of_supplier supplier_in (next 2) (f (map supplier_in (old.now.trees 2)))
-        → Changes (λ t. record t { suppliers = f t.suppliers }) old new
-    suppliers_made f w made = written 2 w (record (tables_of old) { suppliers = f (tables_of old).suppliers }) (record { register = refl; cluster = refl; suppliers = made; nodes = refl; variants = refl; grants = refl; frames = refl; placements = refl; signals = refl; imports = refl; dropped = refl; cluster2 = unlike _ (apart stood.cluster2 2 was.behind.0.0 (lit≤ tt)) refl }) (λ t. record t { suppliers = f t.suppliers }) refl
-
-    pub nodes_made : (f : List NodeRow → List NodeRow) → WritesTo (register_schema stood) 5 old new → AreMade of_node node_in (next 5) (f (map node_in (old.now.trees 5)))
-        → Changes (λ t. record t { nodes = f t.nodes }) old new
-    nodes_made f w made = written 5 w (record (tables_of old) { nodes = f (tables_of old).nodes }) (record { register = refl; cluster = refl; suppliers = refl; nodes = made; variants = refl; grants = refl; frames = refl; placements = refl; signals = refl; imports = refl; dropped = refl; cluster2 = unlike _ (apart stood.cluster2 5 was.behind.0.0 (lit≤ tt)) refl }) (λ t. record t { nodes = f t.nodes }) refl
-
-    pub variants_made : (f : List VariantRow → List VariantRow) → WritesTo (register_schema stood) 7 old new → AreMade of_variant variant_in (next 7) (f (map variant_in (old.now.trees 7)))
-        → Changes (λ t. record t { variants = f t.variants }) old new
-    variants_made f w made = written 7 w (record (tables_of old) { variants = f (tables_of old).variants }) (record { register = refl; cluster = refl; suppliers = refl; nodes = refl; variants = made; grants = refl; frames = refl; placements = refl; signals = refl; imports = refl; dropped = refl; cluster2 = unlike _ (apart stood.cluster2 7 was.behind.0.0 (lit≤ tt)) refl }) (λ t. record t { variants = f t.variants }) refl
-
-    pub grants_made : (f : List GrantRow → List GrantRow) → WritesTo (register_schema stood) 9 old new → AreMade of_grant grant_in (next 9) (f (map grant_in (old.now.trees 9)))
-        → Changes (λ t. record t { grants = f t.grants }) old new
-    grants_made f w made = written 9 w (record (tables_of old) { grants = f (tables_of old).grants }) (record { register = refl; cluster = refl; suppliers = refl; nodes = refl; variants = refl; grants = made; frames = refl; placements = refl; signals = refl; imports = refl; dropped = refl; cluster2 = unlike _ (apart stood.cluster2 9 was.behind.0.0 (lit≤ tt)) refl }) (λ t. record t { grants = f t.grants }) refl
-
-    pub frames_made : (f : List FrameRow → List FrameRow) → WritesTo (register_schema stood) 11 old new → AreMade of_frame frame_in (next 11) (f (map frame_in (old.now.trees 11)))
-        → Changes (λ t. record t { frames = f t.frames }) old new
-    frames_made f w made = written 11 w (record (tables_of old) { frames = f (tables_of old).frames }) (record { register = refl; cluster = refl; suppliers = refl; nodes = refl; variants = refl; grants = refl; frames = made; placements = refl; signals = refl; imports = refl; dropped = refl; cluster2 = unlike _ (apart stood.cluster2 11 was.behind.0.0 (lit≤ tt)) refl }) (λ t. record t { frames = f t.frames }) refl
-
-    pub placements_made : (f : List PlacementRow → List PlacementRow) → WritesTo (register_schema stood) 13 old new → AreMade of_placement placement_in (next 13) (f (map placement_in (old.now.trees 13)))
-        → Changes (λ t. record t { placements = f t.placements }) old new
-    placements_made f w made = written 13 w (record (tables_of old) { placements = f (tables_of old).placements }) (record { register = refl; cluster = refl; suppliers = refl; nodes = refl; variants = refl; grants = refl; frames = refl; placements = made; signals = refl; imports = refl; dropped = refl; cluster2 = unlike _ (apart stood.cluster2 13 was.behind.0.0 (lit≤ tt)) refl }) (λ t. record t { placements = f t.placements }) refl
-
-    pub signals_made : (f : List SignalRow → List SignalRow) → WritesTo (register_schema stood) 15 old new → AreMade of_signal signal_in (next 15) (f (map signal_in (old.now.trees 15)))
-        → Changes (λ t. record t { signals = f t.signals }) old new
-    signals_made f w made = written 15 w (record (tables_of old) { signals = f (tables_of old).signals }) (record { register = refl; cluster = refl; suppliers = refl; nodes = refl; variants = refl; grants = refl; frames = refl; placements = refl; signals = made; imports = refl; dropped = refl; cluster2 = unlike _ (apart stood.cluster2 15 was.behind.0.0 (lit≤ tt)) refl }) (λ t. record t { signals = f t.signals }) refl
-
-    pub imports_made : (f : List ImportRow → List ImportRow) → WritesTo (register_schema stood) 17 old new → AreMade of_import import_in (next 17) (f (map import_in (old.now.trees 17)))
-        → Changes (λ t. record t { imports = f t.imports }) old new
-    imports_made f w made = written 17 w (record (tables_of old) { imports = f (tables_of old).imports }) (record { register = refl; cluster = refl; suppliers = refl; nodes = refl; variants = refl; grants = refl; frames = refl; placements = refl; signals = refl; imports = made; dropped = refl; cluster2 = unlike _ (apart stood.cluster2 17 was.behind.0.0 (lit≤ tt)) refl }) (λ t. record t { imports = f t.imports }) refl
-
-    pub dropped_made : (f : List DroppedRow → List DroppedRow) → WritesTo (register_schema stood) 19 old new → AreMade of_dropped dropped_in (next 19) (f (map dropped_in (old.now.trees 19)))
-        → Changes (λ t. record t { dropped = f t.dropped }) old new
-    dropped_made f w made = written 19 w (record (tables_of old) { dropped = f (tables_of old).dropped }) (record { register = refl; cluster = refl; suppliers = refl; nodes = refl; variants = refl; grants = refl; frames = refl; placements = refl; signals = refl; imports = refl; dropped = made; cluster2 = unlike _ (apart stood.cluster2 19 was.behind.0.0 (lit≤ tt)) refl }) (λ t. record t { dropped = f t.dropped }) refl
-
-    pub cluster2_made : (f : List Cluster2Row → List Cluster2Row) → WritesTo (register_schema stood) stood.cluster2 old new → AreMade of_cluster2 cluster2_in (next stood.cluster2) (f (map cluster2_in (old.now.trees stood.cluster2)))
-        → Changes (λ t. record t { cluster2 = f t.cluster2 }) old new
-    cluster2_made f w made = written stood.cluster2 w (record (tables_of old) { cluster2 = f (tables_of old).cluster2 }) (record { register = unlike _ (apart_back stood.cluster2 0 was.behind.0.0 (lit≤ tt)) refl; cluster = unlike _ (apart_back stood.cluster2 1 was.behind.0.0 (lit≤ tt)) refl; suppliers = unlike _ (apart_back stood.cluster2 2 was.behind.0.0 (lit≤ tt)) refl; nodes = unlike _ (apart_back stood.cluster2 5 was.behind.0.0 (lit≤ tt)) refl; variants = unlike _ (apart_back stood.cluster2 7 was.behind.0.0 (lit≤ tt)) refl; grants = unlike _ (apart_back stood.cluster2 9 was.behind.0.0 (lit≤ tt)) refl; frames = unlike _ (apart_back stood.cluster2 11 was.behind.0.0 (lit≤ tt)) refl; placements = unlike _ (apart_back stood.cluster2 13 was.behind.0.0 (lit≤ tt)) refl; signals = unlike _ (apart_back stood.cluster2 15 was.behind.0.0 (lit≤ tt)) refl; imports = unlike _ (apart_back stood.cluster2 17 was.behind.0.0 (lit≤ tt)) refl; dropped = unlike _ (apart_back stood.cluster2 19 was.behind.0.0 (lit≤ tt)) refl; cluster2 = alike _ (itself stood.cluster2) made }) (λ t. record t { cluster2 = f t.cluster2 }) refl
+        change refl

@@ -1,25 +1,22 @@
 -- What the statements on the row of `cluster2` do.
-use Rattle.std.proofs.Common.{◌<◌, None, Some, ◌≡◌, ◌⊎◌, ◌==◌, false, inl, inr, ℕ, Option, arith, sym, subst, List, [], ◌∷◌, codes, lit≤, Ok, Err, Result, MatchResult, refl}
+use Rattle.std.proofs.Common.{◌<◌, None, Some, ◌≡◌, ◌⊎◌, ◌==◌, false, inl, inr, ℕ, Option, arith, sym, subst, List, [], ◌∷◌, codes, refl}
 use Rattle.std.proofs.lemmas.Bool.{cases_Bool}
 use Rattle.std.proofs.lemmas.Bool.Decides.{nat_tests}
 use Rattle.sqlite.specs.declared.types.Value.TheVariants.{Null, Int, Text}
-use Rattle.sqlite.specs.declared.error.Error.{Error}
 use Rattle.sqlite.specs.Order.{Row}
 use Rattle.sqlite.specs.Term.{Term, lit, col}
 use Rattle.sqlite.specs.Listing.{understood}
-use Rattle.sqlite.specs.State.{State, ExecutesInside}
+use Rattle.sqlite.specs.Cast.{cast_row}
 use Rattle.sqlite_tied.specs.Compute.{everything}
-use Rattle.fr_tables.specs.Schema.{Layout, IsNear, IsBehind, layout_of, register_schema, cluster2}
-use Rattle.fr_tables.specs.Rows.{Cluster2Row, of_cluster2, cluster2_in}
-use Rattle.fr_tables.specs.Tables.{HasTables}
-use Rattle.fr_tables.specs.Changes.{Changes, Stays}
+use Rattle.fr_tables.specs.Schema.{IsNear, IsBehind, register_schema, cluster2_at}
+use Rattle.fr_tables.specs.Rows.{Cluster2Row, of_cluster2}
+use Rattle.fr_tables.specs.Changes.{Changes}
 use Rattle.fr_tables.specs.Statements.{with_cluster2, shows_cluster2, every, any_order}
 use Rattle.fr_tables.proofs.Compared.{cast_null, cast_integer}
-use Rattle.fr_tables.proofs.InsertLemmas.{Adds, adds, added}
-use Rattle.fr_tables.proofs.ChangeLemmas.{cluster2_made}
-use Rattle.fr_tables.proofs.BehindLemmas.{works_same}
-use Rattle.fr_tables.proofs.RunLemmas.{stays_inside}
-use Rattle.fr_tables.proofs.FindLemmas.{Queries}
+use Rattle.fr_tables.proofs.InsertLemmas.{Adds, Puts, puts}
+use Rattle.fr_tables.proofs.TableOf.{Does}
+use Rattle.fr_tables.proofs.TheTables.{cluster2_table, place_behind}
+use Rattle.fr_tables.proofs.FindLemmas.{Selects}
 use Rattle.fr_tables.proofs.ReadLemmas.{Reads}
 
 abbrev insert_text : List ℕ
@@ -29,50 +26,23 @@ insert_text = codes "INSERT INTO cluster2 (static_slots, slot_macroticks, dynami
 abbrev pub given : Cluster2Row → Row
 given c = Int c.static_slots ∷ Int c.slot_macroticks ∷ Int c.dynamic_macroticks ∷ Int c.symbol_macroticks ∷ Int c.idle_macroticks ∷ Int c.macroticks_per_cycle ∷ Int c.payload_words ∷ Text c.channels ∷ Text c.integrator ∷ Int c.cycles ∷ []
 
-insert_by : (c : Cluster2Row) (tree : ℕ) (index before behind : Option ℕ) → let l : Layout = record { cluster2 = tree; index = index; before = before; behind = behind } in
-    Adds (register_schema l) cluster2.name tree cluster2.columns cluster2.key cluster2.primary cluster2.uniques cluster2.checks cluster2.references insert_text (given c) (of_cluster2 c)
-unfolding understood everything
-insert_by c tree index None behind = record {
-  at = 11;
-  terms = lit Null ∷ lit Null ∷ col 0 0 ∷ col 0 1 ∷ col 0 2 ∷ col 0 3 ∷ col 0 4 ∷ col 0 5 ∷ col 0 6 ∷ col 0 7 ∷ col 0 8 ∷ col 0 9 ∷ [];
-  width = 12;
-  source = Null ∷ of_cluster2 c;
-  is = refl;
-  plain = (refl, refl);
-  place = refl;
-  whole = lit≤ tt;
-  arity = refl;
-  typed = refl;
-  gives = refl;
-  stores = rw (cast_null, cast_integer c.static_slots, cast_integer c.slot_macroticks, cast_integer c.dynamic_macroticks, cast_integer c.symbol_macroticks, cast_integer c.idle_macroticks, cast_integer c.macroticks_per_cycle, cast_integer c.payload_words, cast_integer c.cycles);
-  idle = λ new. works_same (record { cluster2 = tree; index = index; before = None; behind = behind }) 0 tree [] (new ∷ []);
-}
-insert_by c tree index (Some at) behind = record {
-  at = 12;
-  terms = lit Null ∷ lit Null ∷ col 0 0 ∷ col 0 1 ∷ col 0 2 ∷ col 0 3 ∷ col 0 4 ∷ col 0 5 ∷ col 0 6 ∷ col 0 7 ∷ col 0 8 ∷ col 0 9 ∷ [];
-  width = 12;
-  source = Null ∷ of_cluster2 c;
-  is = refl;
-  plain = (refl, refl);
-  place = refl;
-  whole = lit≤ tt;
-  arity = refl;
-  typed = refl;
-  gives = refl;
-  stores = rw (cast_null, cast_integer c.static_slots, cast_integer c.slot_macroticks, cast_integer c.dynamic_macroticks, cast_integer c.symbol_macroticks, cast_integer c.idle_macroticks, cast_integer c.macroticks_per_cycle, cast_integer c.payload_words, cast_integer c.cycles);
-  idle = λ new. works_same (record { cluster2 = tree; index = index; before = Some at; behind = behind }) 0 tree [] (new ∷ []);
-}
+abbrev its_terms : List Term
+its_terms = lit Null ∷ lit Null ∷ col 0 0 ∷ col 0 1 ∷ col 0 2 ∷ col 0 3 ∷ col 0 4 ∷ col 0 5 ∷ col 0 6 ∷ col 0 7 ∷ col 0 8 ∷ col 0 9 ∷ []
 
-insert_is : (c : Cluster2Row) (l : Layout) → Adds (register_schema l) cluster2.name l.cluster2 cluster2.columns cluster2.key cluster2.primary cluster2.uniques cluster2.checks cluster2.references insert_text (given c) (of_cluster2 c)
+stores : (c : Cluster2Row) (tree : ℕ) → cast_row (cluster2_at tree) (Null ∷ of_cluster2 c) ≡ Null ∷ of_cluster2 c
+unfolding understood everything
+stores c tree = rw (cast_null, cast_integer c.static_slots, cast_integer c.slot_macroticks, cast_integer c.dynamic_macroticks, cast_integer c.symbol_macroticks, cast_integer c.idle_macroticks, cast_integer c.macroticks_per_cycle, cast_integer c.payload_words, cast_integer c.cycles)
+
+insert_by : (c : Cluster2Row) (tree : ℕ) (index before behind : Option ℕ) → Adds (register_schema (record { cluster2 = tree; index = index; before = before; behind = behind })) (cluster2_at tree) (place_behind before) insert_text (given c) (of_cluster2 c)
+unfolding understood everything
+insert_by c tree index None behind = record { terms = its_terms; width = 12; is = refl; plain = (refl, refl); gives = refl; stores = stores c tree }
+insert_by c tree index (Some before) behind = record { terms = its_terms; width = 12; is = refl; plain = (refl, refl); gives = refl; stores = stores c tree }
+
+insert_is : (c : Cluster2Row) → Puts cluster2_table insert_text (given c) c
 insert_is c l = insert_by c l.cluster2 l.index l.before l.behind
 
-pub inserts : (c : Cluster2Row) (old new : State) (r : Result ℕ Error) → HasTables old.now → ExecutesInside 0 insert_text (given c) old new r
-    → MatchResult r (λ _. Changes (with_cluster2 c) old new) (λ _. Stays old new)
-inserts c old new (Err e) was h = stays_inside insert_text _ old new e h
-inserts c old new (Ok count) was h =
-    let l = layout_of old.now.trees in
-    let did = adds (register_schema l) cluster2.name l.cluster2 cluster2.columns cluster2.key cluster2.primary cluster2.uniques cluster2.checks cluster2.references insert_text (given c) (of_cluster2 c) (insert_is c l) old new count was.schema h.0 in
-    cluster2_made old new was _ did.wrote (added (register_schema l) cluster2.name l.cluster2 cluster2.columns cluster2.key cluster2.primary cluster2.uniques cluster2.checks cluster2.references of_cluster2 cluster2_in c (λ id. refl) old new did was.cluster2)
+pub inserts : (c : Cluster2Row) → Does insert_text (given c) (Changes (with_cluster2 c))
+inserts c = puts cluster2_table c (insert_is c)
 
 abbrev pub select_text : List ℕ
 select_text = codes "SELECT static_slots, slot_macroticks, dynamic_macroticks, symbol_macroticks, idle_macroticks, macroticks_per_cycle, payload_words, channels, integrator, cycles FROM cluster2"
@@ -90,44 +60,44 @@ ReadsAt tree index before behind = Reads (register_schema (record { cluster2 = t
 -- with no table of ANALYZE before it
 first : (index behind : Option ℕ) → ReadsAt 21 index None behind
 unfolding understood everything
-first index behind = record { names = its_names; is = refl; unlisted = refl; plain = (refl, refl); stored = λ db. refl }
+first index behind = record { names = its_names; is = refl; unlisted = refl; plain = (refl, refl) }
 
 second : (index behind : Option ℕ) → ReadsAt 22 index None behind
 unfolding understood everything
-second index behind = record { names = its_names; is = refl; unlisted = refl; plain = (refl, refl); stored = λ db. refl }
+second index behind = record { names = its_names; is = refl; unlisted = refl; plain = (refl, refl) }
 
 third : (index behind : Option ℕ) → ReadsAt 23 index None behind
 unfolding understood everything
-third index behind = record { names = its_names; is = refl; unlisted = refl; plain = (refl, refl); stored = λ db. refl }
+third index behind = record { names = its_names; is = refl; unlisted = refl; plain = (refl, refl) }
 
 fourth : (index behind : Option ℕ) → ReadsAt 24 index None behind
 unfolding understood everything
-fourth index behind = record { names = its_names; is = refl; unlisted = refl; plain = (refl, refl); stored = λ db. refl }
+fourth index behind = record { names = its_names; is = refl; unlisted = refl; plain = (refl, refl) }
 
 -- with one in a tree before it
 second_behind_first : (index behind : Option ℕ) → ReadsAt 22 index (Some 21) behind
 unfolding understood everything
-second_behind_first index behind = record { names = its_names; is = refl; unlisted = refl; plain = (refl, refl); stored = λ db. refl }
+second_behind_first index behind = record { names = its_names; is = refl; unlisted = refl; plain = (refl, refl) }
 
 third_behind_first : (index behind : Option ℕ) → ReadsAt 23 index (Some 21) behind
 unfolding understood everything
-third_behind_first index behind = record { names = its_names; is = refl; unlisted = refl; plain = (refl, refl); stored = λ db. refl }
+third_behind_first index behind = record { names = its_names; is = refl; unlisted = refl; plain = (refl, refl) }
 
 third_behind_second : (index behind : Option ℕ) → ReadsAt 23 index (Some 22) behind
 unfolding understood everything
-third_behind_second index behind = record { names = its_names; is = refl; unlisted = refl; plain = (refl, refl); stored = λ db. refl }
+third_behind_second index behind = record { names = its_names; is = refl; unlisted = refl; plain = (refl, refl) }
 
 fourth_behind_first : (index behind : Option ℕ) → ReadsAt 24 index (Some 21) behind
 unfolding understood everything
-fourth_behind_first index behind = record { names = its_names; is = refl; unlisted = refl; plain = (refl, refl); stored = λ db. refl }
+fourth_behind_first index behind = record { names = its_names; is = refl; unlisted = refl; plain = (refl, refl) }
 
 fourth_behind_second : (index behind : Option ℕ) → ReadsAt 24 index (Some 22) behind
 unfolding understood everything
-fourth_behind_second index behind = record { names = its_names; is = refl; unlisted = refl; plain = (refl, refl); stored = λ db. refl }
+fourth_behind_second index behind = record { names = its_names; is = refl; unlisted = refl; plain = (refl, refl) }
 
 fourth_behind_third : (index behind : Option ℕ) → ReadsAt 24 index (Some 23) behind
 unfolding understood everything
-fourth_behind_third index behind = record { names = its_names; is = refl; unlisted = refl; plain = (refl, refl); stored = λ db. refl }
+fourth_behind_third index behind = record { names = its_names; is = refl; unlisted = refl; plain = (refl, refl) }
 
 fourth_left : (tree : ℕ) → IsNear tree → (tree == 21) ≡ false → (tree == 22) ≡ false → (tree == 23) ≡ false → tree ≡ 24
 fourth_left tree (low, high) a b c = grind (arith, nat_tests)
@@ -182,7 +152,7 @@ reads_by tree index (Some at) behind near = elim (one_of_four tree near.0) [
   | inr (inr (inr is)) ↦ subst (λ t. ReadsAt t index (Some at) behind) (sym is) (fourth_behind index behind at near.1.0 (subst (λ t. at < t) is near.1.1))
 ]
 
-pub its_row : (l : Layout) → IsBehind l → Queries (register_schema l) of_cluster2 shows_cluster2 (every) any_order l.cluster2 select_text ([])
+pub its_row : Selects cluster2_table shows_cluster2 (every) any_order select_text ([])
 unfolding understood everything
 its_row l behind = record {
   tests = [];

@@ -9,9 +9,20 @@ use Rattle.sqlite_value.proofs.OrderLemmas.{value_cmp-Int, value_cmp-Text}
 use Rattle.sqlite.specs.declared.types.Value.{Value}
 use Rattle.sqlite.specs.declared.types.Value.TheVariants.{Null, Int, Text}
 use Rattle.sqlite.specs.Order.{value_cmp}
+use Rattle.sqlite.specs.Term.{Term, col, op2}
+use Rattle.sqlite_value.specs.Keys.{ascending}
+use Rattle.sqlite_value.specs.declared.keys.Key.{Key}
 use Rattle.sqlite.specs.Ops.{binary, unary, is_true, from_truth}
 use Rattle.sqlite.specs.Cast.{cast}
 use Rattle.sqlite.specs.Kind.TheVariants.{Integer}
+
+-- WHERE this column is this parameter; columns are counted from 1, and parameters from 0
+abbrev pub equals : ℕ → ℕ → Term
+equals place given = op2 (Compare Eq Binary) (col 1 place) (col 0 given)
+
+-- ORDER BY this column
+abbrev pub rising : ℕ → Term × Key
+rising place = (col 1 place, ascending Binary)
 
 pub equal_texts : (s t : List ℕ) → is_true (binary (Compare Eq Binary) (Text s) (Text t)) ≡ bytes_eq s t
 unfolding binary

@@ -9,7 +9,7 @@ use Rattle.sqlite.specs.declared.types.Value.{Value}
 use Rattle.sqlite.specs.declared.types.Value.TheVariants.{Null, Int}
 use Rattle.sqlite.specs.Order.{Row, value_cmp}
 use Rattle.sqlite_value.proofs.OrderLemmas.{value_cmp_total}
-use Rattle.sqlite.specs.Tree.{Trees, IsTable, rowid, has_rowid, without_rowid}
+use Rattle.sqlite.specs.Tree.{IsTable, rowid, has_rowid, without_rowid}
 use Rattle.sqlite_trees.specs.View.{is_int}
 use Rattle.sqlite_trees.proofs.ListLemmas.{all-permutation, all_weaker, all_of, filter_same, filter_all, filter-map, all-filter, ascending-filter, map-map}
 use Rattle.sqlite_rules.specs.Lists.{Has}
@@ -42,7 +42,7 @@ use Rattle.fr_tables.specs.Tables.{AreKept}
 use Rattle.fr_tables.proofs.Steps.{went, same_value}
 use Rattle.fr_tables.proofs.Written.{IsStill}
 use Rattle.fr_tables.proofs.RunLemmas.{deletes}
-use Rattle.fr_tables.proofs.ReadLemmas.{scan, scanned}
+use Rattle.fr_tables.proofs.ReadLemmas.{scan, scanned, as_they_are}
 
 pub has_permuted : {X : Type 0} (xs ys : List X) (x : X) → IsPermutation xs ys → Has ys x → Has xs x
 has_permuted xs ys x same h = all_has (Has xs) ys x (all-permutation (Has xs) xs ys same (all_from (Has xs) xs (λ y k. k))) h
@@ -136,12 +136,9 @@ erased_rows columns read p passes rows found tested kept same =
 -- ---- the statement
 
 -- the text deletes the rows that pass these tests
-pub record Deletes (schema : Schema) (table : Table) (text : List ℕ) (tests : List Term) : Type 0 where
-  pub at : ℕ
+pub record Deletes (schema : Schema) (table : Table) (at : ℕ) (text : List ℕ) (tests : List Term) : Type 0 where
   pub is : command_of (understood schema text) ≡ Delete at (record { lets = []; body = scan table.tree tests [] (col 1 0 ∷ []) })
   pub plain : IsPlain (understood schema text)
-  pub place : slice_get schema.tables at ≡ Some table
-  pub stored : (db : Trees) → overlay db [] table.tree ≡ db table.tree
 
 -- the rows with these rowids, which pass the tests, are taken out, and then the actions are carried out
 pub record HasDeleted (schema : Schema) (table : Table) (tests : List Term) (params : Row) (old new : State) : Type 0 where
@@ -152,16 +149,16 @@ pub record HasDeleted (schema : Schema) (table : Table) (tests : List Term) (par
   pub shown : Shows old new new.now (if old.in_transaction then old.committed else new.now) old.in_transaction
   pub refers : Refers All schema new.now.trees
 
-pub deleted : (schema : Schema) (table : Table) (text : List ℕ) (tests : List Term) → Deletes schema table text tests → (params : Row) (old new : State) (count : ℕ) → old.now.schema ≡ schema
+pub deleted : (schema : Schema) (table : Table) (at : ℕ) → slice_get schema.tables at ≡ Some table → (text : List ℕ) (tests : List Term) → Deletes schema table at text tests → (params : Row) (old new : State) (count : ℕ) → old.now.schema ≡ schema
     → Executes text params old new (Ok count) → HasDeleted schema table tests params old new
-deleted schema table text tests d params old new count has h =
+deleted schema table at place text tests d params old new count has h =
     let db = old.now.trees in
     let body = scan table.tree tests [] (col 1 0 ∷ []) in
     let q : Program = record { lets = []; body = body } in
-    let ran = deletes schema table text params d.plain old new count has h d.at d.place q d.is in
+    let ran = deletes schema table text params d.plain old new count has h at place q d.is in
     let queried = went ran.wrote in
     let edited = went queried.2 in
-    let scans = scanned [] table.tree tests [] (col 1 0 ∷ []) params (λ (r : Row). r) (db table.tree) (overlay db []) queried.0 (d.stored db ∙ sym (map-id (db table.tree))) (queried.1.answer Null) in
+    let scans = scanned [] table.tree tests [] (col 1 0 ∷ []) params (λ (r : Row). r) (db table.tree) (overlay db []) queried.0 (as_they_are db table.tree ∙ sym (map-id (db table.tree))) (queried.1.answer Null) in
     let ids : ids_of queried.0 ≡ map (λ r. id_in (rowid r)) scans.found = ap ids_of scans.shown ∙ map-map _ _ scans.found in
     let trees : ran.written.trees ≡ edited.0 = ap (λ (w : Written). w.trees) (same_value edited.2) in
     let now : new.now.trees ≡ edited.0 = ap (λ (d : Database). d.trees) ran.now ∙ trees in

@@ -1,10 +1,9 @@
 -- What the statement does that adds a dropped frame, unless it is there.
-use Rattle.std.proofs.Common.{Option, ◌≡◌, ◌⊎◌, inl, inr, ℕ, List, [], ◌∷◌, ◌++◌, codes, map, length, ◌/◌, ◌||◌, if◌then◌else◌, ◌≢◌, ℤ, Bool, true, false, Some, None, Ok, Err, Result, MatchResult, refl, sym, ap, subst, ◌∙◌}
+use Rattle.std.proofs.Common.{Option, ◌≡◌, ◌⊎◌, inl, inr, ℕ, List, [], ◌∷◌, ◌++◌, codes, map, length, ◌/◌, ◌||◌, if◌then◌else◌, ◌≢◌, ℤ, Bool, true, false, Some, None, Ok, refl, sym, ap, subst, ◌∙◌}
 use Rattle.std.specs.List.{list_any, AllByRecursion}
 use Rattle.std.proofs.lemmas.Bool.{false_from_ne_true}
 use Rattle.sqlite.specs.declared.types.Value.{Value}
 use Rattle.sqlite.specs.declared.types.Value.TheVariants.{Null, Int}
-use Rattle.sqlite.specs.declared.error.Error.{Error}
 use Rattle.sqlite.specs.Order.{Row}
 use Rattle.sqlite.specs.Term.{Term, lit, col}
 use Rattle.sqlite.specs.Tree.{Trees, rowid, put_row}
@@ -18,7 +17,7 @@ use Rattle.sqlite.specs.Rows.{Written, Tries, TriesEach, Puts, Upserts, InsertsO
 use Rattle.sqlite.specs.Source.TheVariants.{Values}
 use Rattle.sqlite.specs.Command.TheVariants.{InsertOr}
 use Rattle.sqlite.specs.Listing.{understood}
-use Rattle.sqlite.specs.State.{State, Executes, ExecutesInside}
+use Rattle.sqlite.specs.State.{State, Executes}
 use Rattle.sqlite.proofs.Callers.{IsPlain, command_of, one_step}
 use Rattle.sqlite_schema.specs.declared.command.Conflict.TheVariants.{Abort}
 use Rattle.sqlite_schema.specs.declared.command.Upsert.{Upsert}
@@ -34,14 +33,15 @@ use Rattle.fr_tables.proofs.BehindLemmas.{works_same}
 use Rattle.fr_tables.specs.Schema.{Layout, layout_of, register_schema, old_schema, tables_at, dropped}
 use Rattle.fr_tables.specs.Rows.{DroppedRow, of_dropped, dropped_in}
 use Rattle.fr_tables.specs.Tables.{HasTables, AreKept}
-use Rattle.fr_tables.specs.Changes.{Changes, Stays}
+use Rattle.fr_tables.specs.Changes.{Changes}
 use Rattle.fr_tables.specs.Statements.{with_dropped, is_dropped}
 use Rattle.fr_tables.proofs.Compared.{equal_texts, cast_null, cast_integer}
 use Rattle.fr_tables.proofs.Steps.{went, same_value}
 use Rattle.fr_tables.proofs.KeptLemmas.{put_next}
 use Rattle.fr_tables.proofs.DeleteLemmas.{mapped_from}
-use Rattle.fr_tables.proofs.RunLemmas.{task_of, inserts_or, stays_inside}
-use Rattle.fr_tables.proofs.ChangeLemmas.{dropped_made}
+use Rattle.fr_tables.proofs.RunLemmas.{task_of, inserts_or}
+use Rattle.fr_tables.proofs.TableOf.{Does, does}
+use Rattle.fr_tables.proofs.TheTables.{dropped_table}
 
 abbrev insert_text : List ℕ
 insert_text = codes "INSERT INTO dropped (variant, supplier, frame) VALUES (?1, ?2, ?3) ON CONFLICT (variant, supplier, frame) DO NOTHING"
@@ -166,16 +166,14 @@ module _ (d : DroppedRow) where
       elim (enters_in l d old was.dropped ran.written ran.wrote) [
         | inl there ↦
             let same : new.now.trees ≡ db = trees ∙ there.1 in
-            dropped_made old new was added (record { still = ran.still; others = all_of (λ (t : Table). t.tree ≢ 19 → new.now.trees t.tree ≡ db t.tree) (λ t other. ap (λ (db : Trees). db t.tree) same) (tables_at l); shown = ran.shown })
+            dropped_table.made old new was added (record { still = ran.still; others = all_of (λ (t : Table). t.tree ≢ 19 → new.now.trees t.tree ≡ db t.tree) (λ t other. ap (λ (db : Trees). db t.tree) same) (tables_at l); shown = ran.shown })
             (record { kept = subst (λ (db : Trees). AreKept of_dropped dropped_in (db 19)) (sym same) was.dropped; values_are = ap (λ (db : Trees). map dropped_in (db 19)) same ∙ rw there.0 refl })
         | inr fresh ↦
             let put = put_next of_dropped dropped_in rows d (λ id. refl) was.dropped in
             let rows_are : new.now.trees 19 ≡ put_row (entry l d db) rows = ap (λ (db : Trees). db 19) trees ∙ fresh.1.rows ∙ ap (λ r. put_row r rows) (cast_entry l d rows) in
-            dropped_made old new was added (record { still = ran.still; others = subst (λ (next : Trees). AllByRecursion (λ (t : Table). t.tree ≢ 19 → next t.tree ≡ db t.tree) (tables_at l)) (sym trees) fresh.1.tables; shown = ran.shown })
+            dropped_table.made old new was added (record { still = ran.still; others = subst (λ (next : Trees). AllByRecursion (λ (t : Table). t.tree ≢ 19 → next t.tree ≡ db t.tree) (tables_at l)) (sym trees) fresh.1.tables; shown = ran.shown })
             (record { kept = subst (AreKept of_dropped dropped_in) (sym rows_are) put.0; values_are = ap (map dropped_in) rows_are ∙ put.1 ∙ rw fresh.0 refl })
       ]
 
-  pub enters : (old new : State) (r : Result ℕ Error) → HasTables old.now → ExecutesInside 0 insert_text (of_dropped d) old new r
-      → MatchResult r (λ _. Changes (with_dropped d) old new) (λ _. Stays old new)
-  enters old new (Err e) was h = stays_inside insert_text (of_dropped d) old new e h
-  enters old new (Ok count) was h = entered old new count was h.0
+  pub enters : Does insert_text (of_dropped d) (Changes (with_dropped d))
+  enters = does insert_text (of_dropped d) _ entered

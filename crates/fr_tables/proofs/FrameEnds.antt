@@ -1,25 +1,21 @@
 -- What the deletion of a frame does.
-use Rattle.std.proofs.Common.{◌≡◌, ◌<◌, ◌≤◌, ◌==◌, lit≤, MatchBool, inl, inr, ℕ, ℤ, List, [], ◌∷◌, codes, map, filter, not, Bool, true, false, ◌&&◌, ◌||◌, bytes_eq, Ok, Err, Result, MatchResult, refl, sym, ap, subst, subst₂, ◌∙◌}
+use Rattle.std.proofs.Common.{◌≡◌, ◌<◌, ◌≤◌, ◌==◌, lit≤, MatchBool, inl, inr, ℕ, ℤ, List, [], ◌∷◌, codes, map, filter, not, Bool, true, false, ◌&&◌, ◌||◌, bytes_eq, Ok, refl, sym, ap, subst, subst₂, ◌∙◌}
 use Rattle.std.specs.Bool.{⊤}
 use Rattle.std.specs.List.{AllByRecursion, list_all, list_any}
 use Rattle.std.specs.List.Sorted.{IsPermutation}
 use Rattle.std.proofs.lemmas.Bool.{cases_Bool, and_parts, false_from_ne_true}
 use Rattle.std.proofs.lemmas.Slice.Eq.{bytes_eq-Decides}
-use Rattle.sqlite_sql.specs.declared.ops.BinaryOp.TheVariants.{Compare}
-use Rattle.sqlite_sql.specs.declared.ops.CompareOp.TheVariants.{Eq}
-use Rattle.sqlite.specs.Collation.TheVariants.{Binary}
 use Rattle.sqlite_value.specs.Keys.{plain}
 use Rattle.sqlite.specs.declared.types.Value.{Value}
 use Rattle.sqlite.specs.declared.types.Value.TheVariants.{Int, Text}
-use Rattle.sqlite.specs.declared.error.Error.{Error}
 use Rattle.sqlite.specs.Order.{Row}
 use Rattle.sqlite.specs.Table.{Table}
-use Rattle.sqlite.specs.Term.{Term, col, op2, holds}
+use Rattle.sqlite.specs.Term.{Term, holds}
 use Rattle.sqlite.specs.Tree.{Trees, rowid, has_rowid}
 use Rattle.sqlite.specs.Edit.{id_in, edit_of, without_all}
 use Rattle.sqlite.specs.Rowids.TheVariants.{Given}
 use Rattle.sqlite.specs.Listing.{understood}
-use Rattle.sqlite.specs.State.{State, Executes, ExecutesInside}
+use Rattle.sqlite.specs.State.{State, Executes}
 use Rattle.sqlite_rules.specs.Lists.{Has}
 use Rattle.sqlite_rules.specs.Edit.{row_at, taken_by}
 use Rattle.sqlite_rules.specs.Action.{pairs, is_child_of}
@@ -32,14 +28,14 @@ use Rattle.sqlite_tied.proofs.RuleLemmas.{and_true}
 use Rattle.fr_tables.specs.Schema.{Layout, layout_of, register_schema, tables_at, frames, placements, signals}
 use Rattle.fr_tables.specs.Rows.{FrameRow, of_register, register_in, of_cluster, cluster_in, of_supplier, supplier_in, of_node, node_in, of_variant, variant_in, of_grant, grant_in, of_frame, frame_in, of_placement, placement_in, of_signal, signal_in, of_import, import_in, of_dropped, of_cluster2, dropped_in, cluster2_in}
 use Rattle.fr_tables.specs.Tables.{HasTables, AreKept}
-use Rattle.fr_tables.specs.Changes.{Changes, Stays, tables_of}
+use Rattle.fr_tables.specs.Changes.{Changes, tables_of}
 use Rattle.fr_tables.specs.declared.frame_key.FrameKey.{FrameKey}
 use Rattle.fr_tables.specs.Statements.{is_frame, without_frame}
-use Rattle.fr_tables.proofs.Compared.{equal_texts}
+use Rattle.fr_tables.proofs.Compared.{equals, equal_texts}
 use Rattle.fr_tables.proofs.Written.{AreMade}
 use Rattle.fr_tables.proofs.BehindLemmas.{last_of}
 use Rattle.fr_tables.proofs.ChangeLemmas.{apart, same, others, whole}
-use Rattle.fr_tables.proofs.RunLemmas.{stays_inside}
+use Rattle.fr_tables.proofs.TableOf.{Does, does}
 use Rattle.fr_tables.proofs.DeleteLemmas.{Deletes, deleted, erased, erased_rows, filtered_rows, left_of, mapped_from, has_permuted, has_own_id, same_id}
 use Rattle.fr_tables.proofs.CascadeLemmas.{frame_key, work, cascades}
 
@@ -103,11 +99,11 @@ abbrev delete_text : List ℕ
 delete_text = codes "DELETE FROM frames WHERE variant = ?1 AND supplier = ?2 AND name = ?3"
 
 abbrev tests : List Term
-tests = op2 (Compare Eq Binary) (col 1 1) (col 0 0) ∷ op2 (Compare Eq Binary) (col 1 2) (col 0 1) ∷ op2 (Compare Eq Binary) (col 1 3) (col 0 2) ∷ []
+tests = equals 1 0 ∷ equals 2 1 ∷ equals 3 2 ∷ []
 
-delete_is : (l : Layout) → Deletes (register_schema l) frames delete_text tests
+delete_is : (l : Layout) → Deletes (register_schema l) frames 6 delete_text tests
 unfolding understood everything
-delete_is l = record { at = 6; is = refl; plain = (refl, refl); place = refl; stored = λ db. refl }
+delete_is l = record { is = refl; plain = (refl, refl) }
 
 module _ (key : FrameKey) where
   abbrev params : Row
@@ -196,7 +192,7 @@ module _ (key : FrameKey) where
       let db = old.now.trees in
       let next = new.now.trees in
       let l = layout_of old.now.trees in
-      let did = deleted (register_schema l) frames delete_text tests (delete_is l) params old new count was.schema h in
+      let did = deleted (register_schema l) frames 6 refl delete_text tests (delete_is l) params old new count was.schema h in
       let gone = map (λ r. id_in (rowid r)) did.found in
       let c = cascades l db next gone did.writes in
       let mid = c.mid in
@@ -230,7 +226,5 @@ module _ (key : FrameKey) where
       (same of_cluster2 cluster2_in (db l.cluster2) (next l.cluster2) (unless l 13 was.behind.0.0 (lit≤ tt) (last_of _ l m.1.1.1.1.1.1.1.1.1.1.1) ∙ unless l 15 was.behind.0.0 (lit≤ tt) (last_of _ l n.1.1.1.1.1.1.1.1.1.1.1) ∙ unless l 11 was.behind.0.0 (lit≤ tt) (last_of _ l k.1.1.1.1.1.1.1.1.1.1.1)) was.cluster2)
       (without_frame key) refl
 
-  pub deletes : (old new : State) (r : Result ℕ Error) → HasTables old.now → ExecutesInside 0 delete_text params old new r
-      → MatchResult r (λ _. Changes (without_frame key) old new) (λ _. Stays old new)
-  deletes old new (Err e) was h = stays_inside delete_text params old new e h
-  deletes old new (Ok count) was h = ends old new count was h.0
+  pub deletes : Does delete_text params (Changes (without_frame key))
+  deletes = does delete_text params _ ends

@@ -4,12 +4,14 @@ pub mod KeptLemmas
 pub mod LayoutLemmas
 pub mod BehindLemmas
 pub mod RunLemmas
+pub mod TableOf
 pub mod ReadLemmas
 pub mod FindLemmas
 pub mod InsertLemmas
 pub mod DeleteLemmas
 pub mod UpdateLemmas
 pub mod ChangeLemmas
+pub mod TheTables
 pub mod RemoveLemmas
 pub mod RenewLemmas
 pub mod CopyLemmas

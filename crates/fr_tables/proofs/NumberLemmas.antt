@@ -19,11 +19,12 @@ use Rattle.sqlite.specs.State.{State, Shown, ShowsRows, FailsToQuery, FailsToSho
 use Rattle.sqlite.specs.declared.error.Error.{Error}
 use Rattle.sqlite.specs.declared.error.Error.TheVariants.{SqlInputError}
 use Rattle.sqlite.proofs.Callers.{IsPlain, one_permutation}
-use Rattle.fr_tables.specs.Schema.{Layout, register_schema, old_schema, layout_of}
+use Rattle.fr_tables.specs.Schema.{register_schema, old_schema, layout_of}
 use Rattle.fr_tables.specs.Rows.{RegisterRow, of_register, register_in}
-use Rattle.fr_tables.specs.Tables.{HasSomeTables, AreKept, tables_in}
+use Rattle.fr_tables.specs.Tables.{HasTables, HasSomeTables, AreKept, tables_in}
 use Rattle.fr_tables.specs.Changes.{AreListed}
-use Rattle.fr_tables.proofs.FindLemmas.{Queries}
+use Rattle.fr_tables.proofs.TableOf.{TableOf}
+use Rattle.fr_tables.proofs.FindLemmas.{Queries, Selects, lists}
 use Rattle.fr_tables.specs.Statements.{shows_register, every, any_order}
 use Rattle.sqlite.specs.Clock.{timed}
 use Rattle.fr_tables.specs.SchemaNumbers.{number_text, numbered, HasNumber, Answers, IsAnswer, IsQuery, SaysNumber, SaysNoNumber}
@@ -123,11 +124,11 @@ no_text_error sql old new e x query (inr h) is = absurd (let k = h.4 in cc)
 
 -- the number's text is a query of the register's rows in either schema
 some_shown : (old new : State) (rows : List Row) → HasSomeTables old.now → Shown number_text [] old new rows → IsPermutation (map shows_register (tables_in old.now.trees).register) rows
-some_shown old new rows (inl was) h = numbers_shown (register_schema (layout_of old.now.trees)) (its_row (layout_of old.now.trees)) old new rows was.schema was.register h
+some_shown old new rows (inl was) h = numbers_shown (register_schema (layout_of old.now.trees)) (its_row (layout_of old.now.trees) was.behind) old new rows was.schema was.register h
 some_shown old new rows (inr was) h = numbers_shown (old_schema (layout_of old.now.trees).index (layout_of old.now.trees).before) (row_before (layout_of old.now.trees).index (layout_of old.now.trees).before) old new rows was.schema was.register h
 
 some_query : (db : Database) → HasSomeTables db → IsQuery db.schema number_text
-some_query db (inl was) = rw was.schema (plain_query _ (its_row (layout_of db.trees)).is.plain)
+some_query db (inl was) = rw was.schema (plain_query _ (its_row (layout_of db.trees) was.behind).is.plain)
 some_query db (inr was) = rw was.schema (plain_query _ (row_before (layout_of db.trees).index (layout_of db.trees).before).is.plain)
 
 pub asked_shown : (sql : List ℕ) (old begun mid : State) (r : Result (Vec Row Global) Error) → sql ≡ number_text → begun.now ≡ old.now → HasSomeTables old.now → IfOk r (λ rows. Shown sql [] begun mid rows.items)
@@ -144,20 +145,13 @@ asked_told sql old begun mid (Err e) text same was h =
     λ x. no_text_error number_text begun mid e x (some_query begun.now (subst HasSomeTables (sym same) was)) (subst (λ t. FailsToQuery t [] begun mid e ⊎ IsTooLate t [] begun mid e) text h)
 
 -- what is asked of another table
-module _ (l : Layout) {X : Type 0} (columns shows : X → Row) (read : Row → X) (passes : X → Bool) (cmp : X → X → Ordering) (tree : ℕ) (text : List ℕ)
-    (q : Queries (register_schema l) columns shows passes cmp tree text []) where
-  rows_listed : (begun mid : State) (rows : List Row) → begun.now.schema ≡ register_schema l → AreKept columns read (begun.now.trees tree) → Shown text [] begun mid rows
-      → AreListed shows passes cmp (map read (begun.now.trees tree)) rows
-  rows_listed begun mid rows has kept h =
-      let scans = reads (register_schema l) text tree q.tests q.order q.project q.is [] begun mid rows has h (stored_as columns) (map (known read) (begun.now.trees tree)) (all_known columns read (begun.now.trees tree) kept.typed) in
-      listed columns shows read passes cmp (begun.now.trees tree) [] q.tests q.order q.project rows q.tested q.compared q.projected scans
-
-  pub asked_listed : (sql : List ℕ) (old begun mid : State) (r : Result (Vec Row Global) Error) → sql ≡ text → begun.now ≡ old.now → old.now.schema ≡ register_schema l → AreKept columns read (old.now.trees tree)
-      → IfOk r (λ rows. Shown sql [] begun mid rows.items) → IfOk r (λ rows. AreListed shows passes cmp (map read (old.now.trees tree)) rows.items)
-  asked_listed sql old begun mid (Ok rows) is same has kept h =
-      subst (λ (d : Database). AreListed shows passes cmp (map read (d.trees tree)) rows.items) same
-      (rows_listed begun mid rows.items (ap (λ (d : Database). d.schema) same ∙ has) (subst (λ (d : Database). AreKept columns read (d.trees tree)) (sym same) kept) (subst (λ t. Shown t [] begun mid rows.items) is h))
-  asked_listed sql old begun mid (Err e) is same has kept h = tt
+module _ {X : Type 0} {columns : X → Row} {read : Row → X} (k : TableOf columns read) {shows : X → Row} {passes : X → Bool} {cmp : X → X → Ordering} {text : List ℕ} (each : Selects k shows passes cmp text []) where
+  pub asked_listed : (sql : List ℕ) (old begun mid : State) (r : Result (Vec Row Global) Error) → sql ≡ text → begun.now ≡ old.now → HasTables old.now
+      → IfOk r (λ rows. Shown sql [] begun mid rows.items) → IfOk r (λ rows. AreListed shows passes cmp (k.rows (tables_in old.now.trees)) rows.items)
+  asked_listed sql old begun mid (Ok rows) is same was h =
+      subst (λ (d : Database). AreListed shows passes cmp (k.rows (tables_in d.trees)) rows.items) same
+      (lists k each begun mid (subst HasTables (sym same) was) rows.items (subst (λ t. Shown t [] begun mid rows.items) is h))
+  asked_listed sql old begun mid (Err e) is same was h = tt
 
 one_number : (xs : List RegisterRow) (n : ℤ) → map shows_register xs ≡ shows_register (numbered n) ∷ [] → xs ≡ numbered n ∷ []
 one_number [] n e = absurd cc

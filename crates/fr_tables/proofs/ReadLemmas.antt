@@ -1,5 +1,5 @@
 -- What a SELECT over one table shows.
-use Rattle.std.proofs.Common.{◌≡◌, ℕ, pos, negsuc, List, [], ◌∷◌, ◌++◌, map, filter, flat_map, cond, Bool, true, false, None, is_lt, get_or, ◌+◌, Ordering, refl, inl, inr, sym, ap, ap₂, subst, ◌∙◌}
+use Rattle.std.proofs.Common.{◌≡◌, ◌-◌, ◌^◌, nat_le, slice_get, unwrap_or, if◌then◌else◌, ℕ, pos, negsuc, List, [], ◌∷◌, ◌++◌, map, filter, flat_map, cond, Bool, true, false, None, is_lt, get_or, ◌+◌, Ordering, refl, inl, inr, sym, ap, ap₂, subst, ◌∙◌}
 use Rattle.std.specs.List.{list_all, AllByRecursion}
 use Rattle.std.specs.List.Sorted.{IsPermutation, IsSorted}
 use Rattle.std.proofs.lemmas.List.Sorted.{IsPermutation-map}
@@ -79,20 +79,23 @@ module _ (by : List Collation) (tree : ℕ) (tests : List Term) (order : List (T
         shown = a.shown ∙ ap (λ (os : List Output). page q params (map (λ o. o.1) os)) back.2 ∙ map-map _ _ _;
       }
 
+-- a query with no WITH reads the tables as they are
+pub as_they_are : (db : Trees) (tree : ℕ) → overlay db [] tree ≡ db tree
+as_they_are db tree = elim (nat_le (2 ^ 31) tree) as (λ b. unwrap_or (if b then slice_get [] (tree - 2 ^ 31) else None) (db tree) ≡ db tree) [ true ↦ refl | false ↦ refl ]
+
 -- the text is that query
 pub record Reads (schema : Schema) (text : List ℕ) (tree : ℕ) (tests : List Term) (order : List (Term × Key)) (project : List Term) : Type 0 where
   pub names : List (List ℕ)
   pub is : command_of (understood schema text) ≡ Select (record { lets = []; body = scan tree tests order project }) names
   pub unlisted : reads_listing schema text ≡ false
   pub plain : IsPlain (understood schema text)
-  pub stored : (db : Trees) → overlay db [] tree ≡ db tree
 
 pub reads : (schema : Schema) (text : List ℕ) (tree : ℕ) (tests : List Term) (order : List (Term × Key)) (project : List Term) → Reads schema text tree tests order project
     → (params : Row) (old new : State) (rows : List Row) → old.now.schema ≡ schema → Shown text params old new rows
     → {X : Type 0} (store : X → Row) (xs : List X) → old.now.trees tree ≡ map store xs → Scans store xs params tests order project rows
 reads schema text tree tests order project r params old new rows has h store xs is =
     let answers = reads_as text params old new schema has (Select (record { lets = []; body = scan tree tests order project }) r.names) r.is r.plain r.unlisted rows h in
-    scanned [] tree tests order project params store xs (overlay old.now.trees []) rows (r.stored old.now.trees ∙ is) (answers.answer Null)
+    scanned [] tree tests order project params store xs (overlay old.now.trees []) rows (as_they_are old.now.trees tree ∙ is) (answers.answer Null)
 
 -- the rows of a table, by their rowids and their values
 abbrev pub stored_as : {X : Type 0} → (X → Row) → Value × X → Row

@@ -8,7 +8,7 @@ use Rattle.std.proofs.lemmas.Bool.{cases_Bool, not-true}
 use Rattle.sqlite.specs.declared.types.Value.TheVariants.{Null}
 use Rattle.sqlite.specs.Order.{Row, value_cmp}
 use Rattle.sqlite_value.proofs.OrderLemmas.{value_cmp_total}
-use Rattle.sqlite.specs.Tree.{Trees, IsTable, IsAscending, rowid, put_row}
+use Rattle.sqlite.specs.Tree.{IsTable, IsAscending, rowid, put_row}
 use Rattle.sqlite_trees.specs.View.{is_int}
 use Rattle.sqlite_trees.proofs.ListLemmas.{ascending-map, ascending-filter, ascending_weaker, map-map}
 use Rattle.sqlite_trees.proofs.TreeLemmas.{IsTable-put_row}
@@ -45,7 +45,7 @@ use Rattle.sqlite_rules.specs.Action.{Writes}
 use Rattle.sqlite_rules.proofs.PlaceLemmas.{given}
 use Rattle.fr_tables.proofs.Written.{IsStill}
 use Rattle.fr_tables.proofs.RunLemmas.{updates}
-use Rattle.fr_tables.proofs.ReadLemmas.{scan, scanned}
+use Rattle.fr_tables.proofs.ReadLemmas.{scan, scanned, as_they_are}
 use Rattle.fr_tables.proofs.DeleteLemmas.{erased, has_permuted, mapped_from}
 
 never_both : (a b : Row) → value_cmp (rowid a) (rowid b) ≡ Less → value_cmp (rowid b) (rowid a) ≡ Less → ⊥
@@ -133,13 +133,9 @@ replaced p f rows found up keyed same_id same fresh =
 -- ---- the statement
 
 -- the text gives the rows that pass these tests other columns; the query shows the rowid twice, and then the columns
-pub record UpdatesBy (schema : Schema) (table : Table) (text : List ℕ) (tests : List Term) (columns : List Term) : Type 0 where
-  pub at : ℕ
+pub record UpdatesBy (schema : Schema) (table : Table) (at : ℕ) (text : List ℕ) (tests : List Term) (columns : List Term) : Type 0 where
   pub is : command_of (understood schema text) ≡ Update at (record { lets = []; body = scan table.tree tests [] (col 1 0 ∷ col 1 0 ∷ columns) })
   pub plain : IsPlain (understood schema text)
-  pub place : slice_get schema.tables at ≡ Some table
-  pub stored : (db : Trees) → overlay db [] table.tree ≡ db table.tree
-  pub idle : (olds news : List Row) → length olds ≡ length news → works schema Enforced 0 table.tree olds news ≡ []
 
 -- the row that is put in place of the row
 abbrev pub renewed : Table → List Term → Row → Row → Row
@@ -156,15 +152,17 @@ pub record HasUpdated (schema : Schema) (table : Table) (tests : List Term) (col
   pub shown : Shows old new new.now (if old.in_transaction then old.committed else new.now) old.in_transaction
   pub refers : Refers All schema new.now.trees
 
-pub updated : (schema : Schema) (table : Table) (text : List ℕ) (tests columns : List Term) → UpdatesBy schema table text tests columns → (params : Row) (old new : State) (count : ℕ) → old.now.schema ≡ schema
+pub updated : (schema : Schema) (table : Table) (at : ℕ) → slice_get schema.tables at ≡ Some table
+    → ((olds news : List Row) → length olds ≡ length news → works schema Enforced 0 table.tree olds news ≡ [])
+    → (text : List ℕ) (tests columns : List Term) → UpdatesBy schema table at text tests columns → (params : Row) (old new : State) (count : ℕ) → old.now.schema ≡ schema
     → Executes text params old new (Ok count) → HasUpdated schema table tests columns params old new
-updated schema table text tests columns d params old new count has h =
+updated schema table at place idle text tests columns d params old new count has h =
     let db = old.now.trees in
     let q : Program = record { lets = []; body = scan table.tree tests [] (col 1 0 ∷ col 1 0 ∷ columns) } in
-    let ran = updates schema table text params d.plain old new count has h d.at d.place q d.is in
+    let ran = updates schema table text params d.plain old new count has h at place q d.is in
     let queried = went ran.wrote in
     let edited = went queried.2 in
-    let scans = scanned [] table.tree tests [] (col 1 0 ∷ col 1 0 ∷ columns) params (λ (r : Row). r) (db table.tree) (overlay db []) queried.0 (d.stored db ∙ sym (map-id (db table.tree))) (queried.1.answer Null) in
+    let scans = scanned [] table.tree tests [] (col 1 0 ∷ col 1 0 ∷ columns) params (λ (r : Row). r) (db table.tree) (overlay db []) queried.0 (as_they_are db table.tree ∙ sym (map-id (db table.tree))) (queried.1.answer Null) in
     let found = scans.found in
     let ids : ids_of queried.0 ≡ map (λ r. id_in (rowid r)) found = ap ids_of scans.shown ∙ map-map _ _ found in
     let news : (rows : List Row) → numbered Given rows (map (λ s. cast_row table (drop 1 s)) queried.0) ≡ map (renewed table columns params) found =
@@ -174,7 +172,7 @@ updated schema table text tests columns d params old new count has h =
     let trees : ran.written.trees ≡ edited.0 = ap (λ (w : Written). w.trees) (same_value edited.2) in
     let now : new.now.trees ≡ edited.0 = ap (λ (d : Database). d.trees) ran.now ∙ trees in
     let writes : Writes schema Enforced db (edit_by table columns params found) (Ok new.now.trees) = subst₂ (λ e t. Writes schema Enforced db e (Ok t)) edit (sym now) edited.1 in
-    let none = d.idle (taken_by db (edit_by table columns params found)) (map (renewed table columns params) found) (simp length-map) in
+    let none = idle (taken_by db (edit_by table columns params found)) (map (renewed table columns params) found) (simp length-map) in
     record {
       still = ran.still;
       found = found;

@@ -1,10 +1,7 @@
 use Rattle.std.proofs.Common.{rules, ◌≡◌, [], arith, ap, true, refl, sym, ◌∙◌, subst, IsTrue}
 use Rattle.sqlite.specs.State.{HasCleanDisk}
 use Rattle.sqlite.specs.Held.{state}
-use Rattle.fr_tables.specs.Rows.{of_cluster2, of_supplier, of_variant, cluster2_in, supplier_in, variant_in}
-use Rattle.fr_tables.specs.Statements.{shows_cluster2, shows_supplier, shows_variant, every, any_order, suppliers_cmp, variants_cmp}
-use Rattle.fr_tables.specs.Schema.{layout_of}
-use Rattle.fr_tables.specs.SchemaNumbers.{cluster_text, suppliers_text, variants_text}
+use Rattle.fr_tables.proofs.TheTables.{cluster2_table, supplier_table, variant_table}
 use Rattle.fr_tables.proofs.Cluster2Lemmas as cluster2
 use Rattle.fr_tables.proofs.SupplierLemmas as suppliers
 use Rattle.fr_tables.proofs.VariantLemmas as variants
@@ -21,7 +18,6 @@ returns g c =
     let now : begun.now ≡ old.now = ap (λ h. (state g.S.Store h).now) c.transaction-tx.ensures.begun in
     let late : HasCleanDisk (state g.S.Store c.conn-1.given.0) → HasCleanDisk (state g.S.Store end) = subst (λ h. HasCleanDisk (state g.S.Store h)) (sym same) in
     let here : HasCleanDisk (state g.S.Store c.conn-1.given.0) → HasCleanDisk mid = λ clean. let ended = late clean in omega (arith, c.drop-tx.ensures.survives.clean) in
-    let layout = layout_of old.now.trees in
     let sql = c.args.sql.now in
     let found = c.query_all.result in
     record {
@@ -30,15 +26,9 @@ returns g c =
         told = λ clean text was. asked_told sql old begun mid found text now was (c.query_all.ensures.err (here clean));
         answer = λ clean. asked_answers sql old begun mid found now (c.query_all.ensures.ok (here clean));
         unread = λ clean. asked_unread sql old begun mid found now (c.query_all.ensures.err (here clean));
-        cluster = λ clean text was.
-            asked_listed layout of_cluster2 shows_cluster2 cluster2_in every any_order layout.cluster2 cluster_text (cluster2.its_row layout was.behind) sql old begun mid found
-            text now was.schema was.cluster2 (c.query_all.ensures.ok (here clean));
-        suppliers = λ clean text was.
-            asked_listed layout of_supplier shows_supplier supplier_in every suppliers_cmp 2 suppliers_text (suppliers.by_name layout) sql old begun mid found
-            text now was.schema was.suppliers (c.query_all.ensures.ok (here clean));
-        variants = λ clean text was.
-            asked_listed layout of_variant shows_variant variant_in every variants_cmp 7 variants_text (variants.by_order layout) sql old begun mid found
-            text now was.schema was.variants (c.query_all.ensures.ok (here clean));
+        cluster = λ clean text was. asked_listed cluster2_table cluster2.its_row sql old begun mid found text now was (c.query_all.ensures.ok (here clean));
+        suppliers = λ clean text was. asked_listed supplier_table suppliers.by_name sql old begun mid found text now was (c.query_all.ensures.ok (here clean));
+        variants = λ clean text was. asked_listed variant_table variants.by_order sql old begun mid found text now was (c.query_all.ensures.ok (here clean));
       };
       same = λ clean up.
           let up_late : IsTrue (state g.S.Store end).is_open = subst (λ h. IsTrue (state g.S.Store h).is_open) (sym same) up in

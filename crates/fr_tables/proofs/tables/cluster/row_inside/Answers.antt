@@ -1,15 +1,10 @@
-use Rattle.sqlite.specs.Held.{state}
-use Rattle.fr_tables.specs.Rows.{of_cluster, cluster_in}
-use Rattle.fr_tables.specs.Statements.{any_order, shows_cluster}
-use Rattle.fr_tables.proofs.ClusterLemmas.{its_row, select_text}
-use Rattle.fr_tables.proofs.FindLemmas.{finds_inside}
+use Rattle.std.proofs.Common.{refl}
+use Rattle.fr_tables.proofs.TheTables.{cluster_table}
+use Rattle.fr_tables.proofs.ClusterLemmas.{its_row}
+use Rattle.fr_tables.proofs.FindLemmas.{asks_inside}
 use Rattle.fr_tables.proofs.tables.cluster.row_inside.Goals as goal
 
 pub returns : goal.returns
-returns g c = record {
-  same_reference = c.query_all.ensures.same_reference;
-  does = λ clean was.
-      finds_inside of_cluster shows_cluster cluster_in _ any_order 1 select_text _ its_row (state g.S.Store c.args.tx.now.conn.now) (state g.S.Store c.query_all.new.self.conn.now) was was.cluster c.query_all.result
-      (c.query_all.ensures.ok clean) (c.query_all.ensures.err clean);
-  survives = c.query_all.ensures.survives;
-}
+returns g c =
+    asks_inside cluster_table its_row g.S.Store c.args.tx.now c.query_all.new.self c.query_all.result _ c.query_all.ensures.same_reference c.query_all.ensures.ok c.query_all.ensures.err
+    c.query_all.ensures.survives refl

@@ -1,12 +1,9 @@
-use Rattle.sqlite.specs.Held.{state}
+use Rattle.std.proofs.Common.{refl}
 use Rattle.fr_tables.proofs.SignalLemmas.{copies_one}
+use Rattle.fr_tables.proofs.TableOf.{runs}
 use Rattle.fr_tables.proofs.tables.signals.copy_one.Goals as goal
 
 pub returns : goal.returns
-returns g c = record {
-  same_reference = c.execute.ensures.same_reference;
-  does = λ clean inside was.
-      copies_one c.args.from.now c.args.to.now (state g.S.Store c.args.tx.now.conn.now) (state g.S.Store c.execute.new.self.conn.now) c.execute.result was
-      (rw (c.params-to_sql.ensures, c.params-to_sql-2.ensures, c.params-to_sql-3.ensures, c.params-to_sql-4.ensures, c.as_str.ensures.value, c.as_str-2.ensures.value, c.as_str-3.ensures.value, c.as_str-4.ensures.value) at (c.execute.ensures.runs clean inside));
-  survives = c.execute.ensures.survives;
-}
+returns g c =
+    runs (copies_one c.args.from.now c.args.to.now) g.S.Store c.args.tx.now c.execute.new.self c.execute.result _ c.execute.ensures.same_reference c.execute.ensures.runs c.execute.ensures.survives
+    (rw (c.params-to_sql.ensures, c.params-to_sql-2.ensures, c.params-to_sql-3.ensures, c.params-to_sql-4.ensures, c.as_str.ensures.value, c.as_str-2.ensures.value, c.as_str-3.ensures.value, c.as_str-4.ensures.value) refl)

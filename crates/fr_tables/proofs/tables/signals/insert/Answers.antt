@@ -1,13 +1,10 @@
-use Rattle.sqlite.specs.Held.{state}
+use Rattle.std.proofs.Common.{refl}
 use Rattle.fr_tables.specs.Statements.{signal_row}
 use Rattle.fr_tables.proofs.SignalLemmas.{inserts}
+use Rattle.fr_tables.proofs.TableOf.{runs}
 use Rattle.fr_tables.proofs.tables.signals.insert.Goals as goal
 
 pub returns : goal.returns
-returns g c = record {
-  same_reference = c.execute.ensures.same_reference;
-  does = λ clean inside was.
-      inserts (signal_row c.args.key.now c.args.signal.now) (state g.S.Store c.args.tx.now.conn.now) (state g.S.Store c.execute.new.self.conn.now) c.execute.result was
-      (rw (c.params-to_sql.ensures, c.params-to_sql-2.ensures, c.params-to_sql-3.ensures, c.params-to_sql-4.ensures, c.params-to_sql-5.ensures, c.params-to_sql-6.ensures, c.params-to_sql-7.ensures, c.as_str.ensures.value, c.as_str-2.ensures.value, c.as_str-3.ensures.value, c.as_str-4.ensures.value, c.name.ensures, c.start.ensures, c.length.ensures.value, c.big.ensures, c.order.ensures) at (c.execute.ensures.runs clean inside));
-  survives = c.execute.ensures.survives;
-}
+returns g c =
+    runs (inserts (signal_row c.args.key.now c.args.signal.now)) g.S.Store c.args.tx.now c.execute.new.self c.execute.result _ c.execute.ensures.same_reference c.execute.ensures.runs c.execute.ensures.survives
+    (rw (c.params-to_sql.ensures, c.params-to_sql-2.ensures, c.params-to_sql-3.ensures, c.params-to_sql-4.ensures, c.params-to_sql-5.ensures, c.params-to_sql-6.ensures, c.params-to_sql-7.ensures, c.as_str.ensures.value, c.as_str-2.ensures.value, c.as_str-3.ensures.value, c.as_str-4.ensures.value, c.name.ensures, c.start.ensures, c.length.ensures.value, c.big.ensures, c.order.ensures) refl)

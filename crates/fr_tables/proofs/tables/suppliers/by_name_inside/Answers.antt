@@ -1,15 +1,10 @@
-use Rattle.sqlite.specs.Held.{state}
-use Rattle.fr_tables.specs.Rows.{of_supplier, supplier_in}
-use Rattle.fr_tables.specs.Statements.{suppliers_cmp, shows_supplier}
-use Rattle.fr_tables.proofs.SupplierLemmas.{by_name, select_text}
-use Rattle.fr_tables.proofs.FindLemmas.{finds_inside}
+use Rattle.std.proofs.Common.{refl}
+use Rattle.fr_tables.proofs.TheTables.{supplier_table}
+use Rattle.fr_tables.proofs.SupplierLemmas.{by_name}
+use Rattle.fr_tables.proofs.FindLemmas.{asks_inside}
 use Rattle.fr_tables.proofs.tables.suppliers.by_name_inside.Goals as goal
 
 pub returns : goal.returns
-returns g c = record {
-  same_reference = c.query_all.ensures.same_reference;
-  does = λ clean was.
-      finds_inside of_supplier shows_supplier supplier_in _ suppliers_cmp 2 select_text _ by_name (state g.S.Store c.args.tx.now.conn.now) (state g.S.Store c.query_all.new.self.conn.now) was was.suppliers c.query_all.result
-      (c.query_all.ensures.ok clean) (c.query_all.ensures.err clean);
-  survives = c.query_all.ensures.survives;
-}
+returns g c =
+    asks_inside supplier_table by_name g.S.Store c.args.tx.now c.query_all.new.self c.query_all.result _ c.query_all.ensures.same_reference c.query_all.ensures.ok c.query_all.ensures.err
+    c.query_all.ensures.survives refl
