@@ -1,5 +1,5 @@
 -- What the statements on the row of `cluster2` do.
-use Rattle.std.proofs.Common.{◌<◌, None, Some, ◌≡◌, ◌⊎◌, ◌==◌, false, inl, inr, ℕ, Option, arith, sym, subst, List, [], ◌∷◌, codes, refl}
+use Rattle.std.proofs.Common.{◌<◌, None, Some, ◌≡◌, ◌==◌, false, inl, inr, ℕ, Option, arith, sym, subst, subst₂, List, [], ◌∷◌, codes, refl}
 use Rattle.std.proofs.lemmas.Bool.{cases_Bool}
 use Rattle.std.proofs.lemmas.Bool.Decides.{nat_tests}
 use Rattle.sqlite.specs.declared.types.Value.TheVariants.{Null, Int, Text}
@@ -57,100 +57,65 @@ its_names = codes "static_slots" ∷ codes "slot_macroticks" ∷ codes "dynamic_
 abbrev ReadsAt : ℕ → Option ℕ → Option ℕ → Option ℕ → Type 0
 ReadsAt tree index before behind = Reads (register_schema (record { cluster2 = tree; index = index; before = before; behind = behind })) select_text tree [] [] its_columns
 
--- with no table of ANALYZE before it
-first : (index behind : Option ℕ) → ReadsAt 21 index None behind
-unfolding understood everything
-first index behind = record { names = its_names; is = refl; unlisted = refl; plain = (refl, refl) }
+-- where it may stand
+data Place : Type 0 where
+  first : Place
+  second : Place
+  third : Place
+  fourth : Place
 
-second : (index behind : Option ℕ) → ReadsAt 22 index None behind
-unfolding understood everything
-second index behind = record { names = its_names; is = refl; unlisted = refl; plain = (refl, refl) }
-
-third : (index behind : Option ℕ) → ReadsAt 23 index None behind
-unfolding understood everything
-third index behind = record { names = its_names; is = refl; unlisted = refl; plain = (refl, refl) }
-
-fourth : (index behind : Option ℕ) → ReadsAt 24 index None behind
-unfolding understood everything
-fourth index behind = record { names = its_names; is = refl; unlisted = refl; plain = (refl, refl) }
-
--- with one in a tree before it
-second_behind_first : (index behind : Option ℕ) → ReadsAt 22 index (Some 21) behind
-unfolding understood everything
-second_behind_first index behind = record { names = its_names; is = refl; unlisted = refl; plain = (refl, refl) }
-
-third_behind_first : (index behind : Option ℕ) → ReadsAt 23 index (Some 21) behind
-unfolding understood everything
-third_behind_first index behind = record { names = its_names; is = refl; unlisted = refl; plain = (refl, refl) }
-
-third_behind_second : (index behind : Option ℕ) → ReadsAt 23 index (Some 22) behind
-unfolding understood everything
-third_behind_second index behind = record { names = its_names; is = refl; unlisted = refl; plain = (refl, refl) }
-
-fourth_behind_first : (index behind : Option ℕ) → ReadsAt 24 index (Some 21) behind
-unfolding understood everything
-fourth_behind_first index behind = record { names = its_names; is = refl; unlisted = refl; plain = (refl, refl) }
-
-fourth_behind_second : (index behind : Option ℕ) → ReadsAt 24 index (Some 22) behind
-unfolding understood everything
-fourth_behind_second index behind = record { names = its_names; is = refl; unlisted = refl; plain = (refl, refl) }
-
-fourth_behind_third : (index behind : Option ℕ) → ReadsAt 24 index (Some 23) behind
-unfolding understood everything
-fourth_behind_third index behind = record { names = its_names; is = refl; unlisted = refl; plain = (refl, refl) }
+abbrev tree_at : Place → ℕ
+tree_at first = 21
+tree_at second = 22
+tree_at third = 23
+tree_at fourth = 24
 
 fourth_left : (tree : ℕ) → IsNear tree → (tree == 21) ≡ false → (tree == 22) ≡ false → (tree == 23) ≡ false → tree ≡ 24
 fourth_left tree (low, high) a b c = grind (arith, nat_tests)
 
-one_of_four : (tree : ℕ) → IsNear tree → (tree ≡ 21) ⊎ ((tree ≡ 22) ⊎ ((tree ≡ 23) ⊎ (tree ≡ 24)))
-one_of_four tree behind = elim (cases_Bool (tree == 21)) [
-  | inl is ↦ inl (grind (arith, nat_tests))
+place_of : (tree : ℕ) → IsNear tree → (p : Place) × (tree ≡ tree_at p)
+place_of tree near = elim (cases_Bool (tree == 21)) [
+  | inl is ↦ (first, grind (arith, nat_tests))
   | inr past ↦ elim (cases_Bool (tree == 22)) [
-    | inl is ↦ inr (inl (grind (arith, nat_tests)))
-    | inr further ↦ elim (cases_Bool (tree == 23)) [ inl is ↦ inr (inr (inl (grind (arith, nat_tests)))) | inr last ↦ inr (inr (inr (fourth_left tree behind past further last))) ]
+    | inl is ↦ (second, grind (arith, nat_tests))
+    | inr further ↦ elim (cases_Bool (tree == 23)) [ inl is ↦ (third, grind (arith, nat_tests)) | inr last ↦ (fourth, fourth_left tree near past further last) ]
   ]
 ]
 
-first_behind : (index behind : Option ℕ) (at : ℕ) → 20 < at → at < 21 → ReadsAt 21 index (Some at) behind
-first_behind index behind at low high = absurd (omega (arith, low, high))
+-- with no table of ANALYZE before it
+reads_first : (p : Place) (index behind : Option ℕ) → ReadsAt (tree_at p) index None behind
+unfolding understood everything
+reads_first first index behind = record { names = its_names; is = refl; unlisted = refl; plain = (refl, refl) }
+reads_first second index behind = record { names = its_names; is = refl; unlisted = refl; plain = (refl, refl) }
+reads_first third index behind = record { names = its_names; is = refl; unlisted = refl; plain = (refl, refl) }
+reads_first fourth index behind = record { names = its_names; is = refl; unlisted = refl; plain = (refl, refl) }
 
-second_behind : (index behind : Option ℕ) (at : ℕ) → 20 < at → at < 22 → ReadsAt 22 index (Some at) behind
-second_behind index behind at low high = elim (one_of_four at (low, omega (arith, high))) [
-  | inl is ↦ subst (λ a. ReadsAt 22 index (Some a) behind) (sym is) (second_behind_first index behind)
-  | inr (inl is) ↦ absurd (omega (arith, is, high))
-  | inr (inr (inl is)) ↦ absurd (omega (arith, is, high))
-  | inr (inr (inr is)) ↦ absurd (omega (arith, is, high))
-]
-
-third_behind : (index behind : Option ℕ) (at : ℕ) → 20 < at → at < 23 → ReadsAt 23 index (Some at) behind
-third_behind index behind at low high = elim (one_of_four at (low, omega (arith, high))) [
-  | inl is ↦ subst (λ a. ReadsAt 23 index (Some a) behind) (sym is) (third_behind_first index behind)
-  | inr (inl is) ↦ subst (λ a. ReadsAt 23 index (Some a) behind) (sym is) (third_behind_second index behind)
-  | inr (inr (inl is)) ↦ absurd (omega (arith, is, high))
-  | inr (inr (inr is)) ↦ absurd (omega (arith, is, high))
-]
-
-fourth_behind : (index behind : Option ℕ) (at : ℕ) → 20 < at → at < 24 → ReadsAt 24 index (Some at) behind
-fourth_behind index behind at low high = elim (one_of_four at (low, omega (arith, high))) [
-  | inl is ↦ subst (λ a. ReadsAt 24 index (Some a) behind) (sym is) (fourth_behind_first index behind)
-  | inr (inl is) ↦ subst (λ a. ReadsAt 24 index (Some a) behind) (sym is) (fourth_behind_second index behind)
-  | inr (inr (inl is)) ↦ subst (λ a. ReadsAt 24 index (Some a) behind) (sym is) (fourth_behind_third index behind)
-  | inr (inr (inr is)) ↦ absurd (omega (arith, is, high))
-]
+-- with that table before it
+reads_behind : (p before : Place) → tree_at before < tree_at p → (index behind : Option ℕ) → ReadsAt (tree_at p) index (Some (tree_at before)) behind
+unfolding understood everything
+reads_behind first first low index behind = absurd (omega (arith, low))
+reads_behind first second low index behind = absurd (omega (arith, low))
+reads_behind first third low index behind = absurd (omega (arith, low))
+reads_behind first fourth low index behind = absurd (omega (arith, low))
+reads_behind second first low index behind = record { names = its_names; is = refl; unlisted = refl; plain = (refl, refl) }
+reads_behind second second low index behind = absurd (omega (arith, low))
+reads_behind second third low index behind = absurd (omega (arith, low))
+reads_behind second fourth low index behind = absurd (omega (arith, low))
+reads_behind third first low index behind = record { names = its_names; is = refl; unlisted = refl; plain = (refl, refl) }
+reads_behind third second low index behind = record { names = its_names; is = refl; unlisted = refl; plain = (refl, refl) }
+reads_behind third third low index behind = absurd (omega (arith, low))
+reads_behind third fourth low index behind = absurd (omega (arith, low))
+reads_behind fourth first low index behind = record { names = its_names; is = refl; unlisted = refl; plain = (refl, refl) }
+reads_behind fourth second low index behind = record { names = its_names; is = refl; unlisted = refl; plain = (refl, refl) }
+reads_behind fourth third low index behind = record { names = its_names; is = refl; unlisted = refl; plain = (refl, refl) }
+reads_behind fourth fourth low index behind = absurd (omega (arith, low))
 
 reads_by : (tree : ℕ) (index before behind : Option ℕ) → IsBehind (record { cluster2 = tree; index = index; before = before; behind = behind }) → ReadsAt tree index before behind
-reads_by tree index None behind near = elim (one_of_four tree near.0) [
-  | inl is ↦ subst (λ t. ReadsAt t index None behind) (sym is) (first index behind)
-  | inr (inl is) ↦ subst (λ t. ReadsAt t index None behind) (sym is) (second index behind)
-  | inr (inr (inl is)) ↦ subst (λ t. ReadsAt t index None behind) (sym is) (third index behind)
-  | inr (inr (inr is)) ↦ subst (λ t. ReadsAt t index None behind) (sym is) (fourth index behind)
-]
-reads_by tree index (Some at) behind near = elim (one_of_four tree near.0) [
-  | inl is ↦ subst (λ t. ReadsAt t index (Some at) behind) (sym is) (first_behind index behind at near.1.0 (subst (λ t. at < t) is near.1.1))
-  | inr (inl is) ↦ subst (λ t. ReadsAt t index (Some at) behind) (sym is) (second_behind index behind at near.1.0 (subst (λ t. at < t) is near.1.1))
-  | inr (inr (inl is)) ↦ subst (λ t. ReadsAt t index (Some at) behind) (sym is) (third_behind index behind at near.1.0 (subst (λ t. at < t) is near.1.1))
-  | inr (inr (inr is)) ↦ subst (λ t. ReadsAt t index (Some at) behind) (sym is) (fourth_behind index behind at near.1.0 (subst (λ t. at < t) is near.1.1))
-]
+reads_by tree index None behind near = let p = place_of tree near.0 in subst (λ t. ReadsAt t index None behind) (sym p.1) (reads_first p.0 index behind)
+reads_by tree index (Some at) behind near =
+    let p = place_of tree near.0 in
+    let q = place_of at (near.1.0, omega (arith, near.0.1, near.1.1)) in
+    subst₂ (λ t a. ReadsAt t index (Some a) behind) (sym p.1) (sym q.1) (reads_behind p.0 q.0 (subst₂ (λ a t. a < t) q.1 p.1 near.1.1) index behind)
 
 pub its_row : Selects cluster2_table shows_cluster2 (every) any_order select_text ([])
 unfolding understood everything
