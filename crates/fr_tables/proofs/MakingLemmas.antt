@@ -11,7 +11,10 @@ use Rattle.sqlite.specs.Schema.{Schema}
 use Rattle.sqlite.specs.Effect.{Database, IsDatabase}
 use Rattle.sqlite_catalog.specs.Listing.{IsSound}
 use Rattle.sqlite.specs.Listing.{understood}
-use Rattle.sqlite.specs.State.{State, mode_of, Shows, Writes, Executes, ExecutesInside}
+use Rattle.sqlite.specs.Held.{state}
+use Rattle.sqlite.specs.declared.transaction.Transaction.{Transaction}
+use Rattle.sqlite_trees.specs.declared.store.Store.{Ghosts}
+use Rattle.sqlite.specs.State.{State, mode_of, Shows, Writes, Executes, ExecutesInside, HasCleanDisk, Survives}
 use Rattle.sqlite.specs.declared.error.Error.{Error}
 use Rattle.sqlite.proofs.Callers.{IsPlain, command_of, statement_of, runs_as}
 use Rattle.sqlite_tied.specs.Compute.{everything}
@@ -22,8 +25,8 @@ use Rattle.sqlite_schema.specs.declared.schema.Index.{Index}
 use Rattle.sqlite.specs.Order.{Row}
 use Rattle.fr_tables.specs.Tables.{HasOldTables, AreKept, old_tables_in}
 use Rattle.fr_tables.specs.Rows.{of_register, of_cluster, of_supplier, of_node, of_variant, of_grant, of_frame, of_placement, of_signal, of_import, of_dropped, of_cluster2, register_in, cluster_in, supplier_in, node_in, variant_in, grant_in, frame_in, placement_in, signal_in, import_in, dropped_in, cluster2_in}
-use Rattle.fr_tables.specs.Changes.{Stays}
-use Rattle.fr_tables.specs.Making.{IsFresh, Enlarges, IsOldMade, IsRenewed, no_rows}
+use Rattle.fr_tables.specs.Changes.{Stays, Runs}
+use Rattle.fr_tables.specs.Making.{IsFresh, Enlarges, IsOldMade, IsRenewed, no_rows, MakesTable}
 use Rattle.fr_tables.proofs.Steps.{went, same_value}
 use Rattle.fr_tables.proofs.LayoutLemmas.{layout_listed, old_listed}
 use Rattle.fr_tables.proofs.RunLemmas.{stays_inside}
@@ -69,7 +72,7 @@ still_empty (t ∷ ts) db next empty kept = (kept.0 ∙ empty.0, still_empty ts 
 
 module _ (count others count_next others_next : ℕ) (table : ℕ → Table) (text : List ℕ) (d : Defines (schema_of count others) (schema_of count_next others_next) (table 0) text)
     (last : take count_next all_tables ≡ take count all_tables ++ table (next_tree (schema_of count others)) ∷ []) (tree : (table (next_tree (schema_of count others))).tree ≡ next_tree (schema_of count others)) where
-  pub makes : (old new : State) (r : Result ℕ Error) → IsTrue old.in_transaction → IsFresh count others old.now → ExecutesInside 0 text [] old new r
+  makes : (old new : State) (r : Result ℕ Error) → IsTrue old.in_transaction → IsFresh count others old.now → ExecutesInside 0 text [] old new r
       → MatchResult r (λ _. Enlarges count_next others_next old new) (λ _. Stays old new)
   makes old new (Err e) inside was h = stays_inside text [] old new e h
   makes old new (Ok n) inside was h =
@@ -82,6 +85,16 @@ module _ (count others count_next others_next : ℕ) (table : ℕ → Table) (te
         };
         shown = subst (λ b. Shows old new new.now old.committed b) (sym inside) h.1;
       }
+
+  -- a call inside a transaction that runs the text
+  pub makes_table : {S : Type 0} (g : Ghosts S) (old new : Transaction S) (r : Result ℕ Error) → new.conn.ghost_name ≡ old.conn.ghost_name
+      → (HasCleanDisk (state g new.conn.now) → IsTrue (state g old.conn.now).in_transaction → ExecutesInside 0 text [] (state g old.conn.now) (state g new.conn.now) r)
+      → Survives (state g old.conn.now) (state g new.conn.now) (λ _. ⊥) → Runs g (MakesTable count others count_next others_next) old new r
+  makes_table g old new r same ran survives = record {
+    same_reference = same;
+    does = λ clean inside was. makes (state g old.conn.now) (state g new.conn.now) r inside was (ran clean inside);
+    survives = survives;
+  }
 
 pub register_is : Defines (schema_of 0 0) (schema_of 1 0) (register_at 0) register_text
 unfolding understood everything

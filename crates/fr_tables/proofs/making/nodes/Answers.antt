@@ -1,14 +1,10 @@
 use Rattle.std.proofs.Common.{refl}
-use Rattle.sqlite.specs.Held.{state}
 use Rattle.fr_tables.specs.Schema.{nodes_at}
 use Rattle.fr_tables.specs.SchemaText.{nodes_text}
-use Rattle.fr_tables.proofs.MakingLemmas.{makes, nodes_is}
+use Rattle.fr_tables.proofs.MakingLemmas.{makes_table, nodes_is}
 use Rattle.fr_tables.proofs.making.nodes.Goals as goal
 
 pub returns : goal.returns
-returns g c = record {
-  same_reference = c.execute.ensures.same_reference;
-  does = λ clean inside was.
-      makes 3 2 4 3 nodes_at nodes_text nodes_is refl refl (state g.S.Store c.args.tx.now.conn.now) (state g.S.Store c.execute.new.self.conn.now) c.execute.result inside was (c.execute.ensures.runs clean inside);
-  survives = c.execute.ensures.survives;
-}
+returns g c =
+    makes_table 3 2 4 3 nodes_at nodes_text nodes_is refl refl g.S.Store c.args.tx.now c.execute.new.self c.execute.result c.execute.ensures.same_reference
+    c.execute.ensures.runs c.execute.ensures.survives

@@ -1,14 +1,10 @@
 use Rattle.std.proofs.Common.{refl}
-use Rattle.sqlite.specs.Held.{state}
 use Rattle.fr_tables.specs.Schema.{placements_at}
 use Rattle.fr_tables.specs.SchemaText.{placements_text}
-use Rattle.fr_tables.proofs.MakingLemmas.{makes, placements_is}
+use Rattle.fr_tables.proofs.MakingLemmas.{makes_table, placements_is}
 use Rattle.fr_tables.proofs.making.placements.Goals as goal
 
 pub returns : goal.returns
-returns g c = record {
-  same_reference = c.execute.ensures.same_reference;
-  does = λ clean inside was.
-      makes 7 6 8 7 placements_at placements_text placements_is refl refl (state g.S.Store c.args.tx.now.conn.now) (state g.S.Store c.execute.new.self.conn.now) c.execute.result inside was (c.execute.ensures.runs clean inside);
-  survives = c.execute.ensures.survives;
-}
+returns g c =
+    makes_table 7 6 8 7 placements_at placements_text placements_is refl refl g.S.Store c.args.tx.now c.execute.new.self c.execute.result c.execute.ensures.same_reference
+    c.execute.ensures.runs c.execute.ensures.survives
