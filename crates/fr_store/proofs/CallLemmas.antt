@@ -120,13 +120,13 @@ edit_of_frame g v s f key is what old new r h = record {
 }
 
 -- a statement that changes a frame after the frame was made the variant's own
-pub own_then : {S : Type 0} (g : Ghosts S) (change : Tables → Tables) (v s f : Name) (what : FrameChange) (old mid new : Transaction S) (ran : Result ℕ Error) (r : Result ⊤ StoreFault) {x : ⊤}
+pub own_then : {S : Type 0} {g : Ghosts S} (change : Tables → Tables) (v s f : Name) (what : FrameChange) {old mid new : Transaction S} {ran : Result ℕ Error} (r : Result ⊤ StoreFault) {x : ⊤}
     → Edits g (MakesOwn (key_of v s f)) old mid (Ok x) → Runs g (Makes change) mid new ran → IsDone ran r
     → ((there : Option Frame) → FitsAt there what → (frame : Frame) × (there ≡ Some frame))
     → (Changes change (seen g mid) (seen g new) → (c : Cluster) (b : Book) (x : Variant) (frame : Frame) → Stands (seen g mid) c b → IsOpen b v x → get x.frames (s, f) ≡ Some frame
     → IsTrue (is_own (key_of v s f) (tables_of (seen g mid))) → FitsAt (get x.frames (s, f)) what → IsCounted c.params (OfFrame f what) → Stands (seen g new) c (applied b (Rows (in_rows s v (OfFrame f what)))))
     → Edits g (EditsFrame (key_of v s f) what) old new r
-own_then g change v s f what old mid new ran r own runs done there made = record {
+own_then {g = g} change v s f what {old = old} {mid = mid} {new = new} {ran = ran} r own runs done there made = record {
   same_reference = runs.same_reference ∙ own.same_reference;
   does = λ clean inside c b x stands is fits counted.
       let clean_mid : HasCleanDisk (seen g mid) = omega (arith, runs.survives.clean, clean) in

@@ -1,19 +1,12 @@
-use Rattle.fr_tables.specs.Rows.{key_of}
 use Rattle.fr_tables.specs.Statements.{without_signal}
 use Rattle.fr_base.proofs.SoundTables.{value_of}
 use Rattle.fr_base.specs.declared.request.FrameChange.TheVariants.{DropSignal}
-use Rattle.fr_store.proofs.CallLemmas.{own_then, seen}
+use Rattle.fr_store.proofs.CallLemmas.{own_then}
 use Rattle.fr_store.proofs.FrameEditLemmas.{signal_dropped}
 use Rattle.fr_store.proofs.applying.frames.drop_signal.Goals as goal
 
 pub returns : goal.returns
 returns g c =
-    let v = c.args.key.now.variant in
-    let s = c.args.key.now.supplier in
-    let f = c.args.key.now.frame in
-    let q = c.args.signal.now in
-    let mid = seen g.S.Store c.make_own.new.tx in
-    let new = seen g.S.Store c.delete.new.tx in
-    own_then g.S.Store (without_signal (key_of v s f) q) v s f (DropSignal q) c.args.tx.now c.make_own.new.tx c.delete.new.tx c.delete.result c.done.result c.in_ok-make_own.ensures c.delete.ensures c.done.ensures
-    (λ there fits. value_of there fits)
-    (λ changed cluster b x frame stands is there own fits counted. signal_dropped v s f mid new cluster b x stands is own frame there q changed)
+    let key = c.args.key.now in
+    own_then (without_signal key c.args.signal.now) key.variant key.supplier key.frame (DropSignal c.args.signal.now) _ c.in_ok-make_own.ensures c.delete.ensures c.done.ensures value_of
+    (λ changed cluster b x frame stands is there own fits counted. signal_dropped key.variant key.supplier key.frame _ _ cluster b x stands is own frame there c.args.signal.now changed)
