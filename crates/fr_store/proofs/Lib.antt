@@ -55,5 +55,6 @@ pub mod StandsForWorked
 pub mod CountedLemmas
 pub mod BeforeLemmas
 pub mod StoredLaws
+pub mod AskedLemmas
 pub mod JoinedLemmas
 pub mod RisingLemmas

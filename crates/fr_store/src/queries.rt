@@ -1,9 +1,9 @@
-//! What a register tells of its rows: nodes, variants, whether one is there, the holder of a slot, imports, and a
+//! What a register tells of its rows: nodes, variants, the holder of a slot, imports, and a
 //! supplier's page.
 
 ghost use Rattle.std.specs.Prelude.{◌≡◌, IfOk, IfSome, option_map};
 ghost use Rattle.fr_base.specs.Book.{own};
-ghost use Rattle.fr_base.specs.Tables.{contains, get, len};
+ghost use Rattle.fr_base.specs.Tables.{get, len};
 ghost use Rattle.fr_world.specs.BookEdits.{variants_in};
 ghost use Rattle.fr_world.specs.ImportLabels.{kept_of};
 ghost use Rattle.fr_world.specs.Pages.{nodes_in};
@@ -22,15 +22,6 @@ use sqlite::Alter;
 use std::alloc::Global;
 
 impl<S: Alter> Store<S> {
-    /// Whether the variant is there. The only refusal is `Unavailable`.
-    pub fn has_variant(&mut self, variant: &Name) -> Result<bool, StoreFault>
-        ensures { OnlyTells S.Store
-            (λ c b has. has ≡ contains b.variants variant.now) self.old self.new result }
-    {
-        let rows = tables::variants::one(&mut self.conn, variant)?;
-        Ok(!rows.is_empty())
-    }
-
     /// The supplier's page of the variant, if the variant is there. It has the supplier's rows of
     /// the book for which the tables stand, if that book's cluster has as many cycles as the config.
     /// The only refusal is `Unavailable`.

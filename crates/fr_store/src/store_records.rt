@@ -11,6 +11,7 @@ ghost use Rattle.fr_store.specs.Settled.{stored_settled};
 use crate::fault::StoreFault;
 use crate::store::Store;
 use fr_base::{Channel, Config, Name, Refusal, Slot, VariantRow};
+use fr_tables::tables;
 use fr_world::{Edit, KeptImport, Page, Records};
 use sqlite::Alter;
 use std::alloc::Global;
@@ -34,7 +35,10 @@ impl<S: Alter> Records for Store<S> {
 
     fn has_variant(&mut self, variant: Name) -> Result<bool, Refusal> {
         require_ready(self)?;
-        or_unavailable(self.has_variant(&variant))
+        match tables::variants::one(&mut self.conn, &variant) {
+            Ok(rows) => Ok(!rows.is_empty()),
+            Err(_) => Err(Refusal::Unavailable),
+        }
     }
 
     fn page(

@@ -1,22 +1,35 @@
-use Rattle.std.proofs.Common.{◌≡◌, arith}
+use Rattle.std.proofs.Common.{rules, ◌≡◌, ◌==◌, ◌∙◌, Ok, Err, not, length, ap, refl}
 use Rattle.sqlite.specs.Held.{state}
-use Rattle.sqlite.specs.State.{HasCleanDisk}
 use Rattle.fr_base.specs.Tables.{contains}
-use Rattle.fr_store.proofs.StoredLaws.{told}
-use Rattle.fr_store.proofs.CrashLemmas.{reads_on}
+use Rattle.fr_base.specs.declared.refusal.Refusal.TheVariants.{Unavailable}
+use Rattle.fr_tables.specs.Changes.{tables_of}
+use Rattle.fr_store.specs.declared.fault.StoreFault.TheVariants as fault
+use Rattle.fr_store.proofs.ViewLemmas.{has_told}
+use Rattle.fr_store.proofs.AskedLemmas.{only_tells, reads_ready, told_ready}
 use Rattle.fr_store.proofs.store_records.StoreRecords.has_variant.Goals as goal
 
-pub returns-clause-has : goal.returns-clause-has
-returns-clause-has g c clean cluster b stored =
-    let mid = state g.S.Store c.require_ready.new.store.conn in
-    let clean_mid : HasCleanDisk mid = omega (arith, c.has_variant.ensures.spares.clean, clean) in
-    let there = c.in_ok-require_ready.ensures.stands clean_mid cluster b stored in
-    let ready = c.in_ok-require_ready.ensures.is_open clean_mid in
-    told mid (state g.S.Store c.has_variant.new.self.conn) c.require_ready.new.store.config c.has_variant.new.self.config c.has_variant.ensures.config clean cluster b there
-    (λ has. has ≡ contains b.variants c.args.variant) c.has_variant.result c.or_unavailable.result c.or_unavailable.ensures ready c.has_variant.ensures.stays
-    (c.has_variant.ensures.told clean cluster b (there.rows ready).0)
+pub returns-in-Ok-clause-has : goal.returns-in-Ok-clause-has
+returns-in-Ok-clause-has g c =
+    let mid = c.require_ready.new.store in
+    let has = not c.is_empty.result in
+    let none : c.is_empty.result ≡ (length c.in-Ok.rows.items == 0) = search rules in
+    told_ready c.in_ok-require_ready.ensures
+    (only_tells g.S.Store mid c.one.new.conn _ c.one.result c.one.ensures.spares c.one.ensures.does (λ _ b has. has ≡ contains b.variants c.args.variant) (Ok has) tt (λ clean cluster b stands.
+    ap not none ∙ has_told (tables_of (state g.S.Store mid.conn)) cluster.params.cycles b stands.for.rows c.args.variant c.in-Ok.rows.items (c.in-Ok.ensures.does clean stands.has).0))
+    (Ok has) refl
 
-pub returns-clause-reads : goal.returns-clause-reads
-returns-clause-reads g c =
-    reads_on (λ s. state g.S.Store s.conn) (λ s. s.config) _ _ _ c.require_ready.ensures.reads (λ clean. c.in_ok-require_ready.ensures.is_open clean)
-    c.has_variant.ensures.spares c.has_variant.ensures.config c.has_variant.ensures.stays
+pub returns-in-Ok-clause-reads : goal.returns-in-Ok-clause-reads
+returns-in-Ok-clause-reads g c =
+    reads_ready c.in_ok-require_ready.ensures
+    (only_tells g.S.Store c.require_ready.new.store c.one.new.conn _ c.one.result c.one.ensures.spares c.one.ensures.does (λ _ _ has. has ≡ has) (Ok (not c.is_empty.result)) tt (λ _ _ _ _. refl))
+
+pub returns-in-Err-clause-has : goal.returns-in-Err-clause-has
+returns-in-Err-clause-has g c =
+    told_ready c.in_ok-require_ready.ensures
+    (only_tells g.S.Store c.require_ready.new.store c.one.new.conn _ c.one.result c.one.ensures.spares c.one.ensures.does (λ _ b has. has ≡ contains b.variants c.args.variant) (Err fault.Unavailable) refl (λ _ _ _ _. tt))
+    (Err Unavailable) refl
+
+pub returns-in-Err-clause-reads : goal.returns-in-Err-clause-reads
+returns-in-Err-clause-reads g c =
+    reads_ready c.in_ok-require_ready.ensures
+    (only_tells g.S.Store c.require_ready.new.store c.one.new.conn _ c.one.result c.one.ensures.spares c.one.ensures.does (λ _ b has. has ≡ contains b.variants c.args.variant) (Err fault.Unavailable) refl (λ _ _ _ _. tt))

@@ -1,22 +1,14 @@
-use Rattle.std.proofs.Common.{rules, ◌≡◌, ◌∙◌, arith, subst, sym, Err, MatchResult, is_some, option_map}
-use Rattle.sqlite.specs.Held.{state}
-use Rattle.sqlite.specs.State.{HasCleanDisk}
+use Rattle.std.proofs.Common.{rules, ◌≡◌, ◌∙◌, subst, sym, Err, MatchResult, is_some, option_map}
 use Rattle.fr_base.specs.declared.refusal.Refusal.TheVariants.{Unavailable}
 use Rattle.fr_store.specs.Reading.{as_holder, holder_in}
 use Rattle.fr_world.specs.Held.{held_in}
-use Rattle.fr_store.proofs.StoredLaws.{told, held_as}
-use Rattle.fr_store.proofs.CrashLemmas.{reads_on}
+use Rattle.fr_store.proofs.StoredLaws.{held_as}
+use Rattle.fr_store.proofs.AskedLemmas.{reads_ready, told_ready}
 use Rattle.fr_store.proofs.store_records.StoreRecords.is_held.Goals as goal
 
 pub returns-in_err-holder-clause-held : goal.returns-in_err-holder-clause-held
 returns-in_err-holder-clause-held g c clean cluster b stored =
-    let mid = state g.S.Store c.require_ready.new.store.conn in
-    let clean_mid : HasCleanDisk mid = omega (arith, c.holder.ensures.spares.clean, clean) in
-    let there = c.in_ok-require_ready.ensures.stands clean_mid cluster b stored in
-    let ready = c.in_ok-require_ready.ensures.is_open clean_mid in
-    let known = told mid (state g.S.Store c.holder.new.self.conn) c.require_ready.new.store.config c.holder.new.self.config c.holder.ensures.config clean cluster b there
-    (λ found. option_map as_holder found ≡ holder_in b c.args.variant (c.args.slot, c.args.channel)) c.holder.result c.or_unavailable.result c.or_unavailable.ensures ready c.holder.ensures.stays
-    (c.holder.ensures.told clean cluster b (there.rows ready).0) in
+    let known = told_ready c.in_ok-require_ready.ensures c.holder.ensures c.or_unavailable.result c.or_unavailable.ensures clean cluster b stored in
     let why = subst (λ o. MatchResult o (λ found. option_map as_holder found ≡ holder_in b c.args.variant (c.args.slot, c.args.channel)) (λ e. e ≡ Unavailable)) c.in_err-holder.was known.1 in
     let is : c.from_residual-in_err-holder.result ≡ Err c.in_err-holder.field-0.0 = search rules in (
       known.0,
@@ -25,23 +17,13 @@ returns-in_err-holder-clause-held g c clean cluster b stored =
 
 pub returns-clause-held : goal.returns-clause-held
 returns-clause-held g c clean cluster b stored =
-    let mid = state g.S.Store c.require_ready.new.store.conn in
-    let clean_mid : HasCleanDisk mid = omega (arith, c.holder.ensures.spares.clean, clean) in
-    let there = c.in_ok-require_ready.ensures.stands clean_mid cluster b stored in
-    let ready = c.in_ok-require_ready.ensures.is_open clean_mid in
-    let known = told mid (state g.S.Store c.holder.new.self.conn) c.require_ready.new.store.config c.holder.new.self.config c.holder.ensures.config clean cluster b there
-    (λ found. option_map as_holder found ≡ holder_in b c.args.variant (c.args.slot, c.args.channel)) c.holder.result c.or_unavailable.result c.or_unavailable.ensures ready c.holder.ensures.stays
-    (c.holder.ensures.told clean cluster b (there.rows ready).0) in
+    let known = told_ready c.in_ok-require_ready.ensures c.holder.ensures c.or_unavailable.result c.or_unavailable.ensures clean cluster b stored in
     let who = subst (λ o. MatchResult o (λ found. option_map as_holder found ≡ holder_in b c.args.variant (c.args.slot, c.args.channel)) (λ e. e ≡ Unavailable)) c.in_ok-holder.was known.1 in
     let is : c.is_some.result ≡ is_some c.in_ok-holder.holder = search rules in
     (known.0, is ∙ held_as b c.args.variant (c.args.slot, c.args.channel) c.in_ok-holder.holder who)
 
 pub returns-clause-reads : goal.returns-clause-reads
-returns-clause-reads g c =
-    reads_on (λ s. state g.S.Store s.conn) (λ s. s.config) _ _ _ c.require_ready.ensures.reads (λ clean. c.in_ok-require_ready.ensures.is_open clean)
-    c.holder.ensures.spares c.holder.ensures.config c.holder.ensures.stays
+returns-clause-reads g c = reads_ready c.in_ok-require_ready.ensures c.holder.ensures
 
 pub returns-in_err-holder-clause-reads : goal.returns-in_err-holder-clause-reads
-returns-in_err-holder-clause-reads g c =
-    reads_on (λ s. state g.S.Store s.conn) (λ s. s.config) _ _ _ c.require_ready.ensures.reads (λ clean. c.in_ok-require_ready.ensures.is_open clean)
-    c.holder.ensures.spares c.holder.ensures.config c.holder.ensures.stays
+returns-in_err-holder-clause-reads g c = reads_ready c.in_ok-require_ready.ensures c.holder.ensures

@@ -5,7 +5,7 @@ use Rattle.fr_base.specs.Cluster.{ClusterFile}
 use Rattle.fr_base.specs.declared.params.Params.{Params}
 use Rattle.fr_world.specs.Held.{page_of}
 use Rattle.fr_store.proofs.StoredLaws.{answered, given, told}
-use Rattle.fr_store.proofs.CrashLemmas.{reads_on}
+use Rattle.fr_store.proofs.AskedLemmas.{reads_ready}
 use Rattle.fr_store.proofs.store_records.StoreRecords.page.Goals as goal
 
 pub returns-clause-params : goal.returns-clause-params
@@ -26,6 +26,4 @@ returns-clause-page g c clean cluster b stored =
     (subst (λ x. IfOk c.page.result (λ found. cluster.params.cycles ≡ x.cluster.params.cycles → found ≡ page_of x.cluster.params b c.args.supplier c.args.variant)) there.config (c.page.ensures.tells.told clean cluster b (there.rows ready).0)))
 
 pub returns-clause-reads : goal.returns-clause-reads
-returns-clause-reads g c =
-    reads_on (λ s. state g.S.Store s.conn) (λ s. s.config) _ _ _ c.require_ready.ensures.reads (λ clean. c.in_ok-require_ready.ensures.is_open clean)
-    c.page.ensures.tells.spares c.page.ensures.tells.config c.page.ensures.tells.stays
+returns-clause-reads g c = reads_ready c.in_ok-require_ready.ensures c.page.ensures.tells
