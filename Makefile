@@ -65,7 +65,7 @@ demo-unproved: $(unproved)
 	@python3 -m examples.demo $(unproved) $(PORT)
 
 # The files below src/ are all that is compiled without proof.
-$(unproved): tools/unproved.py $(shell find crates -name out -prune -o -name '*.rt' -print) crates.txt | toolchain
+$(unproved): tools/unproved.py tools/modules.py $(shell find crates -name out -prune -o -name '*.rt' -print) crates.txt | toolchain
 	@echo "make: compiling without proof: three to six minutes" >&2
 	@python3 tools/unproved.py $@
 

@@ -3,11 +3,13 @@
 
 The program says of its version that nothing was proved: that text alone is another one in the copy of the sources that is compiled.
 `rt try` compiles without proof, but it neither optimises nor keeps what it compiled. So it is run from a folder that is the kit's by links, in which
-scripts stand for three commands: `clang` optimises, in place of looking at each address; `ld.lld` keeps what it linked; `rattle`, which rt try asks
-for a hint alone, says nothing. The kit stays as it is. As under `rt try`, what runs stops at a wrong index, a sum that wraps, a failed `unwrap` or `prove!`.
+scripts stand for three commands: `clang` cuts the program and optimises its parts side by side, in place of looking at each address (modules.py);
+`ld.lld` keeps what it linked; `rattle`, which rt try asks for a hint alone, says nothing. The kit stays as it is. As under `rt try`, what runs stops at a
+wrong index, a sum that wraps, a failed `unwrap` or `prove!`.
 """
 import os
 import re
+import shlex
 import shutil
 import subprocess
 import sys
@@ -16,6 +18,11 @@ import time
 from pathlib import Path
 
 TOP = Path(__file__).resolve().parent.parent
+MODULES = Path(__file__).resolve().with_name("modules.py")
+# So many parts of the program are compiled at once.
+JOBS = int(os.environ.get("JOBS") or len(os.sched_getaffinity(0)))
+# What is used is to be fast, and what is tried once is to be there soon.
+FAST, SOON = "-O2", "-O1 -mllvm -inline-threshold=0"
 # What the program says of its version: the logic by which it is proved.
 VERSIONED = "crates/fr_cli/src/words/commands.rt"
 VERSION = re.compile(r'^(const VERSION: &str = "[\d.]+\\n)logic \w+(";)$', re.M)
@@ -24,17 +31,9 @@ UNPROVED = r"\1unproved\2"
 COPIED = "bin/rt", "bin/rtlib.py"
 # Those that are no links.
 FOLDERS = "", "bin", "toolchain", "toolchain/bin"
-# What rt starts has no environment, so each path is whole. Where clang inlines little, it is done in half the time.
+# What rt starts has no environment, so each path is whole.
 CLANG = """#!/bin/sh
-for word do
-  shift
-  case $word in
-  -fsanitize=address) ;;
-  -O0) set -- "$@" -O1 -mllvm -inline-threshold=0 ;;
-  *) set -- "$@" "$word" ;;
-  esac
-done
-exec {commands}/clang "$@"
+exec {python} {modules} {commands}/clang {jobs} {level} "$@"
 """
 # Between the two flags stands the library that looks at addresses.
 LLD = """#!/bin/sh
@@ -55,10 +54,11 @@ RATTLE = """#!/bin/sh
 TOLD_EACH = 30
 
 
-def kit_by_links(room):
-    """A folder that is the kit's by links, but for the three scripts."""
+def kit_by_links(room, level):
+    """A folder that is the kit's by links, but for the three scripts, of which clang's optimises at this level."""
     kit = Path(shutil.which("rt") or sys.exit("there is no command rt on PATH")).resolve().parent.parent
-    fill = {"room": room, "commands": kit / "toolchain/bin"}
+    fill = {"room": room, "commands": kit / "toolchain/bin", "python": sys.executable, "modules": MODULES, "jobs": JOBS, "level": level}
+    fill = {name: shlex.quote(str(value)) for name, value in fill.items()}
     scripts = {"toolchain/bin/clang": CLANG.format(**fill), "toolchain/bin/ld.lld": LLD.format(**fill), "bin/rattle": RATTLE}
     for folder in FOLDERS:
         (room / "kit" / folder).mkdir()
@@ -116,8 +116,9 @@ def main(words):
     if len(words) != 1 + (words[:1] == ["--test"]):
         sys.exit(__doc__)
     with tempfile.TemporaryDirectory(prefix="unproved-") as folder:
-        kit_by_links(Path(folder))
-        return tested(Path(folder), words[1]) if words[0] == "--test" else kept(Path(folder), Path(words[0]).absolute())
+        room, tests = Path(folder), words[0] == "--test"
+        kit_by_links(room, SOON if tests else FAST)
+        return tested(room, words[1]) if tests else kept(room, Path(words[0]).absolute())
 
 
 if __name__ == "__main__":
