@@ -1,12 +1,9 @@
 -- What was gathered of two variants from the suppliers' pages, one supplier after another.
-use Rattle.std.proofs.Common.{◌≡◌, ℕ, ◌≤◌, List, [], ◌∷◌, ◌++◌, length, take, Some, Ok, sym, ap, ◌∙◌, append-nil}
-use Rattle.std.specs.List.{flat_map}
+use Rattle.std.proofs.Common.{◌≡◌, ℕ, ◌≤◌, List, [], ◌∷◌, ◌++◌, length, take, Some, Ok, sym, ap, ◌∙◌}
 use Rattle.std.specs.Prelude.{⊤}
-use Rattle.std.proofs.lemmas.Grind.{flat_map-append}
 use Rattle.std.proofs.lemmas.List.{take_all}
 use Rattle.fr_base.specs.Book.{Variant}
 use Rattle.fr_base.specs.Differences.{grants_differ}
-use Rattle.fr_base.specs.Step.{own_rows}
 use Rattle.fr_base.specs.declared.answer.DifferenceRow.{DifferenceRow}
 use Rattle.fr_base.specs.declared.answer.LaneHolder.{LaneHolder}
 use Rattle.fr_base.specs.declared.name.Name.{Name}
@@ -22,18 +19,21 @@ use Rattle.fr_world.specs.Held.{Standing}
 use Rattle.fr_world.specs.Loads.{grants_in_lanes}
 use Rattle.fr_world.specs.Pages.{PageData, own_rows_of}
 use Rattle.fr_world.specs.declared.page.ChannelSlot.{ChannelSlot}
+use Rattle.fr_base.specs.Book.{Holder, own, own_grants}
+use Rattle.fr_base.specs.Keys.{channel_slots}
+use Rattle.fr_base.specs.Tables.{Table}
+use Rattle.fr_office.proofs.GatherLaws.{flat-more}
 
 -- ---- of one page
 
 pub page-taken : (old new : Standing) (s v : Name) (page : PageData) (held after : List (ChannelSlot × LaneHolder)) (rows : ComparedRows) → FindsPage (Some page) s v old new (Ok tt) →
     rows ≡ compared_rows page.params (own_rows_of page).frames → grants_in_lanes after ≡ with_rows (grants_in_lanes held) (own_rows_of page).grants.rows →
     Gathers v (λ p x rows. AreTaken p s x held after rows) old new (Ok rows)
-unfolding own_rows
 page-taken old new s v page held after rows finds made added =
     page-rows old old new s v page (λ p x. ⊤) (λ p x. AreTaken p s x held after rows) (λ c b stood. (stood, λ x there. tt)) finds
-    (λ p b x _ of_p same. record {
-      rows_are = made ∙ (λ i. compared_rows (of_p i) (same i).frames);
-      holders = added ∙ (λ i. with_rows (grants_in_lanes held) (same i).grants.rows);
+    (λ x of_s has _. record {
+      rows_are = made ∙ ap (compared_rows page.params) (has.frames ∙ ap (λ t. own t x.frames) of_s);
+      holders = added ∙ ap (λ (t : Table channel_slots Holder). with_rows (grants_in_lanes held) t.rows) (has.grants ∙ ap (λ t. own_grants t x.grants) of_s);
     })
 
 -- ---- of the suppliers so far
@@ -53,9 +53,6 @@ module _ (old : Standing) (v w : Name) where
       told ≡ record { frames = []; placements = []; signals = []; gaps = [] } → GatheredSoFar old old v w [] olds news told
   compared-none olds news told none no_news nothing c b stood =
       (stood, λ new before is was. record { old_grants = lanes-none olds none before.grants; new_grants = lanes-none news no_news new.grants; frames = nothing })
-
-  flat-more : {X Y : Type 0} (f : X → List Y) (xs : List X) (x : X) → flat_map f xs ++ f x ≡ flat_map f (xs ++ x ∷ [])
-  flat-more f xs x = ap (λ last. flat_map f xs ++ last) (sym (append-nil (f x))) ∙ sym (flat_map-append f xs (x ∷ []))
 
   told-more : (p : Params) (s : Name) (ss : List Name) (before new : Variant) →
       with_told (suppliers_told p ss before new) (supplier_told p before new s) ≡ suppliers_told p (ss ++ s ∷ []) before new

@@ -1,11 +1,9 @@
 -- A part of an export, as it is pushed page by page: its rows so far, with what of the part is still to come.
-use Rattle.std.proofs.Common.{◌≡◌, ℕ, ◌≤◌, true, false, List, [], ◌∷◌, ◌++◌, length, map, take, Ok, Some, sym, ap, ◌∙◌, append_assoc, append-nil}
+use Rattle.std.proofs.Common.{◌≡◌, ℕ, true, false, List, [], ◌∷◌, ◌++◌, length, map, Ok, sym, ap, ◌∙◌, append_assoc, append-nil}
 use Rattle.std.specs.List.{flat_map}
-use Rattle.std.proofs.lemmas.Grind.{flat_map-append}
-use Rattle.std.proofs.lemmas.List.{map-append, take_all}
-use Rattle.fr_base.specs.Book.{Book, Variant, own}
+use Rattle.std.proofs.lemmas.List.{map-append}
+use Rattle.fr_base.specs.Book.{Variant, own}
 use Rattle.fr_base.specs.Exports.{exported, frame_records, part_of, placement_records, signal_records}
-use Rattle.fr_base.specs.Step.{own_rows}
 use Rattle.fr_base.specs.declared.answer.FrameRecord.{FrameRecord}
 use Rattle.fr_base.specs.declared.answer.PlacementRecord.{PlacementRecord}
 use Rattle.fr_base.specs.declared.answer.SignalRecord.{SignalRecord}
@@ -19,9 +17,11 @@ use Rattle.fr_world.specs.Parts.{after, begun, has_begun, in_part}
 use Rattle.fr_world.specs.declared.page.PageFrame.{PageFrame}
 use Rattle.fr_world.specs.declared.part.Part.{Part}
 use Rattle.fr_world.proofs.PartLaws.{begun-all, none-left, passed, taken}
-use Rattle.fr_office.specs.Shown.{FindsPage, Gathers}
-use Rattle.fr_office.proofs.GatherLaws.{IsSoFar, page-rows}
+use Rattle.fr_office.specs.Shown.{Gathers}
 use Rattle.fr_office.proofs.PageRows.{FrameEntry, entry}
+use Rattle.fr_office.specs.Gathered.{IsPartOf, Takes}
+use Rattle.fr_office.specs.declared.queries.exports.PartRows.{PartRows}
+use Rattle.fr_office.proofs.GatherLaws.{flat-more}
 
 -- ---- the frames of a page
 
@@ -69,50 +69,25 @@ module _ {R : Type 0} where
 abbrev pub frames_among : List Name → Variant → List FrameEntry
 frames_among ss x = flat_map (λ s. (own s x.frames).rows) ss
 
--- the rows so far, with what of the part is still to come, are the part of these suppliers' frames and of what is to come
-abbrev pub IsBegun : {R : Type 0} → (FrameEntry → List R) → ℕ → List Name → Variant → List R → Part → Type 0
-IsBegun records number ss x rows part =
-    (rest : List (List _)) → rows ++ in_part part rest ≡ in_part (begun number) (map records (frames_among ss x) ++ rest)
+-- the records of the page's frames that the part takes
+pub takes-part : {R : Type 0} (records : FrameEntry → List R) (page : PageData) (old new : PartRows R) →
+    ((rest : List (List R)) → new.rows ++ in_part new.part rest ≡ old.rows ++ in_part old.part (map records (own_rows_of page).frames.rows ++ rest)) → Takes (IsPartOf records) page old new
+takes-part records page old new pushed first ss x has is rest =
+    pushed rest
+    ∙ (λ i. old.rows ++ in_part old.part (map records (has.frames i).rows ++ rest))
+    ∙ is (map records (own page.supplier x.frames).rows ++ rest)
+    ∙ ap (λ frames. first.rows ++ in_part first.part frames) (sym (append_assoc (map records (frames_among ss x)) (map records (own page.supplier x.frames).rows) rest) ∙ ap (λ fs. fs ++ rest) grown)
+  where
+    grown : map records (frames_among ss x) ++ map records (own page.supplier x.frames).rows ≡ map records (frames_among (ss ++ page.supplier ∷ []) x)
+    grown =
+        sym (map-append records (frames_among ss x) (own page.supplier x.frames).rows)
+        ∙ ap (map records) (flat-more (λ s. (own s x.frames).rows) ss page.supplier)
 
-module _ {R : Type 0} (records : FrameEntry → List R) (number : ℕ) (old : Standing) (v : Name) where
-  -- before the first
-  pub begun-none : (rows : List R) (part : Part) → rows ≡ [] → part ≡ begun number → IsSoFar old old v (λ p x. IsBegun records number [] x rows part)
-  begun-none rows part none is c b stood = (stood, λ x there rest. λ i. none i ++ in_part (is i) rest)
-
-  -- one page more
-  pub begun-more : (mid new : Standing) (s : Name) (before after : List Name) (page : PageData) (rows all : List R) (part left : Part) →
-      IsSoFar old mid v (λ p x. IsBegun records number before x rows part) → FindsPage (Some page) s v mid new (Ok tt) →
-      ((rest : List (List R)) → all ++ in_part left rest ≡ rows ++ in_part part (map records (own_rows_of page).frames.rows ++ rest)) →
-      after ≡ before ++ s ∷ [] → IsSoFar old new v (λ p x. IsBegun records number after x all left)
-  unfolding own_rows
-  begun-more mid new s before after page rows all part left so finds pushed more =
-      page-rows old mid new s v page (λ p x. IsBegun records number before x rows part) (λ p x. IsBegun records number after x all left) so finds next
-    where
-      grown : (x : Variant) → map records (frames_among before x) ++ map records (own s x.frames).rows ≡ map records (frames_among after x)
-      grown x =
-          sym (map-append records (frames_among before x) (own s x.frames).rows)
-          ∙ ap (map records)
-          (ap (λ last. frames_among before x ++ last) (sym (append-nil (own s x.frames).rows))
-          ∙ sym (flat_map-append (λ s. (own s x.frames).rows) before (s ∷ []))
-          ∙ ap (λ ss. frames_among ss x) (sym more))
-
-      next : (p : Params) (b : Book) (x : Variant) → IsBegun records number before x rows part → page.params ≡ p → own_rows_of page ≡ own_rows p b s x → IsBegun records number after x all left
-      next p b x is of_p same rest =
-          pushed rest
-          ∙ (λ i. rows ++ in_part part (map records (same i).frames.rows ++ rest))
-          ∙ is (map records (own s x.frames).rows ++ rest)
-          ∙ ap (in_part (begun number)) (sym (append_assoc (map records (frames_among before x)) (map records (own s x.frames).rows) rest) ∙ ap (λ fs. fs ++ rest) (grown x))
-
-  -- after the last
-  pub begun-all_of : (new : Standing) (i : ℕ) (ss : List Name) (rows : List R) (left : Part) → length ss ≤ i → IsSoFar old new v (λ p x. IsBegun records number (take i ss) x rows left) →
-      Gathers v (λ p x rows. rows ≡ part_of number (map records (frames_among ss x))) old new (Ok rows)
-  begun-all_of new i ss rows left last so c b stood =
-      let told = so c b stood in (
-        told.0,
-        λ x there.
-            pushed-part number (map records (frames_among (take i ss) x)) rows left (told.1 x there [])
-            ∙ ap (λ ts. part_of number (map records (frames_among ts x))) (take_all i ss last),
-      )
+-- after the last
+pub part-ends : {R : Type 0} (records : FrameEntry → List R) (number : ℕ) (p : Params) (ss : List Name) (x : Variant) (first all : PartRows R) → first.part ≡ begun number → first.rows ≡ [] →
+    IsPartOf records p first ss x all → all.rows ≡ part_of number (map records (frames_among ss x))
+part-ends records number p ss x first all is none so =
+    pushed-part number (map records (frames_among ss x)) all.rows all.part (so [] ∙ (λ i. none i ++ in_part (is i) (map records (frames_among ss x) ++ [])))
 
 -- ---- the rows of the report
 

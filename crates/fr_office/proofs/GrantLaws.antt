@@ -1,5 +1,5 @@
 -- The grants of a variant, gathered from the suppliers' pages.
-use Rattle.std.proofs.Common.{◌≡◌, ℕ, ◌≤◌, Bool, true, false, cond, ◌||◌, List, [], ◌∷◌, ◌++◌, map, length, take, Option, Some, None, Ok, refl, sym, ap, subst, ◌∙◌, inl, inr}
+use Rattle.std.proofs.Common.{◌≡◌, ℕ, Bool, true, false, cond, ◌||◌, List, [], ◌∷◌, ◌++◌, map, Option, Some, None, refl, sym, ap, ◌∙◌, inl, inr}
 use Rattle.std.specs.Prelude.{T}
 use Rattle.std.specs.BTreeMap.{insert_entry}
 use Rattle.std.specs.FinMap.Entries.{find, is_sorted}
@@ -9,40 +9,33 @@ use Rattle.std.specs.List.Sorted.{IsStrictlySortedBy}
 use Rattle.std.specs.Map.{keys_of}
 use Rattle.std.specs.Ordering.{eq_by_cmp}
 use Rattle.std.proofs.lemmas.Bool.{cases_Bool}
-use Rattle.std.proofs.lemmas.List.{take_all}
 use Rattle.fr_base.specs.Book as book
-use Rattle.fr_base.specs.Book.{Book, Sender, Variant, held_by, own_grants}
+use Rattle.fr_base.specs.Book.{Book, Variant, held_by, own_grants}
 use Rattle.fr_base.specs.Cluster.{Cluster}
 use Rattle.fr_base.specs.Keys.{channel_slots}
 use Rattle.fr_base.specs.Names.{same_text}
 use Rattle.fr_base.specs.Queries.{grant_row, grants_of}
 use Rattle.fr_base.specs.Sound.{IsSound}
-use Rattle.fr_base.specs.Step.{own_rows}
 use Rattle.fr_base.specs.TableRows.{first, second}
 use Rattle.fr_base.specs.Tables.{Order, Table, from_rows, get, insert}
 use Rattle.fr_base.specs.declared.answer.GrantRow.{GrantRow}
 use Rattle.fr_base.specs.declared.answer.LaneHolder.{LaneHolder}
-use Rattle.fr_base.specs.declared.answer.LoadRow.{LoadRow}
 use Rattle.fr_base.specs.declared.channel.Channel.{Channel}
 use Rattle.fr_base.specs.declared.name.Name.{Name}
-use Rattle.fr_base.specs.declared.params.Params.{Params}
-use Rattle.fr_base.specs.declared.placement.Placement.{Placement}
 use Rattle.fr_base.proofs.AloneCells.{same_text-itself}
 use Rattle.fr_base.proofs.TableLaws.{equal, get-empty, get-insert, get-only, kept, none_above, same_table}
-use Rattle.fr_world.specs.Held.{Standing}
-use Rattle.fr_office.specs.Shared.{grants_among, placements_among, with_rows}
-use Rattle.fr_office.specs.Shown.{FindsPage, Gathers}
-use Rattle.fr_office.proofs.GatherLaws.{IsSoFar, page-rows}
+use Rattle.fr_office.specs.Shared.{grants_among, with_rows}
 use Rattle.fr_office.proofs.PageRows.{grant_entry}
 use Rattle.fr_office.proofs.ShownLaws.{flat-map}
 use Rattle.fr_office.proofs.SplitLaws.{among_names, supplier_names}
-use Rattle.fr_world.specs.Loads.{filled_load, grants_in_lanes, holder_in}
+use Rattle.fr_world.specs.Loads.{grants_in_lanes, holder_in}
 use Rattle.fr_world.specs.Maps.{table_of}
 use Rattle.fr_world.specs.Pages.{PageData, own_rows_of}
 use Rattle.fr_world.specs.declared.page.ChannelSlot.{ChannelSlot}
 use Rattle.fr_world.proofs.AmongLaws.{In}
 use Rattle.fr_world.proofs.KeyLaws.{slot_cmp, slots_alike}
 use Rattle.fr_world.proofs.MapLaws.{rows-table_of, table_of-insert_entry}
+use Rattle.fr_office.specs.Gathered.{Takes}
 
 -- ---- the rows of a map
 
@@ -150,27 +143,11 @@ pub lanes-more : (s : Name) (before after : List Name) (grants : Table channel_s
 lanes-more s before after grants es fs is e more =
     e ∙ ap (λ t. with_rows t (own_grants s grants).rows) is ∙ grants-more s before grants ∙ ap (λ ss. grants_among ss grants) (sym more)
 
--- what is held so far
-abbrev pub HoldsSoFar : Standing → Standing → Name → List Name → List (ChannelSlot × LaneHolder) → Type 0
-HoldsSoFar old new v ss es = IsSoFar old new v (λ p x. grants_in_lanes es ≡ grants_among ss x.grants)
-
-module _ (old : Standing) (v : Name) where
-  pub held-none : (es : List (ChannelSlot × LaneHolder)) → es ≡ [] → HoldsSoFar old old v [] es
-  held-none es e c b stood = (stood, λ x there. lanes-none es e x.grants)
-
-  pub held-more : (mid new : Standing) (s : Name) (before after : List Name) (page : PageData) (es fs : List (ChannelSlot × LaneHolder)) →
-      HoldsSoFar old mid v before es → FindsPage (Some page) s v mid new (Ok tt) →
-      grants_in_lanes fs ≡ with_rows (grants_in_lanes es) (own_rows_of page).grants.rows → after ≡ before ++ s ∷ [] → HoldsSoFar old new v after fs
-  unfolding own_rows
-  held-more mid new s before after page es fs so finds e more =
-      page-rows old mid new s v page (λ p x. grants_in_lanes es ≡ grants_among before x.grants) (λ p x. grants_in_lanes fs ≡ grants_among after x.grants) so finds next
-    where
-      next : (p : Params) (b : Book) (x : Variant) → grants_in_lanes es ≡ grants_among before x.grants → page.params ≡ p → own_rows_of page ≡ own_rows p b s x → grants_in_lanes fs ≡ grants_among after x.grants
-      next p b x is of_p same =
-          lanes-more s before after x.grants es fs is (e ∙ (λ i. with_rows (grants_in_lanes es) (same i).grants.rows)) more
-
-  pub held-all : (new : Standing) (i : ℕ) (ss : List Name) (es : List (ChannelSlot × LaneHolder)) → length ss ≤ i → HoldsSoFar old new v (take i ss) es → HoldsSoFar old new v ss es
-  held-all new i ss es last so = subst (λ ts. HoldsSoFar old new v ts es) (take_all i ss last) so
+-- the page's grants are held too
+pub takes-grants : {M : Type 0} (entries : M → List (ChannelSlot × LaneHolder)) (page : PageData) (old new : M) →
+    grants_in_lanes (entries new) ≡ with_rows (grants_in_lanes (entries old)) (own_rows_of page).grants.rows → Takes (λ p first ss x held. grants_in_lanes (entries held) ≡ grants_among ss x.grants) page old new
+takes-grants entries page old new e first ss x has is =
+    lanes-more page.supplier ss (ss ++ page.supplier ∷ []) x.grants (entries old) (entries new) is (e ∙ ap (λ (t : Table channel_slots book.Holder). with_rows (grants_in_lanes (entries old)) t.rows) has.grants) refl
 
 -- ---- all of them
 
@@ -193,21 +170,3 @@ grants-all c b v x sound there = same_table _ _ (λ k. get-only channel_slots (�
         let nodes = (sound.variants v x there).1.grant_nodes k h e in
         let among = among_names b h.supplier (sound.nodes h.supplier h.node nodes).1 in
         ap (λ t. cond t (Some h) None) (In-any h.supplier (supplier_names b) among)
-
--- the rows of what is held
-pub held-shown : (old new : Standing) (v : Name) (ss : List Name) (es : List (ChannelSlot × LaneHolder)) (rows : List GrantRow) →
-    rows ≡ grants_of (grants_in_lanes es) → HoldsSoFar old new v ss es →
-    Gathers v (λ p x rows. rows ≡ grants_of (grants_among ss x.grants)) old new (Ok rows)
-held-shown old new v ss es rows e so c b stood =
-    let told = so c b stood in
-    (told.0, λ x there. e ∙ ap grants_of (told.1 x there))
-
--- ---- how full lanes are
-
-pub load-gathered : (old new : Standing) (v : Name) (ss : List Name) (p : Params) (es : List (ChannelSlot × LaneHolder)) (placed : List (Sender × Placement)) (rows : List LoadRow) →
-    HoldsSoFar old new v ss es → Gathers v (λ _ x placed. placed ≡ placements_among ss x) old new (Ok placed) → rows ≡ filled_load p (grants_in_lanes es) placed →
-    Gathers v (λ _ x rows. rows ≡ filled_load p (grants_among ss x.grants) (placements_among ss x)) old new (Ok rows)
-load-gathered old new v ss p es placed rows holds sends e c b stood =
-    let held = holds c b stood in
-    let sent = sends c b stood in
-    (held.0, λ x there. e ∙ (λ i. filled_load p (held.1 x there i) (sent.1 x there i)))

@@ -1,13 +1,14 @@
 -- The page that is lent is the supplier's page of the variant.
-use Rattle.std.proofs.Common.{◌≡◌, false, true, Option, Some, None, option_map, Ok, Err, refl, ap, subst, inr}
-use Rattle.std.specs.Prelude.{is_some}
+use Rattle.std.proofs.Common.{◌≡◌, ◌∙◌, Bool, false, true, Option, Some, None, option_map, Result, Ok, Err, refl, ap, subst, inr}
+use Rattle.std.specs.Prelude.{IfOk, is_some}
 use Rattle.fr_base.specs.Book.{Book, Variant}
 use Rattle.fr_base.specs.Cluster.{Cluster}
-use Rattle.fr_base.specs.Tables.{get}
+use Rattle.fr_base.specs.Tables.{contains, get}
 use Rattle.fr_base.specs.declared.name.Name.{Name}
+use Rattle.fr_base.specs.declared.refusal.Refusal.{Refusal}
 use Rattle.fr_base.specs.declared.refusal.Refusal.TheVariants.{NoVariant}
 use Rattle.fr_base.proofs.SoundTables.{same_some}
-use Rattle.fr_world.specs.Held.{Standing, page_of}
+use Rattle.fr_world.specs.Held.{Standing, Tells, page_of}
 use Rattle.fr_world.specs.Pages.{PageData, page_in}
 use Rattle.fr_office.specs.Shown.{FindsPage}
 
@@ -43,3 +44,15 @@ module _ (old new : Standing) (s v : Name) (lent : Option PageData) (tells : (c 
 -- the page that is lent
 pub finds-lent : (old new : Standing) (s v : Name) (lent : Option PageData) (page : PageData) → lent ≡ Some page → FindsPage lent s v old new (Ok tt) → FindsPage (Some page) s v old new (Ok tt)
 finds-lent old new s v lent page is finds = subst (λ o. FindsPage o s v old new (Ok tt)) is finds
+
+-- a page is lent where the variant is there
+pub lends-there : (old new : Standing) (s v : Name) (lent : Option PageData) (r : Result Bool Refusal) → IfOk r (λ there. there ≡ is_some lent) → Tells old new r (λ c b _. lent ≡ page_of c.params b s v) →
+    Tells old new r (λ c b there. there ≡ contains b.variants v)
+lends-there old new s v lent (Err e) is tells c b stood = tells c b stood
+lends-there old new s v lent (Ok there) is tells c b stood =
+    let told = tells c b stood in
+    (told.0, is ∙ ap is_some told.1 ∙ at_hand (get b.variants v))
+  where
+    at_hand : (o : Option Variant) → is_some (option_map (page_in c.params b s v) o) ≡ is_some o
+    at_hand None = refl
+    at_hand (Some x) = refl

@@ -1,8 +1,5 @@
 -- The rows of all kinds, as they are gathered of one supplier after another, are those that the register shows.
-use Rattle.std.proofs.Common.{◌≡◌, ℕ, ◌≤◌, List, [], ◌∷◌, ◌++◌, length, map, take, Some, Ok, sym, ap, ◌∙◌, append-nil}
-use Rattle.std.specs.List.{flat_map}
-use Rattle.std.proofs.lemmas.Grind.{flat_map-append}
-use Rattle.std.proofs.lemmas.List.{take_all}
+use Rattle.std.proofs.Common.{◌≡◌, List, [], ◌∷◌, ◌++◌, map, Some, sym, ap, ◌∙◌}
 use Rattle.fr_base.specs.Book.{Book, Frame, Variant, own}
 use Rattle.fr_base.specs.Cluster.{Cluster}
 use Rattle.fr_base.specs.Differences.{all_placements, all_signals, frame_seen, gap_of, gap_seen, grant_seen, placement_seen, rows_of_frames, seen_rows, signal_seen}
@@ -10,74 +7,51 @@ use Rattle.fr_base.specs.Exports.{frame_records, placement_records, signal_recor
 use Rattle.fr_base.specs.Queries.{gap_row, grants_of}
 use Rattle.fr_base.specs.Seen.{seen_frames, seen_grants}
 use Rattle.fr_base.specs.Sound.{IsSound}
-use Rattle.fr_base.specs.Step.{own_rows}
 use Rattle.fr_base.specs.Tables.{each, get}
 use Rattle.fr_base.specs.declared.actor.Actor.{Actor}
 use Rattle.fr_base.specs.declared.answer.GrantRow.{GrantRow}
-use Rattle.fr_base.specs.declared.answer.LaneHolder.{LaneHolder}
 use Rattle.fr_base.specs.declared.answer.SeenRow.{SeenRow}
 use Rattle.fr_base.specs.declared.name.Name.{Name}
 use Rattle.fr_base.specs.declared.params.Params.{Params}
 use Rattle.fr_office.specs.Compared.{compared_rows, frame_told, gap_told, grant_told, placement_told, seen_among, signal_told, suppliers_rows, with_more}
-use Rattle.fr_office.specs.Shown.{FindsPage, Gathers, seen_names}
+use Rattle.fr_office.specs.Shown.{seen_names}
 use Rattle.fr_office.specs.declared.queries.compared.ComparedRows.{ComparedRows}
 use Rattle.fr_office.proofs.DifferenceReplies.{append-five, grant-keys, signals-seen}
 use Rattle.fr_office.proofs.FlatRows.{frame-keys, gap-keys, map-map, placement-keys, signal-keys}
-use Rattle.fr_office.proofs.GatherLaws.{IsSoFar, page-rows}
-use Rattle.fr_office.proofs.GrantLaws.{HoldsSoFar}
 use Rattle.fr_office.proofs.SeenRows.{frames-seen, grants-seen}
-use Rattle.fr_world.specs.Held.{Standing}
 use Rattle.fr_world.specs.KeyedRows.{frame_entry, gap_entry, grant_entry, placement_entry, signal_entry}
-use Rattle.fr_world.specs.Loads.{grants_in_lanes}
 use Rattle.fr_world.specs.Pages.{PageData, own_rows_of}
-use Rattle.fr_world.specs.declared.page.ChannelSlot.{ChannelSlot}
+use Rattle.fr_office.specs.Gathered.{Takes}
+use Rattle.fr_office.specs.Shared.{grants_among}
+use Rattle.fr_office.proofs.GatherLaws.{flat-more}
 
 -- ---- of the suppliers so far
 
--- the rows of their frames
-abbrev pub HasRowsSoFar : Standing → Standing → Name → List Name → ComparedRows → Type 0
-HasRowsSoFar old now v ss rows = IsSoFar old now v (λ p x. rows ≡ suppliers_rows p ss x)
+-- one page more
+pub takes-compared : (page : PageData) (old new : ComparedRows) → new ≡ with_more old (compared_rows page.params (own_rows_of page).frames) →
+    Takes (λ p first ss x rows. rows ≡ suppliers_rows p ss x) page old new
+takes-compared page old new pushed first ss x has is =
+    pushed ∙ (λ i. with_more (is i) (compared_rows page.params (has.frames i))) ∙ one_more
+  where
+    made : Name → ComparedRows
+    made s = compared_rows page.params (own s x.frames)
 
-flat-more : {X Y : Type 0} (f : X → List Y) (xs : List X) (x : X) → flat_map f xs ++ f x ≡ flat_map f (xs ++ x ∷ [])
-flat-more f xs x = ap (λ last. flat_map f xs ++ last) (sym (append-nil (f x))) ∙ sym (flat_map-append f xs (x ∷ []))
+    one_more : with_more (suppliers_rows page.params ss x) (made page.supplier) ≡ suppliers_rows page.params (ss ++ page.supplier ∷ []) x
+    one_more = λ i. record {
+      frames = flat-more (λ s. (made s).frames) ss page.supplier i;
+      placements = flat-more (λ s. (made s).placements) ss page.supplier i;
+      signals = flat-more (λ s. (made s).signals) ss page.supplier i;
+      gaps = flat-more (λ s. (made s).gaps) ss page.supplier i;
+    }
 
-module _ (old : Standing) (v : Name) where
-  -- before the first
-  pub rows-none : (rows : ComparedRows) → rows ≡ record { frames = []; placements = []; signals = []; gaps = [] } → HasRowsSoFar old old v [] rows
-  rows-none rows e c b stood = (stood, λ x there. e)
-
-  one-more : (p : Params) (s : Name) (ss : List Name) (x : Variant) → with_more (suppliers_rows p ss x) (compared_rows p (own s x.frames)) ≡ suppliers_rows p (ss ++ s ∷ []) x
-  one-more p s ss x = λ i. record {
-    frames = flat-more (λ s. (compared_rows p (own s x.frames)).frames) ss s i;
-    placements = flat-more (λ s. (compared_rows p (own s x.frames)).placements) ss s i;
-    signals = flat-more (λ s. (compared_rows p (own s x.frames)).signals) ss s i;
-    gaps = flat-more (λ s. (compared_rows p (own s x.frames)).gaps) ss s i;
-  }
-
-  -- one supplier more
-  pub rows-more : (mid now : Standing) (s : Name) (ss more : List Name) (page : PageData) (rows all : ComparedRows) → HasRowsSoFar old mid v ss rows → FindsPage (Some page) s v mid now (Ok tt) →
-      all ≡ with_more rows (compared_rows page.params (own_rows_of page).frames) → more ≡ ss ++ s ∷ [] → HasRowsSoFar old now v more all
-  unfolding own_rows
-  rows-more mid now s ss more page rows all so finds pushed is_more =
-      page-rows old mid now s v page (λ p x. rows ≡ suppliers_rows p ss x) (λ p x. all ≡ suppliers_rows p more x) so finds
-      (λ p b x is of_p same.
-      pushed ∙ (λ i. with_more (is i) (compared_rows (of_p i) (same i).frames)) ∙ one-more p s ss x ∙ ap (λ ts. suppliers_rows p ts x) (sym is_more))
-
-  -- after the last, kind after kind
-  pub rows-all : (now : Standing) (i : ℕ) (ss : List Name) (held : List (ChannelSlot × LaneHolder)) (frames : ComparedRows) (grants : List GrantRow) (none all : List SeenRow) → length ss ≤ i →
-      HoldsSoFar old now v (take i ss) held → HasRowsSoFar old now v (take i ss) frames → grants ≡ grants_of (grants_in_lanes held) → none ≡ [] →
-      all ≡ none ++ map grant_told grants ++ map frame_told frames.frames ++ map placement_told frames.placements ++ map signal_told frames.signals ++ map gap_told frames.gaps →
-      Gathers v (λ p x rows. rows ≡ seen_among p ss x) old now (Ok all)
-  rows-all now i ss held frames grants none all last holds has listed empty joined c b stood =
-      let held_now = holds c b stood in
-      let has_now = has c b stood in (
-        has_now.0,
-        λ x there.
-            joined
-            ∙ (λ j. empty j ++ map grant_told ((listed ∙ ap grants_of (held_now.1 x there)) j) ++ map frame_told (has_now.1 x there j).frames ++ map placement_told (has_now.1 x there j).placements
-            ++ map signal_told (has_now.1 x there j).signals ++ map gap_told (has_now.1 x there j).gaps)
-            ∙ ap (λ ts. seen_among c.params ts x) (take_all i ss last),
-      )
+-- after the last, kind after kind
+pub rows-told : (p : Params) (ss : List Name) (x : Variant) (frames : ComparedRows) (grants : List GrantRow) (none all : List SeenRow) →
+    grants ≡ grants_of (grants_among ss x.grants) → frames ≡ suppliers_rows p ss x → none ≡ [] →
+    all ≡ none ++ map grant_told grants ++ map frame_told frames.frames ++ map placement_told frames.placements ++ map signal_told frames.signals ++ map gap_told frames.gaps →
+    all ≡ seen_among p ss x
+rows-told p ss x frames grants none all listed is empty joined =
+    joined
+    ∙ (λ j. empty j ++ map grant_told (listed j) ++ map frame_told (is j).frames ++ map placement_told (is j).placements ++ map signal_told (is j).signals ++ map gap_told (is j).gaps)
 
 -- ---- as the actor sees them
 

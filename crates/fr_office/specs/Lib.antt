@@ -8,6 +8,7 @@ pub mod KeptPages
 pub mod Shared
 pub mod Shelves
 pub mod Shown
+pub mod Gathered
 pub mod Crashed
 pub mod Listing
 pub mod Compared

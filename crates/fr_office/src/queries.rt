@@ -4,9 +4,11 @@
 ghost use Rattle.std.specs.Prelude.{◌≡◌, IfSome, IsSome, IsTrue, Ok, OnOk};
 ghost use Rattle.fr_base.specs.Checks.{divides, has_repetition, is_integrator};
 ghost use Rattle.fr_base.specs.Queries.{found, held, reply};
+ghost use Rattle.fr_base.specs.Tables.{contains};
 ghost use Rattle.fr_base.specs.declared.query.Query.TheVariants.{Variant as OfVariant};
 ghost use Rattle.fr_office.specs.Carried.{OnlyReads, Replies};
 ghost use Rattle.fr_office.specs.Shown.{FindsPage, Shows};
+ghost use Rattle.fr_world.specs.Held.{Tells};
 
 mod cluster;
 mod compared;
@@ -15,6 +17,7 @@ mod exports;
 mod frame_differences;
 mod frames;
 mod gaps;
+mod gathered;
 mod grants;
 mod layout;
 mod load;
@@ -28,8 +31,7 @@ use crate::lender::Lender;
 use crate::queries::cluster::cluster_rows;
 use crate::queries::differences::differences;
 use crate::queries::exports::gather_export;
-use crate::queries::frames::gather_frames;
-use crate::queries::gaps::gather_gaps;
+use crate::queries::gathered::gather;
 use crate::queries::grants::gather_grants;
 use crate::queries::layout::gather_signals;
 use crate::queries::load::{gather_load, seen_lanes};
@@ -125,10 +127,27 @@ fn of_variant<R: Lender>(
         (Replies (λ c b. found c.params b actor.now (OfVariant variant report.now)))
         records.old records.new result }
 {
-    if records.has_variant(variant)? {
+    if is_there(alloc, records, actor, variant)? {
         show(alloc, records, actor, variant, report)
     } else {
         Err(Refusal::NoVariant)
+    }
+}
+
+/// Whether the variant is there. Where a supplier asks, its page of the variant is lent, so that it is not read again.
+pub(crate) fn is_there<R: Lender>(
+    alloc: Global,
+    records: &mut R,
+    actor: &Actor,
+    variant: Name,
+) -> Result<bool, Refusal>
+    ensures { OnlyReads R.Records
+        (λ old new r. Tells old new r (λ c b there. there ≡ contains b.variants variant))
+        records.old records.new result }
+{
+    match actor {
+        Actor::Supplier(supplier) => records.lend(alloc, *supplier, variant),
+        Actor::Integrator => records.has_variant(variant),
     }
 }
 
@@ -152,7 +171,7 @@ fn show<R: Lender>(
             Ok(ReportRows::Grants(rows))
         }
         Report::Frames => {
-            let rows = gather_frames(alloc, records, &suppliers, variant)?;
+            let rows = gather(alloc, records, &suppliers, variant, Rows::new(alloc))?;
             Ok(ReportRows::Frames(rows))
         }
         Report::Schedule => {
@@ -160,7 +179,7 @@ fn show<R: Lender>(
             Ok(ReportRows::Schedule(rows))
         }
         Report::Gaps => {
-            let rows = gather_gaps(alloc, records, &suppliers, variant)?;
+            let rows = gather(alloc, records, &suppliers, variant, Rows::new(alloc))?;
             Ok(ReportRows::Gaps(rows))
         }
         Report::Layout { frame } => {

@@ -5,6 +5,7 @@ ghost use Rattle.fr_office.specs.Compared.{compared_rows, frame_told, gap_told, 
 ghost use Rattle.fr_world.specs.Pages.{own_rows_of};
 
 use crate::queries::gaps::push_gaps;
+use crate::queries::gathered::Gathered;
 use fr_base::{
     FrameRecord, GapRow, GrantRow, NoMemory, PlacementRecord, Rows, SeenRow, SignalRecord,
 };
@@ -90,6 +91,18 @@ fn push_seen<T: KeyedRow>(kind: &[T], rows: &mut Rows<SeenRow>) -> Result<(), No
         rows.push(row.seen())?;
     }
     Ok(())
+}
+
+// The rows of a supplier's frames come behind those of the suppliers before.
+impl Gathered for ComparedRows {
+    ghost use Rattle.std.specs.Prelude.{◌≡◌};
+    ghost use Rattle.fr_office.specs.Compared.{suppliers_rows};
+
+    ghost gathered = { λ p first ss x rows. rows ≡ suppliers_rows p ss x };
+
+    fn take(&mut self, _alloc: Global, page: &Page) -> Result<(), NoMemory> {
+        self.push_page(page)
+    }
 }
 
 /// The rows of frames: of each kind a list, in order.

@@ -12,10 +12,10 @@ ghost use Rattle.fr_world.specs.Loads.{grants_in_lanes};
 
 use crate::lender::Lender;
 use crate::queries::compared::ComparedRows;
-use crate::queries::find_page;
 use crate::queries::frame_differences::FrameDifferences;
 use crate::queries::grants::{add_grants, grant_rows};
 use crate::queries::suppliers::seen_suppliers;
+use crate::queries::{find_page, is_there};
 use fr_base::{Actor, DifferenceRow, LaneHolder, Name, NoMemory, Refusal, ReportRows, Rows};
 use fr_world::{ChannelSlot, push_differences};
 use std::alloc::Global;
@@ -34,10 +34,10 @@ pub(crate) fn differences<R: Lender>(
         (Replies (λ c b. found c.params b actor.now (Difference variant from)))
         records.old records.new result }
 {
-    if !records.has_variant(variant)? {
+    if !is_there(alloc, records, actor, variant)? {
         return Err(Refusal::NoVariant);
     }
-    if !records.has_variant(from)? {
+    if !is_there(alloc, records, actor, from)? {
         return Err(Refusal::NoVariant);
     }
     let rows = gather_seen(alloc, records, actor, variant, from)?;

@@ -11,7 +11,7 @@ ghost use Rattle.fr_world.specs.Pages.{own_rows_of};
 ghost use Rattle.fr_world.specs.Parts.{in_part};
 
 use crate::lender::Lender;
-use crate::queries::find_page;
+use crate::queries::gathered::{Gathered, gather};
 use fr_base::{Header, Name, NoMemory, Refusal, ReportRows, Rows};
 use fr_world::{FileRecord, Page, Part};
 use std::alloc::Global;
@@ -60,13 +60,30 @@ fn gather_part<T: FileRecord + Drop, R: Lender>(
         ≡ part_of number (map T.records (flat_map (λ s. (own s x.frames).rows) suppliers.now))))
         records.old records.new result }
 {
-    let mut part = Part::new(number);
-    let mut rows = Rows::new(alloc);
-    for supplier in suppliers {
-        find_page(alloc, records, *supplier, variant)?;
-        push_part(records.lent(), &mut part, &mut rows)?;
+    let nothing = PartRows {
+        part: Part::new(number),
+        rows: Rows::new(alloc),
+    };
+    let gathered = gather(alloc, records, suppliers, variant, nothing)?;
+    Ok(gathered.rows)
+}
+
+/// The records of a part of an export, and how far the part has come.
+#[derive(Drop)]
+pub(crate) struct PartRows<T> {
+    part: Part,
+    rows: Rows<T>,
+}
+
+// The records of the page's frames that the part takes come behind those of the pages before.
+impl<T: FileRecord + Drop> Gathered for PartRows<T> {
+    ghost use Rattle.fr_office.specs.Gathered.{IsPartOf};
+
+    ghost gathered = { IsPartOf T.records };
+
+    fn take(&mut self, _alloc: Global, page: &Page) -> Result<(), NoMemory> {
+        push_part(page, &mut self.part, &mut self.rows)
     }
-    Ok(rows)
 }
 
 // Appends the records of the page's frames that the part takes. Where memory is refused, some of

@@ -10,7 +10,7 @@ ghost use Rattle.fr_world.specs.Pages.{own_rows_of};
 ghost use Rattle.fr_world.specs.Loads.{grants_in_lanes};
 
 use crate::lender::Lender;
-use crate::queries::find_page;
+use crate::queries::gathered::{Gathered, gather};
 use fr_base::{GrantRow, LaneHolder, Name, NoMemory, Refusal, Rows};
 use fr_world::{ChannelSlot, Page};
 use std::alloc::Global;
@@ -27,28 +27,21 @@ pub(crate) fn gather_grants<R: Lender>(
         (Gathers variant (λ p x rows. rows ≡ grants_of (grants_among suppliers.now x.grants)))
         records.old records.new result }
 {
-    let held = gather_holders(alloc, records, suppliers, variant)?;
+    let held = gather(alloc, records, suppliers, variant, BTreeMap::new(alloc))?;
     Ok(grant_rows(alloc, &held)?)
 }
 
-/// The holders among these suppliers, by slot and channel.
-pub(crate) fn gather_holders<R: Lender>(
-    alloc: Global,
-    records: &mut R,
-    suppliers: &[Name],
-    variant: Name,
-) -> Result<BTreeMap<ChannelSlot, LaneHolder>, Refusal>
-    ensures { OnlyReads R.Records
-        (Gathers variant (λ p x held. grants_in_lanes held.entries
-        ≡ grants_among suppliers.now x.grants))
-        records.old records.new result }
-{
-    let mut held = BTreeMap::new(alloc);
-    for supplier in suppliers {
-        find_page(alloc, records, *supplier, variant)?;
-        add_grants(records.lent(), &mut held)?;
+// The page's grants are held too.
+impl Gathered for BTreeMap<ChannelSlot, LaneHolder> {
+    ghost use Rattle.std.specs.Prelude.{◌≡◌};
+    ghost use Rattle.fr_office.specs.Shared.{grants_among};
+    ghost use Rattle.fr_world.specs.Loads.{grants_in_lanes};
+
+    ghost gathered = { λ p first ss x held. grants_in_lanes held.entries ≡ grants_among ss x.grants };
+
+    fn take(&mut self, _alloc: Global, page: &Page) -> Result<(), NoMemory> {
+        add_grants(page, self)
     }
-    Ok(held)
 }
 
 /// The rows of these grants, by slot and channel.

@@ -9,33 +9,12 @@ ghost use Rattle.fr_office.specs.Shown.{AreSignals, Gathers};
 ghost use Rattle.fr_world.specs.Pages.{own_rows_of};
 
 use crate::lender::Lender;
-use crate::queries::find_page;
+use crate::queries::gathered::{Gathered, gather};
 use fr_base::{Name, NoMemory, Refusal, Rows, SignalRow};
 use fr_world::{Page, push_signal_rows};
 use std::alloc::Global;
 
-/// Appends the signals of the page's frame of this name, by start. The answer says whether there is
-/// such a frame. Where memory is refused, some of them may have been appended.
-pub(crate) fn push_signals(
-    page: &Page,
-    name: Name,
-    rows: &mut Rows<SignalRow>,
-) -> Result<bool, NoMemory>
-    ensures rows { OnOk result (rows.new ≡ rows.old
-        ++ signals_of (named name (own_rows_of page.now).frames)) }
-    ensures found { IfOk result (λ found.
-        not found ≡ (len (named name (own_rows_of page.now).frames) == 0)) }
-{
-    match page.frames().get(&name) {
-        Some(frame) => {
-            push_signal_rows(page.supplier(), frame, rows)?;
-            Ok(true)
-        }
-        None => Ok(false),
-    }
-}
-
-/// The signals of these suppliers' frames of this name in the variant, supplier after supplier.
+/// The signals of the frames of this name in the variant, of these suppliers, supplier after supplier.
 /// `None` where none of them has such a frame.
 pub(crate) fn gather_signals<R: Lender>(
     alloc: Global,
@@ -48,13 +27,54 @@ pub(crate) fn gather_signals<R: Lender>(
         (Gathers variant (λ p x found. AreSignals name suppliers.now x found))
         records.old records.new result }
 {
-    let mut rows = Rows::new(alloc);
-    let mut found = false;
-    for supplier in suppliers {
-        find_page(alloc, records, *supplier, variant)?;
-        if push_signals(records.lent(), name, &mut rows)? {
-            found = true;
+    let nothing = NamedSignals {
+        name,
+        rows: Rows::new(alloc),
+        found: false,
+    };
+    let signals = gather(alloc, records, suppliers, variant, nothing)?;
+    Ok(if signals.found {
+        Some(signals.rows)
+    } else {
+        None
+    })
+}
+
+/// The signals of frames of a name, and whether there is such a frame.
+#[derive(Drop)]
+pub(crate) struct NamedSignals {
+    name: Name,
+    rows: Rows<SignalRow>,
+    found: bool,
+}
+
+// The signals of the page's frame, by start, come behind those of the pages before.
+impl Gathered for NamedSignals {
+    ghost use Rattle.fr_office.specs.Gathered.{AreNamed};
+
+    ghost gathered = { λ p first ss x all. AreNamed first.name ss x all };
+
+    fn take(&mut self, _alloc: Global, page: &Page) -> Result<(), NoMemory> {
+        if push_signals(page, self.name, &mut self.rows)? {
+            self.found = true;
         }
+        Ok(())
     }
-    Ok(if found { Some(rows) } else { None })
+}
+
+// Appends the signals of the page's frame of this name, by start. The answer says whether there is
+// such a frame. Where memory is refused, some of them may have been appended.
+fn push_signals(page: &Page, name: Name, rows: &mut Rows<SignalRow>) -> Result<bool, NoMemory>
+    ensures rows { OnOk result (rows.new ≡ rows.old
+        ++ signals_of (named name (own_rows_of page.now).frames)) }
+    ensures found { IfOk result (λ found.
+        not found ≡ (len (named name (own_rows_of page.now).frames) == 0)) }
+{
+    match page.frames().get(&name) {
+        Some(frame) => {
+            push_signal_rows(page.supplier(), frame, rows)?;
+            Ok(true)
+        }
+        None => Ok(false),
+    }
 }

@@ -8,15 +8,14 @@ ghost use Rattle.fr_office.specs.Shown.{Gathers, lanes_told};
 ghost use Rattle.fr_world.specs.Loads.{filled_load};
 
 use crate::lender::Lender;
-use crate::queries::find_page;
-use crate::queries::grants::add_grants;
+use crate::queries::gathered::gather;
 use fr_base::{Actor, LoadRow, Name, NoMemory, Params, Refusal, Rows};
 use fr_world::Triggerings;
 use std::alloc::Global;
 use std::collections::BTreeMap;
 
 /// How full each lane of the cluster is in the variant, by the frames of these suppliers, and which
-/// of them holds it. Each page is lent once.
+/// of them holds it.
 pub(crate) fn gather_load<R: Lender>(
     alloc: Global,
     records: &mut R,
@@ -30,14 +29,8 @@ pub(crate) fn gather_load<R: Lender>(
         (placements_among suppliers.now x)))
         records.old records.new result }
 {
-    let mut held = BTreeMap::new(alloc);
-    let mut triggerings = Triggerings::new(alloc);
-    for supplier in suppliers {
-        find_page(alloc, records, *supplier, variant)?;
-        let page = records.lent();
-        add_grants(page, &mut held)?;
-        triggerings.push_page(page)?;
-    }
+    let nothing = (BTreeMap::new(alloc), Triggerings::new(alloc));
+    let (held, triggerings) = gather(alloc, records, suppliers, variant, nothing)?;
     Ok(triggerings.load(alloc, params, &held)?)
 }
 

@@ -8,8 +8,8 @@ ghost use Rattle.fr_office.specs.Shown.{Gathers};
 
 use crate::lender::Lender;
 use crate::queries::compared::ComparedRows;
-use crate::queries::find_page;
-use crate::queries::grants::{add_grants, grant_rows};
+use crate::queries::gathered::gather;
+use crate::queries::grants::grant_rows;
 use fr_base::{Name, Refusal, Rows, SeenRow};
 use std::alloc::Global;
 use std::collections::BTreeMap;
@@ -25,14 +25,8 @@ pub(crate) fn gather_rows<R: Lender>(
         (Gathers variant (λ p x rows. rows ≡ seen_among p suppliers.now x))
         records.old records.new result }
 {
-    let mut held = BTreeMap::new(alloc);
-    let mut frames = ComparedRows::new(alloc);
-    for supplier in suppliers {
-        find_page(alloc, records, *supplier, variant)?;
-        let page = records.lent();
-        add_grants(page, &mut held)?;
-        frames.push_page(page)?;
-    }
+    let nothing = (BTreeMap::new(alloc), ComparedRows::new(alloc));
+    let (held, frames) = gather(alloc, records, suppliers, variant, nothing)?;
     let grants = grant_rows(alloc, &held)?;
     let mut rows = Rows::new(alloc);
     frames.push_seen(grants.as_slice(), &mut rows)?;

@@ -9,9 +9,9 @@ ghost use Rattle.fr_office.specs.Shown.{Gathers};
 ghost use Rattle.fr_world.specs.Sendings.{sent_in};
 
 use crate::lender::Lender;
-use crate::queries::find_page;
-use fr_base::{Name, Params, Refusal, Rows, Sending};
-use fr_world::Triggerings;
+use crate::queries::gathered::{Gathered, gather};
+use fr_base::{Name, NoMemory, Params, Refusal, Rows, Sending};
+use fr_world::{Page, Triggerings};
 use std::alloc::Global;
 
 /// Which of these suppliers' frames is sent in which cycle, slot and channel of the cluster in the
@@ -28,25 +28,18 @@ pub(crate) fn gather_schedule<R: Lender>(
         ≡ sent_in (placements_among suppliers.now x) (cluster_cells params.now)))
         records.old records.new result }
 {
-    let triggerings = gather_triggerings(alloc, records, suppliers, variant)?;
+    let triggerings = gather(alloc, records, suppliers, variant, Triggerings::new(alloc))?;
     Ok(triggerings.schedule(alloc, params)?)
 }
 
-/// The placements of these suppliers' frames, supplier after supplier.
-pub(crate) fn gather_triggerings<R: Lender>(
-    alloc: Global,
-    records: &mut R,
-    suppliers: &[Name],
-    variant: Name,
-) -> Result<Triggerings, Refusal>
-    ensures { OnlyReads R.Records
-        (Gathers variant (λ p x triggerings. triggerings ≡ placements_among suppliers.now x))
-        records.old records.new result }
-{
-    let mut triggerings = Triggerings::new(alloc);
-    for supplier in suppliers {
-        find_page(alloc, records, *supplier, variant)?;
-        triggerings.push_page(records.lent())?;
+// The placements of a supplier's frames come behind those of the suppliers before.
+impl Gathered for Triggerings {
+    ghost use Rattle.std.specs.Prelude.{◌≡◌};
+    ghost use Rattle.fr_office.specs.Shared.{placements_among};
+
+    ghost gathered = { λ p first ss x triggerings. triggerings ≡ placements_among ss x };
+
+    fn take(&mut self, _alloc: Global, page: &Page) -> Result<(), NoMemory> {
+        self.push_page(page)
     }
-    Ok(triggerings)
 }

@@ -8,8 +8,8 @@ returns-then-branch g c = record {
   reads = search (rules, reads_then);
   told = λ now.
       let stands = g.R.Records.stands in
-      shown-replied (stands c.args.records.now) (stands c.has_variant.new.self) c.args.actor.now c.args.variant c.args.report.now c.in_ok-has_variant.field-0
-      (c.in_ok-has_variant.ensures.has (c.show.ensures.reads.falls now)) (stands c.show.new.records) c.show.result c.if-branch.true (c.show.ensures.told now);
+      shown-replied (stands c.args.records.now) (stands c.is_there.new.records) c.args.actor.now c.args.variant c.args.report.now c.in_ok-is_there.field-0
+      (c.in_ok-is_there.ensures.told (c.show.ensures.reads.falls now)) (stands c.show.new.records) c.show.result c.if-branch.true (c.show.ensures.told now);
 }
 
 pub returns-else-branch : goal.returns-else-branch
@@ -17,6 +17,6 @@ returns-else-branch g c = record {
   reads = search (rules, reads_then);
   told = λ now.
       let stands = g.R.Records.stands in
-      none-replied (stands c.args.records.now) (stands c.has_variant.new.self) c.args.actor.now c.args.variant c.args.report.now c.in_ok-has_variant.field-0
-      (c.in_ok-has_variant.ensures.has now) c.if-branch.false;
+      none-replied (stands c.args.records.now) (stands c.is_there.new.records) c.args.actor.now c.args.variant c.args.report.now c.in_ok-is_there.field-0
+      (c.in_ok-is_there.ensures.told now) c.if-branch.false;
 }

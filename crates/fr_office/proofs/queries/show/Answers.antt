@@ -20,7 +20,7 @@ returns-in-Frames g c = record {
   reads = search (rules, reads_then);
   told = λ now.
       let stands = g.R.Records.stands in
-      shows-frames (stands c.args.records.now) (stands c.gather_frames.new.records) c.args.actor.now c.args.variant c.deref-in-Frames.result.now
+      shows-frames (stands c.args.records.now) (stands c.gather.new.records) c.args.actor.now c.args.variant c.deref-in-Frames.result.now
       (λ k b stood. c.deref-in-Frames.ensures.value ∙ c.in_ok-suppliers.ensures k b stood) c.args.report.now c.in_ok-rows-in-Frames.rows c.in-Frames.is (c.in_ok-rows-in-Frames.ensures.told now);
 }
 
@@ -39,7 +39,7 @@ returns-in-Gaps g c = record {
   reads = search (rules, reads_then);
   told = λ now.
       let stands = g.R.Records.stands in
-      shows-gaps (stands c.args.records.now) (stands c.gather_gaps.new.records) c.args.actor.now c.args.variant c.deref-in-Gaps.result.now
+      shows-gaps (stands c.args.records.now) (stands c.gather-in-Gaps.new.records) c.args.actor.now c.args.variant c.deref-in-Gaps.result.now
       (λ k b stood. c.deref-in-Gaps.ensures.value ∙ c.in_ok-suppliers.ensures k b stood) c.args.report.now c.in_ok-rows-in-Gaps.rows c.in-Gaps.is (c.in_ok-rows-in-Gaps.ensures.told now);
 }
 

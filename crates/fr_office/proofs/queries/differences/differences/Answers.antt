@@ -8,8 +8,8 @@ returns-then-not-branch g c = record {
   reads = search (rules, reads_then);
   told = λ now.
       let stands = g.R.Records.stands in
-      no_new-replied (stands c.args.records.now) (stands c.has_variant.new.self) c.args.actor.now c.args.variant c.args.from
-      c.in_ok-has_variant.field-0 (c.in_ok-has_variant.ensures.has now) c.if-not-branch.true;
+      no_new-replied (stands c.args.records.now) (stands c.is_there.new.records) c.args.actor.now c.args.variant c.args.from
+      c.in_ok-is_there.field-0 (c.in_ok-is_there.ensures.told now) c.if-not-branch.true;
 }
 
 pub returns-then-not-branch-2 : goal.returns-then-not-branch-2
@@ -17,8 +17,8 @@ returns-then-not-branch-2 g c = record {
   reads = search (rules, reads_then);
   told = λ now.
       let stands = g.R.Records.stands in
-      no_old-replied (stands c.args.records.now) (stands c.has_variant.new.self) c.args.actor.now c.args.variant c.args.from (stands c.has_variant-2.new.self)
-      c.in_ok-has_variant.field-0 c.in_ok-has_variant-2.field-0 (c.in_ok-has_variant.ensures.has (c.has_variant-2.ensures.reads.falls now)) (c.in_ok-has_variant-2.ensures.has now)
+      no_old-replied (stands c.args.records.now) (stands c.is_there.new.records) c.args.actor.now c.args.variant c.args.from (stands c.is_there-2.new.records)
+      c.in_ok-is_there.field-0 c.in_ok-is_there-2.field-0 (c.in_ok-is_there.ensures.told (c.is_there-2.ensures.reads.falls now)) (c.in_ok-is_there-2.ensures.told now)
       c.if-not-branch-2.true;
 }
 
@@ -28,9 +28,9 @@ returns-in_err-rows g c = record {
   told = λ now.
       let stands = g.R.Records.stands in
       let last = c.gather_seen.ensures.reads.falls now in
-      let mid = c.has_variant-2.ensures.reads.falls last in
-      differences-lacked (stands c.args.records.now) (stands c.has_variant.new.self) c.args.actor.now c.args.variant c.args.from (stands c.has_variant-2.new.self) (stands c.gather_seen.new.records)
-      c.in_ok-has_variant.field-0 c.in_ok-has_variant-2.field-0 (c.in_ok-has_variant.ensures.has mid) (c.in_ok-has_variant-2.ensures.has last)
+      let mid = c.is_there-2.ensures.reads.falls last in
+      differences-lacked (stands c.args.records.now) (stands c.is_there.new.records) c.args.actor.now c.args.variant c.args.from (stands c.is_there-2.new.records) (stands c.gather_seen.new.records)
+      c.in_ok-is_there.field-0 c.in_ok-is_there-2.field-0 (c.in_ok-is_there.ensures.told mid) (c.in_ok-is_there-2.ensures.told last)
       c.if-not-branch.false c.if-not-branch-2.false c.in_err-rows.field-0.0 c.from_residual-in_err-rows.result (search rules) (c.in_err-rows.ensures.told now);
 }
 
@@ -40,8 +40,8 @@ returns g c = record {
   told = λ now.
       let stands = g.R.Records.stands in
       let last = c.gather_seen.ensures.reads.falls now in
-      let mid = c.has_variant-2.ensures.reads.falls last in
-      differences-replied (stands c.args.records.now) (stands c.has_variant.new.self) c.args.actor.now c.args.variant c.args.from (stands c.has_variant-2.new.self) (stands c.gather_seen.new.records)
-      c.in_ok-has_variant.field-0 c.in_ok-has_variant-2.field-0 (c.in_ok-has_variant.ensures.has mid) (c.in_ok-has_variant-2.ensures.has last)
+      let mid = c.is_there-2.ensures.reads.falls last in
+      differences-replied (stands c.args.records.now) (stands c.is_there.new.records) c.args.actor.now c.args.variant c.args.from (stands c.is_there-2.new.records) (stands c.gather_seen.new.records)
+      c.in_ok-is_there.field-0 c.in_ok-is_there-2.field-0 (c.in_ok-is_there.ensures.told mid) (c.in_ok-is_there-2.ensures.told last)
       c.if-not-branch.false c.if-not-branch-2.false c.in_ok-rows.rows (c.in_ok-rows.ensures.told now);
 }

@@ -1,35 +1,19 @@
-use Rattle.std.proofs.Common.{rules, ◌+◌, ◌∙◌, ◌++◌, [], ◌∷◌, take, sym, ap}
-use Rattle.std.proofs.lemmas.List.{take_more}
-use Rattle.fr_world.proofs.ReadLaws.{reads_none, reads_then}
-use Rattle.fr_office.proofs.ExportLaws.{begun-all_of, begun-more, begun-none}
-use Rattle.fr_office.proofs.LentPages.{finds-lent}
+use Rattle.std.proofs.Common.{rules, ◌≡◌, map}
+use Rattle.fr_base.specs.Exports.{part_of}
+use Rattle.fr_office.specs.Gathered.{IsPartOf}
+use Rattle.fr_office.proofs.ExportLaws.{frames_among, part-ends}
+use Rattle.fr_office.proofs.GatherLaws.{gathers-then}
+use Rattle.fr_world.proofs.ReadLaws.{reads_then}
 use Rattle.fr_office.proofs.queries.exports.gather_part.Goals as goal
-
-pub loop-supplier-init : goal.loop-supplier-init
-loop-supplier-init g c = record {
-  reads = reads_none _ _ _ _;
-  gathered = λ now. begun-none g.T.FileRecord.records c.args.number (g.R.Records.stands c.args.records.now) c.args.variant c.new-rows.result c.new-part.result c.new-rows.ensures c.new-part.ensures;
-}
-
-pub loop-supplier-preserved : goal.loop-supplier-preserved
-loop-supplier-preserved g c =
-    let records = g.R.Records in
-    let i = c.loop-supplier.supplier-index in
-    let suppliers = c.args.suppliers.now in
-    record {
-      reads = reads_then _ _ _ _ _ _ c.loop-supplier.invariant.reads c.find_page.ensures.finds.reads;
-      gathered = λ now.
-          begun-more g.T.FileRecord.records c.args.number (records.stands c.args.records.now) c.args.variant (records.stands c.loop-supplier.records) (records.stands c.find_page.new.records)
-          c.supplier-item.result (take i suppliers) (take (i + 1) suppliers) c.lent.result.now c.loop-supplier.rows c.push_part.new.rows c.loop-supplier.part c.push_part.new.part
-          (c.loop-supplier.invariant.gathered (c.find_page.ensures.finds.reads.falls now)) (finds-lent _ _ _ _ _ _ c.lent.ensures (c.in_ok-find_page.ensures.finds.told now)) c.in_ok-push_part.ensures
-          (take_more suppliers i c.supplier-item.result c.loop-supplier-test.true ∙ ap (λ s. take i suppliers ++ s ∷ []) (sym c.supplier-item.is));
-    }
 
 pub returns : goal.returns
 returns g c = record {
   reads = search (rules, reads_then);
   told = λ now.
-      let records = g.R.Records in
-      begun-all_of g.T.FileRecord.records c.args.number (records.stands c.args.records.now) c.args.variant (records.stands c.loop-supplier.records)
-      c.loop-supplier.supplier-index c.args.suppliers.now c.loop-supplier.rows c.loop-supplier.part c.loop-supplier-test.false (c.loop-supplier.invariant.gathered now);
+      let stands = g.R.Records.stands in
+      let records = g.T.FileRecord.records in
+      let ss = c.args.suppliers.now in
+      gathers-then (stands c.args.records.now) (stands c.gather.new.records) c.args.variant
+      (λ p x all. IsPartOf records p (record { part = c.new.result; rows = c.new-2.result }) ss x all) (λ p x rows. rows ≡ part_of c.args.number (map records (frames_among ss x))) c.in_ok-gathered.gathered c.in_ok-gathered.gathered.rows
+      (c.in_ok-gathered.ensures.told now) (λ p x is. part-ends records c.args.number p ss x (record { part = c.new.result; rows = c.new-2.result }) c.in_ok-gathered.gathered c.new.ensures c.new-2.ensures is);
 }
