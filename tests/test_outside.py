@@ -11,8 +11,8 @@ from tools.heads import CRATES
 MAY = {
     "fr_cli/src/files/inspection.rt": {"fs", "os"},
     "fr_cli/src/files/local_files.rt": {"fs"},
-    "fr_cli/src/files/watch.rt": {"fs", "os"},
-    "fr_cli/src/jobs/create.rt": {"fs", "os"},
+    "fr_cli/src/files/local_registers.rt": {"fs", "os"},
+    "fr_cli/src/files/local_watch.rt": {"fs", "os"},
     "fr_cli/src/streams/local_listener.rt": {"net", "time", "mio"},
     "fr_cli/src/timed_stream.rt": {"net", "time"},
     "fr_desks/src/file_desk.rt": {"fs"},
@@ -55,7 +55,7 @@ class Outside(Case):
 
     def test_files(self):
         found = {name: used for name, text in sources() if (used := modules(text))}
-        self.see("some are found", True, {"fr_cli/src/files/watch.rt", "slotplan/src/streams.rt"} <= set(found))
+        self.see("some are found", True, {"fr_cli/src/files/local_watch.rt", "slotplan/src/streams.rt"} <= set(found))
         for name, used in found.items():
             self.see(f"what {name} uses, and may not", set(), used - MAY.get(name, set()))
 

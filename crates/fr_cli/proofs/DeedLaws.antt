@@ -31,6 +31,7 @@ use Rattle.fr_cli.specs.Deliveries.{request_with}
 use Rattle.fr_cli.specs.Endings.{NamesFault, Tells, status_of}
 use Rattle.fr_cli.specs.Faults.{IsNotDelivered, IsNotOpened, IsNotReported, fault_word}
 use Rattle.fr_cli.specs.RequestStream.{AreFirstOf, HasAnswered, IsAsked}
+use Rattle.fr_cli.specs.Handlings.{Handlings}
 use Rattle.fr_cli.specs.Jobs.{Ends, IsPerformed, Serves, Shows, Streams}
 use Rattle.fr_cli.specs.Numbered.{numbered_lines, without_numbers}
 use Rattle.fr_cli.specs.Outlets.{held_before, held_behind}
@@ -300,34 +301,34 @@ module _ {D R : Type 0} {g : Ghosts D} (desk : Desk.Ghosts R) (held : Image) (re
         let named : NamesFault told (fault_word fault) mid s.err.new = subst (λ (d : Result ⊤ Fault). Tells told mid s.err.new d) failed tells in
         not_opened fault (inr not) (ends ∙ ap status_of failed, silent, subst (λ old. NamesFault told (fault_word fault) old s.err.new) kept named) stayed
 
-    serve : (db : Bor (List ℕ)) (port count seconds : ℕ) → Serves desk held rest read comings port count seconds s status → Leading (job.Serve db port count seconds)
+    serve : (files : Handlings) (db : Bor (List ℕ)) (port count seconds : ℕ) → Serves desk held rest read files comings port count seconds s status → Leading (job.Serve db port count seconds)
     unfolding IsServed
-    serve db port count seconds (done, mid, ends, announced, inl (fault, failed, not, stayed, silent, kept), tells) =
+    serve files db port count seconds (done, mid, ends, announced, inl (fault, failed, not, stayed, silent, kept), tells) =
         inl (not_served done mid fault ends failed not stayed silent kept tells)
-    serve db port count seconds (done, mid, ends, announced, inr (last, old, new, over, has), tells) =
+    serve files db port count seconds (done, mid, ends, announced, inr (last, old, new, over, has), tells) =
         led (job.Serve db port count seconds) (Visits has.visits) (has.came_in, all_served count has.visits done ends has.all) (visits_lead last over.left.0 has.visits has.served.0)
 
     -- so a job that asks the register of a file
-    pub job_leads : (j : Job) → IsPerformed desk held rest read comings j s status → AsksRegister j → Leading j
+    pub job_leads : (files : Handlings) (j : Job) → IsPerformed desk held rest read files comings j s status → AsksRegister j → Leading j
     unfolding IsPerformed
-    job_leads (job.Run numbered) did asks = absurd asks
-    job_leads (job.Create db config) did asks = absurd asks
-    job_leads (job.Migrate db) did asks = absurd asks
-    job_leads (job.Serve db port count seconds) (did, none, kept) asks = serve db port count seconds did
-    job_leads (job.Ask db numbered) (done, did, ends, none, quiet) asks = ask db numbered done quiet did ends
-    job_leads (job.Report db query) (done, shown, says, none, quiet) asks = report db query done quiet.1 shown says
-    job_leads (job.Picture db variant since supplier) (done, shown, says, none, quiet) asks = picture db variant since supplier done quiet.1 shown says
-    job_leads (job.Deliver db delivery) (done, shown, says, kept, quiet) asks = deliver db delivery done quiet shown says
-    job_leads (job.Check file) did asks = absurd asks
-    job_leads (job.Explain word) did asks = absurd asks
+    job_leads files (job.Run numbered) did asks = absurd asks
+    job_leads files (job.Create db config) did asks = absurd asks
+    job_leads files (job.Migrate db) did asks = absurd asks
+    job_leads files (job.Serve db port count seconds) (did, none, kept, handled) asks = serve files db port count seconds did
+    job_leads files (job.Ask db numbered) (done, did, ends, none, quiet, handled) asks = ask db numbered done quiet did ends
+    job_leads files (job.Report db query) (done, shown, says, none, quiet, handled) asks = report db query done quiet.1 shown says
+    job_leads files (job.Picture db variant since supplier) (done, shown, says, none, quiet, handled) asks = picture db variant since supplier done quiet.1 shown says
+    job_leads files (job.Deliver db delivery) (done, shown, says, kept, quiet, handled) asks = deliver db delivery done quiet shown says
+    job_leads files (job.Check file) did asks = absurd asks
+    job_leads files (job.Explain word) did asks = absurd asks
 
 -- a register's file that was made
-pub made_is_held : {D R O E : Type 0} {g : Ghosts D} {printed : SinkGhosts O} {told : SinkGhosts E} (desk : Desk.Ghosts R) (held next : Image) (rest : Leftover D g) (read : Readings) (comings : Comings) (db config : Bor (List ℕ)) (s : Streams printed told)
-    → IsPerformed desk held (Some rest) read comings (job.Create db config) s 0 → IsCleanLeft rest → IsNextOf rest next
+pub made_is_held : {D R O E : Type 0} {g : Ghosts D} {printed : SinkGhosts O} {told : SinkGhosts E} (desk : Desk.Ghosts R) (held next : Image) (rest : Leftover D g) (read : Readings) (touched : Handlings) (comings : Comings) (db config : Bor (List ℕ)) (s : Streams printed told)
+    → IsPerformed desk held (Some rest) read touched comings (job.Create db config) s 0 → IsCleanLeft rest → IsNextOf rest next
     → (f : ClusterFile) × IsClusterAt read config.now f × Held next f.cluster (opening f) × IsSound f.cluster (opening f)
 unfolding IsPerformed
-made_is_held {D} {R} {g = g} desk held next rest read comings db config s ((Ok x, fault, (f, at, formed, (files, same, holds, bare)), silent, ends), quiet) is opened =
+made_is_held {D} {R} {g = g} desk held next rest read touched comings db config s ((Ok x, fault, (f, at, formed, (files, same, holds, bare)), silent, ends), quiet, handled) is opened =
     let these : rest ≡ left.Files files = cc in
     let (book, only, still) = next_holds {g = g} (left.Files files) next f.cluster (opening f) (subst IsCleanLeft these is) (subst (λ l. IsNextOf l next) these opened) holds in
     (f, at, subst (λ b. Held next f.cluster b) only still, opening-sound f formed)
-made_is_held desk held next rest read comings db config s ((Err fault, of, made, silent, ends), quiet) is opened = absurd (not_done 0 ends.0 refl)
+made_is_held desk held next rest read touched comings db config s ((Err fault, of, made, silent, ends), quiet, handled) is opened = absurd (not_done 0 ends.0 refl)

@@ -8,6 +8,7 @@ use Rattle.fr_cli.specs.Faults.{IsCaused, IsNotMade, IsNotMigrated, IsNotOpened}
 use Rattle.fr_cli.specs.declared.fault.Fault.TheVariants.{Register}
 use Rattle.fr_store.specs.Refused.{IsRefusedBy, IsSpared, IsUnavailable, NeedsNone, Refusing, makes_closed, migrates, opens}
 use Rattle.fr_store.specs.declared.fault.StoreFault.{StoreFault}
+use Rattle.fr_store.specs.declared.fault.StoreFault.TheVariants.{Unavailable}
 
 module _ {D : Type 0} {g : Ghosts D} (held : Image) where
   -- for such a cause
@@ -24,3 +25,7 @@ module _ {D : Type 0} {g : Ghosts D} (held : Image) where
 
   pub not_made : (f : ClusterFile) (rest : Option (Leftover D g)) (fault : StoreFault) → IsRefusedBy (makes_closed f) IsUnavailable held fault rest → IsNotMade held rest f (Register fault)
   not_made f rest fault h = (fault, refl, h.tells, is_caused (makes_closed f) IsUnavailable rest fault (λ left spared. spared) h)
+
+  -- Files of which one was opened before are refused, and nothing is left of them.
+  pub not_begun : (call : Refusing) (Without : StoreFault → Type 0) → call.tells Unavailable → Without Unavailable → IsRefusedBy {D = D} {g = g} call Without held Unavailable None
+  not_begun call Without tells lost = record { tells = tells; left = tt; lost = λ none. lost }

@@ -19,6 +19,7 @@ use Rattle.fr_world.specs.Held.{Leaving}
 use Rattle.fr_cli.specs.AnsweredLines.{AnswersEach}
 use Rattle.fr_cli.specs.Deeds.{Asked, Deed, Did, Drawn, IsDeedOf, Lines, Visits, asks_by, session_of}
 use Rattle.fr_cli.specs.RequestStream.{IsAsked}
+use Rattle.fr_cli.specs.Handlings.{Handlings}
 use Rattle.fr_cli.specs.Jobs.{Ends, IsPerformed, Serves, Streams}
 use Rattle.fr_cli.specs.Endings.{status_of}
 use Rattle.fr_cli.specs.Opened.{IsOver}
@@ -122,11 +123,11 @@ module _ {D K : Type 0} (g : Ghosts D) (desk : Desk.Ghosts K) (leaves : K → Le
         let (lines, answers, were, all) = answered_lines desk held rest read comings s status numbered asked (ends.0 ∙ ap status_of same) has in
         inr (last, Lines lines answers, were, old, new, over, lines_stop last old new over lines answers all.1)
 
-    serve : (db : Bor (List ℕ)) (port count seconds : ℕ) → Serves desk held rest read comings port count seconds s status → Stopping (job.Serve db port count seconds)
+    serve : (files : Handlings) (db : Bor (List ℕ)) (port count seconds : ℕ) → Serves desk held rest read files comings port count seconds s status → Stopping (job.Serve db port count seconds)
     unfolding IsServed
-    serve db port count seconds (done, mid, ends, announced, inl (fault, failed, not, stayed, silent, kept), tells) =
+    serve files db port count seconds (done, mid, ends, announced, inl (fault, failed, not, stayed, silent, kept), tells) =
         inl (not_served desk held rest read comings s status done mid fault ends failed not stayed silent kept tells)
-    serve db port count seconds (done, mid, ends, announced, inr (last, old, new, over, has), tells) = inr (
+    serve files db port count seconds (done, mid, ends, announced, inr (last, old, new, over, has), tells) = inr (
       last,
       Visits has.visits,
       (has.came_in, all_served desk held rest read comings s status count has.visits done ends has.all),
@@ -136,15 +137,15 @@ module _ {D K : Type 0} (g : Ghosts D) (desk : Desk.Ghosts K) (leaves : K → Le
       visits_stop last old new over has.visits has.served.1,
     )
 
-    pub job_stops : (j : Job) → IsPerformed desk held rest read comings j s status → AnswersOn j → Stopping j
+    pub job_stops : (files : Handlings) (j : Job) → IsPerformed desk held rest read files comings j s status → AnswersOn j → Stopping j
     unfolding IsPerformed
-    job_stops (job.Run numbered) did on = absurd on
-    job_stops (job.Create db config) did on = absurd on
-    job_stops (job.Migrate db) did on = absurd on
-    job_stops (job.Serve db port count seconds) (did, none, kept) on = serve db port count seconds did
-    job_stops (job.Ask db numbered) (done, did, ends, none, quiet) on = ask db numbered done quiet did ends
-    job_stops (job.Report db query) did on = absurd on
-    job_stops (job.Picture db variant since supplier) did on = absurd on
-    job_stops (job.Deliver db delivery) did on = absurd on
-    job_stops (job.Check file) did on = absurd on
-    job_stops (job.Explain word) did on = absurd on
+    job_stops files (job.Run numbered) did on = absurd on
+    job_stops files (job.Create db config) did on = absurd on
+    job_stops files (job.Migrate db) did on = absurd on
+    job_stops files (job.Serve db port count seconds) (did, none, kept, handled) on = serve files db port count seconds did
+    job_stops files (job.Ask db numbered) (done, did, ends, none, quiet, handled) on = ask db numbered done quiet did ends
+    job_stops files (job.Report db query) did on = absurd on
+    job_stops files (job.Picture db variant since supplier) did on = absurd on
+    job_stops files (job.Deliver db delivery) did on = absurd on
+    job_stops files (job.Check file) did on = absurd on
+    job_stops files (job.Explain word) did on = absurd on

@@ -106,10 +106,10 @@ IsCheckedText read path WasRead IsCheckedAs done = ((fault : Fault) × (done ≡
     ⊎ ((bytes : List ℕ) × WasRead bytes × IsCheckedAs bytes done)
 
 -- Such a file is checked so: all of it, or of a file of rows a front. Of a path and of a register no text is read.
-abbrev pub IsCheckedFile : Readings → CheckSubject → Result (Vec ℕ) Failure → Type 0
-IsCheckedFile read (of.Config path) done = IsCheckedText read path.now (read.whole max_config path.now) IsChecked done
-IsCheckedFile read (of.Requests path) done = IsCheckedText read path.now (read.whole max_script path.now)
+abbrev pub IsCheckedFile : Readings → (List ℕ → List Hindrance → Type 0) → CheckSubject → Result (Vec ℕ) Failure → Type 0
+IsCheckedFile read hindered (of.Config path) done = IsCheckedText read path.now (read.whole max_config path.now) IsChecked done
+IsCheckedFile read hindered (of.Requests path) done = IsCheckedText read path.now (read.whole max_script path.now)
     (λ bytes. AreChecked (AreToldOfRequests bytes) (fine_requests bytes)) done
-IsCheckedFile read (of.Rows path) done = IsCheckedText read path.now (read.front max_rows path.now) (λ bytes. AreChecked (AreToldOfRows bytes) fine_rows) done
-IsCheckedFile read (of.Target path) done = read.none × IsCheckedPath path.now done
-IsCheckedFile read (of.Register path) done = read.none × IsCheckedRegister (read.hindered path.now) done
+IsCheckedFile read hindered (of.Rows path) done = IsCheckedText read path.now (read.front max_rows path.now) (λ bytes. AreChecked (AreToldOfRows bytes) fine_rows) done
+IsCheckedFile read hindered (of.Target path) done = read.none × IsCheckedPath path.now done
+IsCheckedFile read hindered (of.Register path) done = read.none × IsCheckedRegister (hindered path.now) done

@@ -12,7 +12,7 @@ use Rattle.fr_cli.specs.declared.files.watch.WatchFault.{WatchFault}
 use Rattle.fr_cli.specs.declared.files.watch.WatchFault.TheVariants as watch
 
 -- the office that it guards
-abbrev pub office_of : {R : Type 0} → Guarded R → Office R
+abbrev pub office_of : {R W : Type 0} → Guarded R W → Office R
 office_of guarded = guarded.office
 
 -- why they are not watched, by the kind of error with which they were looked at

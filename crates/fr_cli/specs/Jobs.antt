@@ -1,5 +1,5 @@
 -- Jobs: what each job does. With which status it ends, what it reads, prints and tells, and what is left of its file.
-use Rattle.std.specs.Prelude.{◌≡◌, ◌≢◌, ℕ, List, codes, IfErr, Option, None, Result, ⊤}
+use Rattle.std.specs.Prelude.{◌≡◌, ◌≢◌, ℕ, List, [], codes, IfErr, Option, None, Result, ⊤}
 use Rattle.std.specs.Global.{Vec}
 use Rattle.std.specs.Io.KnownBytes.{Keeps}
 use Rattle.fr_base.specs.declared.desk.Desk as Desk
@@ -12,6 +12,7 @@ use Rattle.fr_cli.specs.SingleRequest.{IsForReader, query_of}
 use Rattle.fr_cli.specs.Checking.{IsCheckedFile}
 use Rattle.fr_cli.specs.Endings.{IsTold, Tells, status_of}
 use Rattle.fr_cli.specs.Explaining.{IsExplained}
+use Rattle.fr_cli.specs.Handlings.{AreUntouched, Handlings, IsDeliveredAt, IsMadeAt, IsOpenedAt}
 use Rattle.fr_cli.specs.Faults.{IsNotCreated, IsNotDelivered, IsNotMigrated, IsNotReported}
 use Rattle.fr_cli.specs.RequestStream.{IsAsked}
 use Rattle.fr_cli.specs.Outlets.{Outlet, StopsSo, held_before, held_behind, outlet}
@@ -49,10 +50,21 @@ Ends {told = told} done s status = (status ≡ status_of done) × Tells told s.e
 abbrev pub Shows : {O E : Type 0} {printed : SinkGhosts O} {told : SinkGhosts E} → Result (Vec ℕ) Failure → Streams printed told → ℕ → Type 0
 Shows done s status = IsTold s.out s.err done status
 
--- What is said of a register that is open; what a job's register file held, and what is left of it; what was read of text files; and the connections
--- that came in.
+-- the path of the register's file at which a job is done, if it is done at one
+abbrev pub path_of : Job → List ℕ
+path_of (job.Create db config) = db.now
+path_of (job.Migrate db) = db.now
+path_of (job.Serve db port count seconds) = db.now
+path_of (job.Ask db numbered) = db.now
+path_of (job.Report db query) = db.now
+path_of (job.Picture db variant since supplier) = db.now
+path_of (job.Deliver db delivery) = db.now
+path_of _ = []
+
+-- What is said of a register that is open; what a job's register file held, and what is left of it; what was read of text files; what was done with
+-- registers' files; and the connections that came in.
 module _ {D R O E : Type 0} {g : Ghosts D} {printed : SinkGhosts O} {told : SinkGhosts E} (desk : Desk.Ghosts R) (held : Image) (rest : Option (Leftover D g)) (read : Readings)
-    (comings : Comings) where
+    (files : Handlings) (comings : Comings) where
   -- a register file was made of the cluster file at this path
   abbrev pub Creates : List ℕ → Streams printed told → ℕ → Type 0
   Creates config s status = (done : Result ⊤ Fault) × IfErr done (IsNotCreated held rest read config) × IsCreated held rest read config done
@@ -78,18 +90,19 @@ module _ {D R O E : Type 0} {g : Ghosts D} {printed : SinkGhosts O} {told : Sink
   unfoldable pub IsPerformed : Job → Streams printed told → ℕ → Type 0
   IsPerformed (job.Run numbered) s status = (done : Result ⊤ ScriptFault) × IsRunOf numbered s.input.old s.input.new (held_before s.out) (held_behind s.out) done
       × StopsSo printed s.out.new done
-      × Ends (of_script done) s status × read.none × comings.none × (rest ≡ None)
-  IsPerformed (job.Create db config) s status = Creates config.now s status × Quiet s
-  IsPerformed (job.Migrate db) s status = Migrates s status × read.none × Quiet s
-  IsPerformed (job.Serve db port count seconds) s status = Serves port count seconds s status × read.none × Keeps s.input.old s.input.new
+      × Ends (of_script done) s status × read.none × comings.none × AreUntouched files rest
+  IsPerformed (job.Create db config) s status = Creates config.now s status × Quiet s × IsMadeAt files rest read db.now config.now
+  IsPerformed (job.Migrate db) s status = Migrates s status × read.none × Quiet s × files.migrated db.now
+  IsPerformed (job.Serve db port count seconds) s status = Serves port count seconds s status × read.none × Keeps s.input.old s.input.new × IsOpenedAt files rest db.now
   IsPerformed (job.Ask db numbered) s status = (done : Result ⊤ Fault) × IsAsked numbered desk held rest s.input.old s.input.new s.out done
-      × Ends done s status × read.none × comings.none
+      × Ends done s status × read.none × comings.none × IsOpenedAt files rest db.now
   IsPerformed (job.Report db query) s status = (done : Result (Vec ℕ) Failure) × Shows done s status
-      × Says (IsNotReported held rest) (IsForReader (IsAnswerOfFile held rest (query_of query))) done × read.none × Quiet s
+      × Says (IsNotReported held rest) (IsForReader (IsAnswerOfFile held rest (query_of query))) done × read.none × Quiet s × IsOpenedAt files rest db.now
   IsPerformed (job.Picture db variant since supplier) s status = (done : Result (Vec ℕ) Failure) × Shows done s status
-      × PrintsRead (IsNotReported held rest) (IsReadOfFile held rest (plans_for (reader_named supplier) variant.now (since_of since))) IsPage done × read.none × Quiet s
+      × PrintsRead (IsNotReported held rest) (IsReadOfFile held rest (plans_for (reader_named supplier) variant.now (since_of since))) IsPage done × read.none × Quiet s × IsOpenedAt files rest db.now
   IsPerformed (job.Deliver db delivery) s status = (done : Result (Vec ℕ) Failure) × Shows done s status
       × Says (IsNotDelivered held rest read delivery s.input.old s.input.new) (IsDeliveryToFile held rest read delivery s.input.old s.input.new) done
       × (delivery.key.now ≢ codes "-" → Keeps s.input.old s.input.new) × comings.none
-  IsPerformed (job.Check file) s status = (done : Result (Vec ℕ) Failure) × Shows done s status × IsCheckedFile read file done × Quiet s × (rest ≡ None)
-  IsPerformed (job.Explain word) s status = (done : Result (Vec ℕ) Failure) × Shows done s status × IsExplained word done × read.none × Quiet s × (rest ≡ None)
+      × IsDeliveredAt files rest read db.now delivery s.input.old s.input.new
+  IsPerformed (job.Check file) s status = (done : Result (Vec ℕ) Failure) × Shows done s status × IsCheckedFile read files.hindered file done × Quiet s × AreUntouched files rest
+  IsPerformed (job.Explain word) s status = (done : Result (Vec ℕ) Failure) × Shows done s status × IsExplained word done × read.none × Quiet s × AreUntouched files rest

@@ -26,6 +26,7 @@ pub mod Endings
 pub mod Performing
 pub mod RequestStream
 pub mod Guarding
+pub mod Handlings
 pub mod Visits
 pub mod Outlets
 pub mod Serving

@@ -25,12 +25,14 @@ use Rattle.fr_office.specs.Crashed.{IsNear}
 use Rattle.fr_office.specs.Headline.{WereAnswered}
 use Rattle.fr_cli.specs.Deeds.{Deed, Did, IsDeedOf, WasLeft, session_of}
 use Rattle.fr_cli.specs.Faults.{IsNotOpened}
+use Rattle.fr_cli.specs.Handlings.{handlings}
 use Rattle.fr_cli.specs.Jobs.{IsPerformed, Shows, Streams}
 use Rattle.fr_cli.specs.Texts.{IsClusterAt, readings}
 use Rattle.fr_cli.specs.Visits.{Comings, SinkGhosts, SourceGhosts, comings}
 use Rattle.fr_cli.specs.declared.failure.Failure.TheVariants as failure
 use Rattle.fr_cli.specs.declared.fault.Fault.{Fault}
 use Rattle.fr_cli.specs.declared.fault.Fault.TheVariants.{Register}
+use Rattle.fr_cli.specs.declared.files.registers.Registers as Registers
 use Rattle.fr_cli.specs.declared.streams.listener.Listener as Listener
 use Rattle.fr_cli.specs.declared.files.text_files.TextFiles as TextFiles
 use Rattle.fr_cli.specs.declared.words.Job.{Job}
@@ -107,23 +109,23 @@ WasNotOpened {D} {g = g} held rest comings s status =
     (fault : Fault) × ((rest ≡ None) ⊎ IsNotOpened held rest fault) × Shows (Err (failure.Fault fault)) s status × comings.none
     × ((left : Leftover D g) (next : Image) → rest ≡ Some left → IsClear left fault → IsCleanLeft left → IsNextOf left next → HoldsOn held next)
 
--- While a job was done, these files of text became those, and this listener that one. What is said of a register that is open; and of a job that was
+-- While a job was done, these registers' files became those, and so did files of text and a listener. What is said of a register that is open; and of a job that was
 -- done, and left this of its file.
-module _ {D K F R L I W O E : Type 0} (g : Ghosts D) (desk : Desk.Ghosts K) (texts : TextFiles.Ghosts F R) (reader : Read.Ghosts R)
+module _ {D K G GF GR GW F R L I W O E : Type 0} (g : Ghosts D) (desk : Desk.Ghosts K) (registers : Registers.Ghosts G GF GR GW) (texts : TextFiles.Ghosts F R) (reader : Read.Ghosts R)
     (listener : Listener.Ghosts L I W) (from : SourceGhosts I) (to : SinkGhosts W) (printed : SinkGhosts O) (told : SinkGhosts E) where
   -- Where a register's file was made, it was of the cluster file that was read at the path, and holds next the book of its new register, which is
   -- sound.
   abbrev pub MadeIsHeld : Type 0
-  MadeIsHeld = (held next : Image) (left : Leftover D g) (before after : F) (old new : L) (db config : Bor (List ℕ)) (s : Streams printed told)
-      → IsPerformed desk held (Some left) (readings texts reader before after) (comings listener from to old new) (job.Create db config) s 0
+  MadeIsHeld = (held next : Image) (left : Leftover D g) (early late : G) (before after : F) (old new : L) (db config : Bor (List ℕ)) (s : Streams printed told)
+      → IsPerformed desk held (Some left) (readings texts reader before after) (handlings registers early late) (comings listener from to old new) (job.Create db config) s 0
       → IsCleanLeft left → IsNextOf left next
       → (f : ClusterFile) × IsClusterAt (readings texts reader before after) config.now f × Held next f.cluster (opening f) × IsSound f.cluster (opening f)
 
   -- A job that asks the register of a file did such a deed, and that leads from what the file held to what it holds next; or it ended as one
   -- that did not open the file, and asked nothing.
   abbrev pub JobLeads : Type 0
-  JobLeads = (held : Image) (rest : Option (Leftover D g)) (before after : F) (old new : L) (job : Job) (s : Streams printed told) (status : ℕ)
-      → IsPerformed desk held rest (readings texts reader before after) (comings listener from to old new) job s status → AsksRegister job
+  JobLeads = (held : Image) (rest : Option (Leftover D g)) (early late : G) (before after : F) (old new : L) (job : Job) (s : Streams printed told) (status : ℕ)
+      → IsPerformed desk held rest (readings texts reader before after) (handlings registers early late) (comings listener from to old new) job s status → AsksRegister job
       → WasNotOpened held rest (comings listener from to old new) s status
       ⊎ ((left : Leftover D g) × (rest ≡ Some left)
       × (deed : Deed) × IsDeedOf (readings texts reader before after) (comings listener from to old new) s status job deed

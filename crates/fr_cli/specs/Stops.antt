@@ -19,12 +19,14 @@ use Rattle.fr_desks.specs.Sessions.{Session}
 use Rattle.fr_world.specs.Held.{Leaving}
 use Rattle.fr_cli.specs.AnsweredLines.{AnswersEach}
 use Rattle.fr_cli.specs.Deeds.{Deed, Did, IsDeedOf, Lines, Visits}
+use Rattle.fr_cli.specs.Handlings.{handlings}
 use Rattle.fr_cli.specs.Jobs.{IsPerformed, Streams}
 use Rattle.fr_cli.specs.Opened.{IsOver}
 use Rattle.fr_cli.specs.Series.{LeadsSomehow, Unclosed, WasNotOpened}
 use Rattle.fr_cli.specs.Serving.{ServesEach}
 use Rattle.fr_cli.specs.Texts.{readings}
 use Rattle.fr_cli.specs.Visits.{SinkGhosts, SourceGhosts, comings}
+use Rattle.fr_cli.specs.declared.files.registers.Registers as Registers
 use Rattle.fr_cli.specs.declared.streams.listener.Listener as Listener
 use Rattle.fr_cli.specs.declared.files.text_files.TextFiles as TextFiles
 use Rattle.fr_cli.specs.declared.words.Job.{Job}
@@ -65,13 +67,13 @@ module _ {D K : Type 0} (g : Ghosts D) (desk : Desk.Ghosts K) (leaves : K → Le
   StopsBehindEach held deed first last = (front : Deed) (more : Deed) → IsJoined deed front more
       → (it : K) × desk.clean it × WasDoneFrom first front it × WasDoneFrom it more last × StoodBehind held front it × StopsBehind held front it
 
-module _ {D K F R L I W O E : Type 0} (g : Ghosts D) (desk : Desk.Ghosts K) (leaves : K → Leaving) (texts : TextFiles.Ghosts F R) (reader : Read.Ghosts R)
+module _ {D K G GF GR GW F R L I W O E : Type 0} (g : Ghosts D) (desk : Desk.Ghosts K) (leaves : K → Leaving) (registers : Registers.Ghosts G GF GR GW) (texts : TextFiles.Ghosts F R) (reader : Read.Ghosts R)
     (listener : Listener.Ghosts L I W) (from : SourceGhosts I) (to : SinkGhosts W) (printed : SinkGhosts O) (told : SinkGhosts E) where
   -- A job that answers lines or serves connections did a deed, from the register that was opened over its file to the one that was closed. If nobody
   -- else wrote to the file before that, a stop behind any answer leaves what the deed had led to. Or the job did not open the file.
   abbrev pub JobStops : Type 0
-  JobStops = (held : Image) (rest : Option (Leftover D g)) (before after : F) (old new : L) (job : Job) (s : Streams printed told) (status : ℕ)
-      → IsPerformed desk held rest (readings texts reader before after) (comings listener from to old new) job s status → AnswersOn job
+  JobStops = (held : Image) (rest : Option (Leftover D g)) (early late : G) (before after : F) (old new : L) (job : Job) (s : Streams printed told) (status : ℕ)
+      → IsPerformed desk held rest (readings texts reader before after) (handlings registers early late) (comings listener from to old new) job s status → AnswersOn job
       → WasNotOpened held rest (comings listener from to old new) s status
       ⊎ ((left : Leftover D g) × (deed : Deed) × IsDeedOf (readings texts reader before after) (comings listener from to old new) s status job deed
       × (first : K) × (last : K) × IsOver held rest left (desk.clean last) (desk.stands first) (desk.stands last)

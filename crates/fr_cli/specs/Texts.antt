@@ -7,7 +7,6 @@ use Rattle.fr_base.specs.Cluster.{ClusterFile}
 use Rattle.fr_text.specs.ClusterFile.{config_of}
 use Rattle.fr_cli.specs.declared.fault.Fault.{Fault}
 use Rattle.fr_cli.specs.declared.fault.Fault.TheVariants.{CannotOpen, NoMemory}
-use Rattle.fr_cli.specs.declared.files.hindrance.Hindrance.{Hindrance}
 use Rattle.fr_cli.specs.declared.files.text_files.TextFiles as TextFiles
 
 -- how many bytes a cluster file has at most
@@ -37,8 +36,6 @@ pub record Readings : Type 1 where
   pub whole : ℕ → List ℕ → List ℕ → Type 0
   -- The file at this path was opened, and its text begins so: these are so many bytes, or its whole text, if that has fewer.
   pub front : ℕ → List ℕ → List ℕ → Type 0
-  -- This was found in the way of using the register at this path.
-  pub hindered : List ℕ → List Hindrance → Type 0
 
 -- what was read while files became other files
 abbrev pub readings : {F R : Type 0} → TextFiles.Ghosts F R → Read.Ghosts R → F → F → Readings
@@ -47,7 +44,6 @@ readings {F} {R} files reader old new = record {
   opened = λ path. (input : R) × files.opens old path input new;
   whole = λ most path text. IsReadFrom files reader (λ all. all) most path text old new;
   front = λ most path text. IsReadFrom files reader (take most) most path text old new;
-  hindered = λ path found. files.hinders old path found;
 }
 
 -- For this no text is read of the file at the path: it cannot be opened, or not be read within its bounds; or memory is wanting

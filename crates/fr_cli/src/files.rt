@@ -3,5 +3,8 @@ pub(crate) mod file_contents;
 pub(crate) mod hindrance;
 pub(crate) mod inspection;
 pub(crate) mod local_files;
+pub(crate) mod local_registers;
+pub(crate) mod local_watch;
+pub(crate) mod registers;
 pub(crate) mod text_files;
 pub(crate) mod watch;

@@ -7,6 +7,7 @@ ghost use Rattle.fr_cli.specs.Series.{AllJobsAreKept, JobLeads, JobsAreKept, Mad
 ghost use Rattle.fr_cli.specs.Stops.{JobStops};
 ghost use Rattle.fr_office.specs.Crashed.{leaves_of};
 
+use crate::files::registers::Registers;
 use crate::files::text_files::TextFiles;
 use crate::streams::listener::Listener;
 use fr_base::Desk;
@@ -56,16 +57,16 @@ pub fn each_fault_is_explained()
 
 /// A register's file that was made, and that is opened next as it is or as a crash left it, holds the book of a new register. That is
 /// the register of the cluster file that was read.
-pub fn made_is_held<D: Disk, K: Desk, F: TextFiles, L: Listener, O: Sink, E: Sink>()
-    ensures { MadeIsHeld D.Disk K.Desk F.TextFiles F.Reader.Read L.Listener L.Reader.Source
+pub fn made_is_held<D: Disk, K: Desk, G: Registers, F: TextFiles, L: Listener, O: Sink, E: Sink>()
+    ensures { MadeIsHeld D.Disk K.Desk G.Registers F.TextFiles F.Reader.Read L.Listener L.Reader.Source
         L.Writer.Sink O.Sink E.Sink }
 {}
 
 /// What a job asked the register of a file, by what the job read and printed, leads from the book that the file held to the one that
 /// it holds next: the book after what was asked, and where the file failed to close at most one request more. Or the job ended as one
 /// that did not open the file, and asked nothing. Then what is left holds next what the file held, where it is clear what is left.
-pub fn job_leads<D: Disk, K: Desk, F: TextFiles, L: Listener, O: Sink, E: Sink>()
-    ensures { JobLeads D.Disk K.Desk F.TextFiles F.Reader.Read L.Listener L.Reader.Source
+pub fn job_leads<D: Disk, K: Desk, G: Registers, F: TextFiles, L: Listener, O: Sink, E: Sink>()
+    ensures { JobLeads D.Disk K.Desk G.Registers F.TextFiles F.Reader.Read L.Listener L.Reader.Source
         L.Writer.Sink O.Sink E.Sink }
 {}
 
@@ -73,9 +74,9 @@ pub fn job_leads<D: Disk, K: Desk, F: TextFiles, L: Listener, O: Sink, E: Sink>(
 /// there was before the first. If the program stops there, a crash leaves that book, or the one after one request more. Nobody else may
 /// have written to the file before the job closed it. The job came to its end: that the same holds of one that was stopped is argued.
 /// Or the job did not open the file.
-pub fn job_stops<D: Disk, F: TextFiles, L: Listener, O: Sink, E: Sink>()
+pub fn job_stops<D: Disk, G: Registers, F: TextFiles, L: Listener, O: Sink, E: Sink>()
     ensures { JobStops D.Disk ⟦<Office<Store<FileStore<D>>> as Desk>⟧
-        (leaves_of ⟦<Store<FileStore<D>> as Records>⟧.leaves) F.TextFiles F.Reader.Read L.Listener
+        (leaves_of ⟦<Store<FileStore<D>> as Records>⟧.leaves) G.Registers F.TextFiles F.Reader.Read L.Listener
         L.Reader.Source L.Writer.Sink O.Sink E.Sink }
 {}
 

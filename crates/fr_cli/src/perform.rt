@@ -1,9 +1,9 @@
 //! Does a job, and says how it ended: what is printed of it, and its status.
 ghost use Rattle.std.specs.Prelude.{◌≡◌, Err, Result, IfErr, ⊤};
-ghost use Rattle.sqlite_wal.specs.Files.{image_at};
 ghost use Rattle.fr_cli.specs.Endings.{IsPrinted, IsTold, Tells, status_of};
 ghost use Rattle.fr_cli.specs.Faults.{IsNotMigrated};
-ghost use Rattle.fr_cli.specs.Jobs.{IsPerformed};
+ghost use Rattle.fr_cli.specs.Handlings.{handlings};
+ghost use Rattle.fr_cli.specs.Jobs.{IsPerformed, path_of};
 ghost use Rattle.fr_cli.specs.Outlets.{IsSaid, StopsSo, outlet};
 ghost use Rattle.fr_cli.specs.Performing.{of_script};
 ghost use Rattle.fr_cli.specs.RegisterFiles.{IsMoved};
@@ -14,6 +14,7 @@ ghost use Rattle.fr_cli.specs.declared.script_fault.ScriptFault.{ScriptFault as 
 
 use crate::failure::Failure;
 use crate::fault::{Fault, of_script};
+use crate::files::registers::Registers;
 use crate::files::text_files::TextFiles;
 use crate::jobs::ask::ask;
 use crate::jobs::check::check;
@@ -28,29 +29,32 @@ use crate::streams::listener::Listener;
 use crate::streams::printing::{end, print, print_all, tell};
 use crate::words::{Job, WordFault};
 use fr_base::Desk;
-use fr_desks::{FileDesk, Left, file_desk};
+use fr_desks::Left;
+use fr_office::Office;
 use fr_text::Sink;
-use sqlite::Start;
+use sqlite_disk::Disk;
 use std::alloc::Global;
 use std::io::Read;
 
 /// Does the job, and gives its status: 0 where it was done; 1 where the register refused it, or would refuse rows of a
 /// file that was tried, or a fault ended it. What cannot be written to `err` is lost. Beside the status it gives what is
 /// left of the job's register file, of which [`end_closed`](crate::end_closed) makes the status that the process ends with.
-/// The texts that it reads by their paths stand in `files`; a server's connections come in at the listener. `start` says
-/// what the job's register file held as it was opened.
-pub fn perform<S: Start, F: TextFiles, R: Read, O: Sink, E: Sink, L: Listener>(
-    rt: &HostRuntime,
+/// The register's file stands in `registers`, and the texts that it reads by their paths in `files`; a server's connections come in at
+/// the listener. It handles the register's file at the job's path, and no other.
+pub fn perform<G: Registers, F: TextFiles, R: Read, O: Sink, E: Sink, L: Listener>(
+    alloc: Global,
     job: &Job<'_>,
-    start: S,
+    registers: &mut G,
     files: &mut F,
     input: &mut R,
     out: &mut O,
     err: &mut E,
     listener: &mut L,
-) -> (u8, Left<S>)
-    ensures { IsPerformed ⟦<FileDesk<S> as Desk>⟧ (image_at S.Start) result.1
+) -> (u8, Left<G::File>)
+    ensures { IsPerformed ⟦<Office<G::Records> as Desk>⟧
+        (G.holds registers.old (path_of job.now)) result.1
         (readings F.TextFiles F.Reader.Read files.old files.new)
+        (handlings G.Registers registers.old registers.new)
         (comings L.Listener L.Reader.Source L.Writer.Sink listener.old listener.new) job.now record {
           input = record { old = R.remaining input.old; new = R.remaining input.new };
           out = outlet O.Sink out.old out.new;
@@ -58,9 +62,9 @@ pub fn perform<S: Start, F: TextFiles, R: Read, O: Sink, E: Sink, L: Listener>(
         } result.0 }
 {
     match *job {
-        Job::Run { numbered } => (end_script(rt.alloc(), input, out, err, numbered), None),
-        Job::Create { db, config } => ended(create(rt, db, config, start, files), err),
-        Job::Migrate { db } => ended(migrate_file(rt, db, start), err),
+        Job::Run { numbered } => (end_script(alloc, input, out, err, numbered), None),
+        Job::Create { db, config } => ended(create(alloc, registers, db, config, files), err),
+        Job::Migrate { db } => ended(migrate_file(registers, db), err),
         Job::Serve {
             db,
             port,
@@ -72,12 +76,15 @@ pub fn perform<S: Start, F: TextFiles, R: Read, O: Sink, E: Sink, L: Listener>(
                 count,
                 seconds,
             };
-            ended(serve(rt, db, start, service, listener, out, err), err)
+            ended(
+                serve(alloc, registers, db, service, listener, out, err),
+                err,
+            )
         }
-        Job::Ask { db, numbered } => ended(ask(rt, db, start, input, out, numbered), err),
+        Job::Ask { db, numbered } => ended(ask(alloc, registers, db, input, out, numbered), err),
         Job::Report { db, query } => {
             let mut report = PrintTask::Report(query);
-            told(run_task(rt, db, start, &mut report), out, err)
+            told(run_task(alloc, registers, db, &mut report), out, err)
         }
         Job::Picture {
             db,
@@ -90,14 +97,14 @@ pub fn perform<S: Start, F: TextFiles, R: Read, O: Sink, E: Sink, L: Listener>(
                 since,
                 supplier,
             };
-            told(run_task(rt, db, start, &mut picture), out, err)
+            told(run_task(alloc, registers, db, &mut picture), out, err)
         }
         Job::Deliver { db, delivery } => {
-            let delivered = deliver_file(rt, db, start, delivery, files, input);
+            let delivered = deliver_file(alloc, registers, db, delivery, files, input);
             told(delivered, out, err)
         }
-        Job::Check { file } => (tell(check(rt.alloc(), files, file), out, err), None),
-        Job::Explain { word } => (tell(explain_word(rt.alloc(), word), out, err), None),
+        Job::Check { file } => (tell(check(alloc, registers, files, file), out, err), None),
+        Job::Explain { word } => (tell(explain_word(alloc, word), out, err), None),
     }
 }
 
@@ -125,7 +132,7 @@ pub fn explain<O: Sink, E: Sink>(fault: &WordFault, out: &mut O, err: &mut E) ->
 }
 
 // Ends a job that gives no text: what it came to, and what is left of its file.
-fn ended<S: Start, E: Sink>(job: (Result<(), Fault>, Left<S>), err: &mut E) -> (u8, Left<S>)
+fn ended<D: Disk, E: Sink>(job: (Result<(), Fault>, Left<D>), err: &mut E) -> (u8, Left<D>)
     ensures status { result.0 ≡ status_of job.0 }
     ensures tells { Tells E.Sink err.old err.new job.0 }
     ensures left { result.1 ≡ job.1 }
@@ -135,11 +142,11 @@ fn ended<S: Start, E: Sink>(job: (Result<(), Fault>, Left<S>), err: &mut E) -> (
 }
 
 // Ends a job that gives a text: what it came to, and what is left of its file.
-fn told<S: Start, O: Sink, E: Sink>(
-    job: (Result<Vec<u8>, Failure>, Left<S>),
+fn told<D: Disk, O: Sink, E: Sink>(
+    job: (Result<Vec<u8>, Failure>, Left<D>),
     out: &mut O,
     err: &mut E,
-) -> (u8, Left<S>)
+) -> (u8, Left<D>)
     ensures told { IsTold (outlet O.Sink out.old out.new) (outlet E.Sink err.old err.new) job.0
         result.0 }
     ensures left { result.1 ≡ job.1 }
@@ -165,11 +172,12 @@ fn end_script<R: Read, O: Sink, E: Sink>(
 }
 
 // Migrates the register in a file.
-fn migrate_file<S: Start>(rt: &HostRuntime, db: &str, start: S) -> (Result<(), Fault>, Left<S>)
-    ensures fault { IfErr result.0 (IsNotMigrated (image_at S.Start) result.1) }
-    ensures moved { IsMoved (image_at S.Start) result.1 result.0 }
+fn migrate_file<G: Registers>(registers: &mut G, db: &str) -> (Result<(), Fault>, Left<G::File>)
+    ensures fault { IfErr result.0 (IsNotMigrated (G.holds registers.old db.now) result.1) }
+    ensures moved { IsMoved (G.holds registers.old db.now) result.1 result.0 }
+    ensures files { (handlings G.Registers registers.old registers.new).migrated db.now }
 {
-    match file_desk::migrate(rt, db, start) {
+    match registers.migrate(db) {
         Ok(left) => (Ok(()), Some(left)),
         Err((fault, left)) => (Err(Fault::Register(fault)), left),
     }

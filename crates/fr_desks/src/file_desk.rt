@@ -23,11 +23,11 @@ use std::fs;
 /// The desk of the register in a file. `S` says what the file and its log held as they were opened.
 pub type FileDesk<S> = Office<Store<FileStore<FileFrom<S>>>>;
 
-/// What is left of the file and its log: nothing where they were not opened, or were given up.
-pub type Left<S> = Option<Leftover<FileFrom<S>>>;
+/// What is left of a register's file and its log: nothing where they were not opened, or were given up.
+pub type Left<D> = Option<Leftover<D>>;
 
 /// Why there is no register to be had in a file, and what is left of it.
-pub type FileFault<S> = (StoreFault, Left<S>);
+pub type FileFault<D> = (StoreFault, Left<D>);
 
 /// Makes the register of this cluster in the file at a path, which has none, and closes it: the files that are
 /// left hold the book of a new register. Where they fail to close, their store is left: what is opened after a crash is
@@ -37,7 +37,7 @@ pub fn create<S: Start>(
     path: &str,
     config: &Config,
     start: S,
-) -> Result<Files<FileFrom<S>>, FileFault<S>>
+) -> Result<Files<FileFrom<S>>, FileFault<FileFrom<S>>>
     ensures book { IfOk result (λ files.
         LeavesBook ⟦<FileFrom<S> as Disk>⟧ files config.now.cluster (opening config.now)) }
     ensures bare { IfOk result (λ files. AreClean ⟦<FileFrom<S> as Disk>⟧ files.log files.db
@@ -58,7 +58,7 @@ fn new_desk<S: Start>(
     path: &str,
     config: &Config,
     start: S,
-) -> Result<FileDesk<S>, FileFault<S>>
+) -> Result<FileDesk<S>, FileFault<FileFrom<S>>>
     ensures stands { let it = ⟦<FileDesk<S> as Desk>⟧ in IfOk result (λ desk. it.clean desk
         → it.stands desk config.now.cluster (opening config.now)) }
     ensures leaves { IfOk result (λ desk. ⟦<FileDesk<S> as Desk>⟧.clean desk
@@ -83,7 +83,7 @@ pub fn migrate<S: Start>(
     rt: &HostRuntime,
     path: &str,
     start: S,
-) -> Result<Leftover<FileFrom<S>>, FileFault<S>>
+) -> Result<Leftover<FileFrom<S>>, FileFault<FileFrom<S>>>
     ensures migrated { IfOk result (λ left. IsCleanLeft left → IsMigrated (image_at S.Start) left) }
     ensures refused { IfErr result (λ e.
         IsRefusedBy migrates NeedsNone (image_at S.Start) e.0 e.1) }
@@ -100,7 +100,11 @@ pub fn migrate<S: Start>(
 /// The desk of the register in the file at a path, which stands for the book that the file holds, or that a crash left in
 /// it. `start` says what the file held as it was opened. No clause reaches the path: where there is no file there is no
 /// register, and none is made.
-pub fn open<S: Start>(rt: &HostRuntime, path: &str, start: S) -> Result<FileDesk<S>, FileFault<S>>
+pub fn open<S: Start>(
+    rt: &HostRuntime,
+    path: &str,
+    start: S,
+) -> Result<FileDesk<S>, FileFault<FileFrom<S>>>
     ensures found { let it = ⟦<FileDesk<S> as Desk>⟧ in IfOk result (λ desk.
         FindsHeld (image_at S.Start) (it.clean desk) (it.stands desk)) }
     ensures reads { let it = ⟦<FileDesk<S> as Desk>⟧ in IfOk result (λ desk.

@@ -3,7 +3,7 @@
 use crate::fixture::{CLUSTER, PLAN, carried_out};
 use fr_base::{Purpose, Query, Report};
 use fr_cli::perform::perform;
-use fr_cli::{Delivery, Inquiry, Job, LocalFiles, LocalListener};
+use fr_cli::{Delivery, Inquiry, Job, LocalFiles, LocalListener, LocalRegisters};
 use fr_desks::file_desk;
 use sqlite::Unknown;
 use std::fs;
@@ -17,10 +17,14 @@ const PLACEMENTS: &str = "frame,node,slot,channels,base,repetition\nf1,n1,1,A,0,
 fn ends(rt: &HostRuntime, job: &Job<'_>, out: &str, err: &str, status: u8) -> bool {
     let mut printed = Vec::new(rt.alloc());
     let mut told = Vec::new(rt.alloc());
-    let (done, _left) = perform(
+    let mut registers = LocalRegisters {
         rt,
+        start: Some(Unknown),
+    };
+    let (done, _left) = perform(
+        rt.alloc(),
         job,
-        Unknown,
+        &mut registers,
         &mut LocalFiles { rt },
         &mut b"".as_slice(),
         &mut printed,

@@ -4,7 +4,7 @@
 mod streams;
 
 use fr_cli::perform::{explain, perform};
-use fr_cli::{Job, LocalFiles, LocalListener, WordFault, end_closed, read_words};
+use fr_cli::{Job, LocalFiles, LocalListener, LocalRegisters, WordFault, end_closed, read_words};
 use sqlite::Unknown;
 use std::env;
 use std::io::{self, ErrorKind};
@@ -30,10 +30,14 @@ fn run(rt: &HostRuntime) -> u8 {
             if let Job::Serve { count, .. } = job {
                 listener.most = count;
             }
-            let (status, left) = perform(
+            let mut registers = LocalRegisters {
                 rt,
+                start: Some(Unknown),
+            };
+            let (status, left) = perform(
+                rt.alloc(),
                 &job,
-                Unknown,
+                &mut registers,
                 &mut LocalFiles { rt },
                 &mut rt.reader(),
                 &mut out,

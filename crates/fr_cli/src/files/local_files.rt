@@ -1,9 +1,5 @@
 //! The text files of this machine.
-use crate::files::hindrance::Hindrance;
-use crate::files::inspection::find_hindrances;
 use crate::files::text_files::TextFiles;
-use fr_base::NoMemory;
-use std::alloc::AllocError;
 use std::fs::{self, File};
 use std::io::{self, ErrorKind};
 
@@ -11,7 +7,7 @@ use std::io::{self, ErrorKind};
 ///
 /// No contract of the standard library says what a file gives, or that it is the one at the path.
 /// So at this type a clause says of a text only that a file was opened. That its bytes are those of
-/// the file at the path rests on the system. So does what stands in the way of using a register.
+/// the file at the path rests on the system.
 #[derive(Drop)]
 pub struct LocalFiles<'a> {
     /// What the program may do on its host.
@@ -25,25 +21,10 @@ impl<'a> TextFiles for LocalFiles<'a> {
 
     ghost opens = { λ _ _ _ _. ⊤ };
 
-    ghost hinders = { λ _ _ _. ⊤ };
-
     fn open(&mut self, path: &str) -> io::Result<File> {
         if !fs::metadata(self.rt, path)?.is_file() {
             return Err(io::Error::from(ErrorKind::InvalidInput));
         }
         File::open(self.rt, path)
-    }
-
-    fn hindrances(&self, path: &str) -> Result<Vec<Hindrance>, NoMemory> {
-        match find_hindrances(self.rt, path) {
-            Ok(found) => Ok(found),
-            Err(error) if error.kind() == ErrorKind::OutOfMemory => Err(AllocError),
-            // A file that was there is gone, or cannot be read to its end.
-            Err(_) => {
-                let mut found = Vec::new(self.rt.alloc());
-                found.push(Hindrance::ReadFailed)?;
-                Ok(found)
-            }
-        }
     }
 }

@@ -1,13 +1,10 @@
-//! The files of the command line that are texts: cluster files, requests, and rows. And what shows of a register's file.
-use crate::files::hindrance::Hindrance;
-use fr_base::NoMemory;
+//! The files of the command line that are texts: cluster files, requests, and rows.
 use std::io::{self, Read};
 
 /// Each file stands at a path, and a reader gives its bytes.
 /// What a job is proved to do with a text, it is proved to do with all such files, whatever they hold.
 pub trait TextFiles {
     ghost use Rattle.std.specs.Prelude.{◌≡◌, ℕ, List, IfOk, OnErr};
-    ghost use Rattle.fr_cli.specs.declared.files.hindrance.Hindrance.{Hindrance};
 
     /// Gives the bytes of a file.
     type Reader: Read + Drop;
@@ -19,11 +16,4 @@ pub trait TextFiles {
     fn open(&mut self, path: &str) -> io::Result<Self::Reader>
         ensures ok { IfOk result (λ reader. opens self.old path.now reader self.new) }
         ensures err { OnErr result (self.new ≡ self.old) };
-
-    /// What may be found in the way of using the register at a path.
-    ghost hinders: { Self → List ℕ → List Hindrance → Type 0 };
-
-    /// What stands in the way of using the register at the path, as far as that shows without a change.
-    fn hindrances(&self, path: &str) -> Result<Vec<Hindrance>, NoMemory>
-        ensures { IfOk result (λ found. hinders self.now path.now found.items) };
 }

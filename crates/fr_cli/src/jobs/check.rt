@@ -10,6 +10,7 @@ ghost use Rattle.fr_cli.specs.Texts.{readings};
 use crate::failure::Failure;
 use crate::files::file_contents::{read_file, read_front};
 use crate::files::hindrance::Hindrance;
+use crate::files::registers::Registers;
 use crate::files::text_files::TextFiles;
 use crate::jobs::create::CONFIG_BYTES;
 use crate::jobs::deliver::FILE_BYTES;
@@ -30,13 +31,14 @@ const UNTOLD: &[u8] =
 /// A line on what the file or the path says, if it has no fault. Else it is refused: with a line on a cluster file's fault, or
 /// with a line for each fault of requests, of rows or of a path. Of a register that can be used nothing is said; else it is refused,
 /// with a line for each thing that stands in the way.
-pub fn check<F: TextFiles>(
+pub fn check<G: Registers, F: TextFiles>(
     alloc: Global,
+    registers: &G,
     files: &mut F,
     file: CheckSubject<'_>,
 ) -> Result<Vec<u8>, Failure>
     ensures { let read = readings F.TextFiles F.Reader.Read files.old files.new in
-        IsCheckedFile read file.entry result }
+        IsCheckedFile read (G.hinders registers.now) file.entry result }
 {
     match file {
         CheckSubject::Config { path } => {
@@ -52,7 +54,7 @@ pub fn check<F: TextFiles>(
             check_rows(alloc, &text)
         }
         CheckSubject::Target { path } => check_path(alloc, path),
-        CheckSubject::Register { path } => check_register(alloc, files, path),
+        CheckSubject::Register { path } => check_register(alloc, registers, path),
     }
 }
 
@@ -103,10 +105,14 @@ fn check_path(alloc: Global, path: &str) -> Result<Vec<u8>, Failure>
 }
 
 // Nothing, if nothing stands in the way of using the register; else, as a refusal, a line for each thing that does.
-fn check_register<F: TextFiles>(alloc: Global, files: &F, path: &str) -> Result<Vec<u8>, Failure>
-    ensures { IsCheckedRegister (F.hinders files.now path.now) result }
+fn check_register<G: Registers>(
+    alloc: Global,
+    registers: &G,
+    path: &str,
+) -> Result<Vec<u8>, Failure>
+    ensures { IsCheckedRegister (G.hinders registers.now path.now) result }
 {
-    let found = files.hindrances(path)?;
+    let found = registers.hindrances(path)?;
     let lines = hindrance_lines(alloc, &found)?;
     if found.is_empty() {
         return Ok(lines);

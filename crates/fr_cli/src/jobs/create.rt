@@ -1,73 +1,61 @@
 //! Makes a register file.
 ghost use Rattle.std.specs.Prelude.{◌≡◌, IfErr, IfOk, Ok, OnOk};
-ghost use Rattle.sqlite_wal.specs.Files.{image_at};
 ghost use Rattle.fr_text.specs.ClusterFile.{config_of};
 ghost use Rattle.fr_cli.specs.Faults.{IsClusterFault, IsNotCreated, IsNotMade, IsNotRead};
+ghost use Rattle.fr_cli.specs.Handlings.{IsMadeAt, handlings};
 ghost use Rattle.fr_cli.specs.RegisterFiles.{IsCreated, IsLeftNew};
 ghost use Rattle.fr_cli.specs.Texts.{IsClusterAt, readings};
 
 use crate::fault::Fault;
 use crate::files::file_contents::read_file;
+use crate::files::registers::Registers;
 use crate::files::text_files::TextFiles;
 use fr_base::Config;
-use fr_desks::{Left, file_desk};
+use fr_desks::Left;
 use fr_text::read_config;
-use sqlite::{Leftover, Start};
+use sqlite::Leftover;
 use std::alloc::Global;
-use std::fs::OpenOptions;
-use std::os::unix::fs::OpenOptionsExt;
 
 /// The most bytes that a cluster file may have.
 pub const CONFIG_BYTES: usize = 1_048_576;
 
-/// The mode of a file that its owner alone may read and write.
-const OWNER_ALONE: u32 = 0o600;
-
 /// Makes the register of the cluster file at `config` in the file at `db`, and gives what is left of the latter.
-/// The cluster file is one of `files`. `start` says what the register's file held as it was opened.
-pub fn create<S: Start, F: TextFiles>(
-    rt: &HostRuntime,
+/// The cluster file is one of `files`. Where it is not read, the register's file is not touched.
+pub fn create<G: Registers, F: TextFiles>(
+    alloc: Global,
+    registers: &mut G,
     db: &str,
     config: &str,
-    start: S,
     files: &mut F,
-) -> (Result<(), Fault>, Left<S>)
+) -> (Result<(), Fault>, Left<G::File>)
     ensures fault { let read = readings F.TextFiles F.Reader.Read files.old files.new in
-        IfErr result.0 (IsNotCreated (image_at S.Start) result.1 read config.now) }
+        IfErr result.0 (IsNotCreated (G.holds registers.old db.now) result.1 read config.now) }
     ensures made { let read = readings F.TextFiles F.Reader.Read files.old files.new in
-        IsCreated (image_at S.Start) result.1 read config.now result.0 }
+        IsCreated (G.holds registers.old db.now) result.1 read config.now result.0 }
+    ensures files { let read = readings F.TextFiles F.Reader.Read files.old files.new in
+        IsMadeAt (handlings G.Registers registers.old registers.new) result.1 read db.now
+        config.now }
 {
-    match read_cluster(rt.alloc(), files, config) {
-        Ok(config) => make(rt, db, &config, start),
+    match read_cluster(alloc, files, config) {
+        Ok(config) => make(registers, db, &config),
         Err(fault) => (Err(fault), None),
     }
 }
 
-// Makes the register of this cluster in the file at `db`. A file that is made for it is read and written by its owner alone.
-fn make<S: Start>(
-    rt: &HostRuntime,
+// Makes the register of this cluster in the file at `db`.
+fn make<G: Registers>(
+    registers: &mut G,
     db: &str,
     config: &Config,
-    start: S,
-) -> (Result<(), Fault>, Left<S>)
-    ensures fault { IfErr result.0 (IsNotMade (image_at S.Start) result.1 config.now) }
-    ensures made { OnOk result.0 (IsLeftNew (image_at S.Start) result.1 config.now) }
+) -> (Result<(), Fault>, Left<G::File>)
+    ensures fault { IfErr result.0 (IsNotMade (G.holds registers.old db.now) result.1 config.now) }
+    ensures made { OnOk result.0 (IsLeftNew (G.holds registers.old db.now) result.1 config.now) }
+    ensures files { (handlings G.Registers registers.old registers.new).made db.now config.now }
 {
-    make_private(rt, db);
-    match file_desk::create(rt, db, config, start) {
+    match registers.create(db, config) {
         Ok(files) => (Ok(()), Some(Leftover::Files(files))),
         Err((fault, left)) => (Err(Fault::Register(fault)), left),
     }
-}
-
-// Makes an empty file at the path, if there is none. Nobody but its owner may read or write it: a register's file has all keys.
-// The log gets the file's mode. Where the file cannot be made, the register cannot be made either, and that is told.
-fn make_private(rt: &HostRuntime, path: &str) {
-    let _ = OpenOptions::new()
-        .write(true)
-        .create_new(true)
-        .mode(OWNER_ALONE)
-        .open(rt, path);
 }
 
 // What the cluster file at a path says.

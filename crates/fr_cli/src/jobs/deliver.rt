@@ -2,9 +2,9 @@
 ghost use Rattle.std.specs.Prelude.{◌≡◌, ◌≢◌, codes};
 ghost use Rattle.std.specs.Io.KnownBytes.{Keeps};
 ghost use Rattle.std.specs.Str.Lines.{lines};
-ghost use Rattle.sqlite_wal.specs.Files.{image_at};
 ghost use Rattle.fr_cli.specs.Deliveries.{request_with};
 ghost use Rattle.fr_cli.specs.Faults.{IsNotDelivered, IsNotGiven};
+ghost use Rattle.fr_cli.specs.Handlings.{IsAskedAs, IsDeliveredAt, handlings};
 ghost use Rattle.fr_cli.specs.Keys.{first_of};
 ghost use Rattle.fr_cli.specs.Performing.{Says};
 ghost use Rattle.fr_cli.specs.RegisterFiles.{IsAnswerToGiven, IsDeliveryToFile};
@@ -13,6 +13,7 @@ ghost use Rattle.fr_cli.specs.Texts.{readings};
 use crate::failure::Failure;
 use crate::fault::Fault;
 use crate::files::file_contents::read_front;
+use crate::files::registers::Registers;
 use crate::files::text_files::TextFiles;
 use crate::jobs::print_task::PrintTask;
 use crate::jobs::register_task::run_task;
@@ -21,7 +22,7 @@ use crate::streams::input::{ReadBounds, read_line};
 use crate::words::delivery::Delivery;
 use fr_desks::Left;
 use fr_text::next_line;
-use sqlite::Start;
+use std::alloc::Global;
 use std::io::Read;
 
 /// How many bytes of a file of rows are read at most: one more than it may have.
@@ -37,46 +38,51 @@ const KEY_BOUNDS: ReadBounds = ReadBounds {
 };
 
 /// Delivers a file of rows to the register in the file at `db`. Closes that file, and gives what is left of it. The file of rows
-/// is one of `files`. It is read first, then the key, if that stands on standard input. `start` says what the register's file
-/// held as it was opened.
-pub fn deliver_file<S: Start, F: TextFiles, R: Read>(
-    rt: &HostRuntime,
+/// is one of `files`. It is read first, then the key, if that stands on standard input. Where one of them is not read, the register's
+/// file is not touched.
+pub fn deliver_file<G: Registers, F: TextFiles, R: Read>(
+    alloc: Global,
+    registers: &mut G,
     db: &str,
-    start: S,
     delivery: Delivery<'_>,
     files: &mut F,
     input: &mut R,
-) -> (Result<Vec<u8>, Failure>, Left<S>)
+) -> (Result<Vec<u8>, Failure>, Left<G::File>)
     ensures says { let read = readings F.TextFiles F.Reader.Read files.old files.new in
-        Says (IsNotDelivered (image_at S.Start) result.1 read delivery.entry
+        Says (IsNotDelivered (G.holds registers.old db.now) result.1 read delivery.entry
         (R.remaining input.old) (R.remaining input.new))
-        (IsDeliveryToFile (image_at S.Start) result.1 read delivery.entry
+        (IsDeliveryToFile (G.holds registers.old db.now) result.1 read delivery.entry
         (R.remaining input.old) (R.remaining input.new)) result.0 }
     ensures quiet { delivery.entry.key.now ≢ codes "-"
         → Keeps (R.remaining input.old) (R.remaining input.new) }
+    ensures files { let read = readings F.TextFiles F.Reader.Read files.old files.new in
+        IsDeliveredAt (handlings G.Registers registers.old registers.new) result.1 read db.now
+        delivery.entry (R.remaining input.old) (R.remaining input.new) }
 {
-    match read_front(rt.alloc(), files, delivery.file, FILE_BYTES) {
-        Ok(body) => deliver(rt, db, start, delivery, &body, input),
+    match read_front(alloc, files, delivery.file, FILE_BYTES) {
+        Ok(body) => deliver(alloc, registers, db, delivery, &body, input),
         Err(fault) => (Err(Failure::Fault(fault)), None),
     }
 }
 
 // Delivers a file of rows with these bytes. The key stands on the command line, or on standard input.
-fn deliver<S: Start, R: Read>(
-    rt: &HostRuntime,
+fn deliver<G: Registers, R: Read>(
+    alloc: Global,
+    registers: &mut G,
     db: &str,
-    start: S,
     delivery: Delivery<'_>,
     body: &[u8],
     input: &mut R,
-) -> (Result<Vec<u8>, Failure>, Left<S>)
-    ensures says { Says (IsNotGiven (image_at S.Start) result.1 delivery.entry.key.now
+) -> (Result<Vec<u8>, Failure>, Left<G::File>)
+    ensures says { Says (IsNotGiven (G.holds registers.old db.now) result.1 delivery.entry.key.now
         (request_with delivery.entry body.now) (R.remaining input.old) (R.remaining input.new))
-        (IsAnswerToGiven (image_at S.Start) result.1 delivery.entry.key.now
+        (IsAnswerToGiven (G.holds registers.old db.now) result.1 delivery.entry.key.now
         (request_with delivery.entry body.now) (R.remaining input.old) (R.remaining input.new))
         result.0 }
     ensures quiet { delivery.entry.key.now ≢ codes "-"
         → Keeps (R.remaining input.old) (R.remaining input.new) }
+    ensures files { IsAskedAs (handlings G.Registers registers.old registers.new) result.1 db.now
+        delivery.entry.key.now (R.remaining input.old) (R.remaining input.new) }
 {
     if delivery.key != KEY_ON_INPUT {
         let key = delivery.key.as_bytes();
@@ -85,9 +91,9 @@ fn deliver<S: Start, R: Read>(
             delivery,
             body,
         };
-        return run_task(rt, db, start, &mut answer);
+        return run_task(alloc, registers, db, &mut answer);
     }
-    match read_line(rt.alloc(), input, KEY_BOUNDS) {
+    match read_line(alloc, input, KEY_BOUNDS) {
         Ok(front) => {
             let key = first_line(&front);
             let mut answer = PrintTask::Answer {
@@ -95,7 +101,7 @@ fn deliver<S: Start, R: Read>(
                 delivery,
                 body,
             };
-            run_task(rt, db, start, &mut answer)
+            run_task(alloc, registers, db, &mut answer)
         }
         Err(fault) => (
             Err(Failure::Fault(Fault::Script(ScriptFault::from(fault)))),

@@ -2,6 +2,7 @@
 
 use crate::failure::Failure;
 use crate::fault::Fault;
+use crate::files::registers::Registers;
 use crate::jobs::picture::picture;
 use crate::jobs::register_task::RegisterTask;
 use crate::jobs::single_request::{change, report_on};
@@ -9,7 +10,7 @@ use crate::words::delivery::Delivery;
 use crate::words::inquiry::Inquiry;
 use fr_base::NoMemory;
 use fr_office::Office;
-use fr_world::Records;
+use std::alloc::Global;
 
 /// What is told of a register.
 #[derive(Drop)]
@@ -40,15 +41,16 @@ impl RegisterTask for PrintTask<'_> {
 
     ghost does = { λ task _. tells task };
 
-    fn carry_out<R: Records>(
+    fn carry_out<G: Registers>(
         &mut self,
-        rt: &HostRuntime,
+        alloc: Global,
+        _registers: &G,
         _db: &str,
-        mut office: Office<R>,
-    ) -> (Result<Vec<u8>, Failure>, Office<R>) {
+        mut office: Office<G::Records>,
+    ) -> (Result<Vec<u8>, Failure>, Office<G::Records>) {
         match *self {
             PrintTask::Report(query) => {
-                let done = report_on(rt.alloc(), &mut office, query);
+                let done = report_on(alloc, &mut office, query);
                 (done, office)
             }
             PrintTask::Picture {
@@ -56,16 +58,16 @@ impl RegisterTask for PrintTask<'_> {
                 since,
                 supplier,
             } => {
-                let done = picture(rt.alloc(), &mut office, variant, since, supplier);
+                let done = picture(alloc, &mut office, variant, since, supplier);
                 (done, office)
             }
             PrintTask::Answer {
                 key,
                 delivery,
                 body,
-            } => match delivery.request(rt.alloc(), body) {
+            } => match delivery.request(alloc, body) {
                 Ok(request) => {
-                    let done = change(rt.alloc(), &mut office, key, request);
+                    let done = change(alloc, &mut office, key, request);
                     (done, office)
                 }
                 Err(NoMemory) => (Err(Failure::Fault(Fault::NoMemory)), office),

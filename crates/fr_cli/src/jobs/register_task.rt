@@ -1,14 +1,14 @@
 //! A register's file, opened for a task and closed behind it.
 ghost use Rattle.std.specs.Prelude.{◌≡◌};
-ghost use Rattle.sqlite_wal.specs.Files.{image_at};
+ghost use Rattle.fr_cli.specs.Handlings.{IsOpenedAt, handlings};
 ghost use Rattle.fr_cli.specs.RegisterTasks.{IsDoneOver};
 
 use crate::fault::Fault;
+use crate::files::registers::Registers;
 use fr_base::Desk;
-use fr_desks::{FileDesk, Left, file_desk};
+use fr_desks::Left;
 use fr_office::Office;
-use fr_world::Records;
-use sqlite::Start;
+use std::alloc::Global;
 
 /// What is done with an open register.
 pub(crate) trait RegisterTask {
@@ -25,31 +25,36 @@ pub(crate) trait RegisterTask {
     ghost does: { Self → Self → Doing Self.Done Self.Fault };
 
     /// Does it with the register, whose file is at `db`, and gives the register back.
-    fn carry_out<R: Records>(
+    fn carry_out<G: Registers>(
         &mut self,
-        rt: &HostRuntime,
+        alloc: Global,
+        registers: &G,
         db: &str,
-        office: Office<R>,
-    ) -> (Result<Self::Done, Self::Fault>, Office<R>)
-        ensures falls { ⟦<Office<R> as Desk>⟧.clean result.1 → ⟦<Office<R> as Desk>⟧.clean office }
-        ensures does { does self.old self.new _ ⟦<Office<R> as Desk>⟧ office result.1 result.0 };
+        office: Office<G::Records>,
+    ) -> (Result<Self::Done, Self::Fault>, Office<G::Records>)
+        ensures falls { ⟦<Office<G::Records> as Desk>⟧.clean result.1
+            → ⟦<Office<G::Records> as Desk>⟧.clean office }
+        ensures does { does self.old self.new _ ⟦<Office<G::Records> as Desk>⟧ office result.1
+            result.0 };
 }
 
 /// Opens the register in the file at `db`, does the task with it and closes it. Gives what is left of the file beside what
-/// came of the task. `start` says what the file held as it was opened.
-pub(crate) fn run_task<S: Start, E: RegisterTask>(
-    rt: &HostRuntime,
+/// came of the task.
+pub(crate) fn run_task<G: Registers, E: RegisterTask>(
+    alloc: Global,
+    registers: &mut G,
     db: &str,
-    start: S,
     task: &mut E,
-) -> (Result<E::Done, E::Fault>, Left<S>)
-    ensures { IsDoneOver (image_at S.Start) result.1 ⟦<FileDesk<S> as Desk>⟧ E.Fault.from_gives
-        (task.new ≡ task.old) (E.does task.old task.new) result.0 }
+) -> (Result<E::Done, E::Fault>, Left<G::File>)
+    ensures done { IsDoneOver (G.holds registers.old db.now) result.1
+        ⟦<Office<G::Records> as Desk>⟧ E.Fault.from_gives (task.new ≡ task.old)
+        (E.does task.old task.new) result.0 }
+    ensures files { IsOpenedAt (handlings G.Registers registers.old registers.new) result.1 db.now }
 {
-    match file_desk::open(rt, db, start) {
-        Ok(desk) => {
-            let (done, after) = task.carry_out(rt, db, desk);
-            (done, Some(file_desk::close(after)))
+    match registers.open(db) {
+        Ok(office) => {
+            let (done, after) = task.carry_out(alloc, registers, db, office);
+            (done, Some(registers.close(after)))
         }
         Err((fault, left)) => (Err(E::Fault::from(Fault::Register(fault))), left),
     }

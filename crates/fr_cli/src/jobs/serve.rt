@@ -1,6 +1,6 @@
 //! Serves a register file over HTTP: connections are accepted, served and closed, one after another.
 ghost use Rattle.std.specs.Prelude.{◌≡◌, ◌⊎◌, ◌∷◌, [], false, IfErr, IfOk, OnErr, OnOk, ⊤};
-ghost use Rattle.sqlite_wal.specs.Files.{image_at};
+ghost use Rattle.fr_cli.specs.Handlings.{IsOpenedAt, handlings};
 ghost use Rattle.fr_cli.specs.Outlets.{IsCutShort, outlet};
 ghost use Rattle.fr_cli.specs.Performing.{listening};
 ghost use Rattle.fr_cli.specs.Serving.{Announces, HasServed, IsAnnounced, IsServedOver, ServesEach, ServesOne, TellsEach, TellsEnd, WasAnnounced};
@@ -10,19 +10,18 @@ ghost use Rattle.fr_http.specs.Exchanges.{was_asked};
 ghost use Rattle.fr_store.specs.declared.fault.StoreFault.TheVariants.{Unavailable};
 
 use crate::fault::{Fault, link_word};
+use crate::files::registers::Registers;
 use crate::jobs::guarded::Guarded;
 use crate::jobs::live_desk::LiveDesk;
 use crate::jobs::register_task::{RegisterTask, run_task};
 use crate::streams::listener::Listener;
 use crate::streams::printing::{print, print_word};
 use fr_base::Desk;
-use fr_desks::{FileDesk, Left};
+use fr_desks::Left;
 use fr_http::{Engine, LinkFault, Served, Source, serve_one};
 use fr_office::Office;
 use fr_store::StoreFault;
 use fr_text::Sink;
-use fr_world::Records;
-use sqlite::Start;
 use std::alloc::Global;
 use std::io;
 
@@ -75,16 +74,18 @@ where
         × ((then.out.ghost_name ≡ it.out.ghost_name)
         × (then.err.ghost_name ≡ it.err.ghost_name))) };
 
-    fn carry_out<T: Records>(
+    fn carry_out<G: Registers>(
         &mut self,
-        rt: &HostRuntime,
+        alloc: Global,
+        registers: &G,
         db: &str,
-        office: Office<T>,
-    ) -> (Result<(), Fault>, Office<T>) {
-        match Guarded::new(rt, db, office) {
-            Ok(mut guarded) => {
+        office: Office<G::Records>,
+    ) -> (Result<(), Fault>, Office<G::Records>) {
+        match registers.watch(db) {
+            Ok(watch) => {
+                let mut guarded = Guarded::new(office, watch);
                 let done = listen(
-                    rt.alloc(),
+                    alloc,
                     &mut guarded,
                     self.service,
                     self.listener,
@@ -93,25 +94,25 @@ where
                 );
                 (done, guarded.into_office())
             }
-            Err((fault, office)) => (Err(Fault::from(fault)), office),
+            Err(fault) => (Err(Fault::from(fault)), office),
         }
     }
 }
 
-/// Serves the register in the file at `db`, as [`ServeTask`] says. Closes the file, and gives what is left of it. `start` says what
-/// the file held as it was opened.
-pub(crate) fn serve<S: Start, L: Listener, O: Sink, E: Sink>(
-    rt: &HostRuntime,
+/// Serves the register in the file at `db`, as [`ServeTask`] says. Closes the file, and gives what is left of it.
+pub(crate) fn serve<G: Registers, L: Listener, O: Sink, E: Sink>(
+    alloc: Global,
+    registers: &mut G,
     db: &str,
-    start: S,
     service: Service,
     listener: &mut L,
     out: &mut O,
     err: &mut E,
-) -> (Result<(), Fault>, Left<S>)
-    ensures { let came = comings L.Listener L.Reader.Source L.Writer.Sink listener.old listener.new in
-        IsServedOver ⟦<FileDesk<S> as Desk>⟧ (image_at S.Start) result.1 service came
-        (outlet O.Sink out.old out.new) (outlet E.Sink err.old err.new) result.0 }
+) -> (Result<(), Fault>, Left<G::File>)
+    ensures served { let came = comings L.Listener L.Reader.Source L.Writer.Sink listener.old listener.new in
+        IsServedOver ⟦<Office<G::Records> as Desk>⟧ (G.holds registers.old db.now) result.1 service
+        came (outlet O.Sink out.old out.new) (outlet E.Sink err.old err.new) result.0 }
+    ensures files { IsOpenedAt (handlings G.Registers registers.old registers.new) result.1 db.now }
 {
     let mut task = ServeTask {
         service,
@@ -119,7 +120,7 @@ pub(crate) fn serve<S: Start, L: Listener, O: Sink, E: Sink>(
         out,
         err,
     };
-    run_task(rt, db, start, &mut task)
+    run_task(alloc, registers, db, &mut task)
 }
 
 // Listens, and serves as many connections as the service has. Behind each there is a desk that stands for the book after it.

@@ -1,3 +1,4 @@
+use Rattle.fr_cli.specs.Handlings.{handlings}
 use Rattle.fr_cli.specs.Texts.{readings}
 use Rattle.fr_cli.specs.Visits.{comings}
 use Rattle.fr_cli.proofs.StopLaws.{job_stops}
@@ -5,7 +6,8 @@ use Rattle.fr_cli.proofs.VisitLaws.{sink, source}
 use Rattle.fr_cli.proofs.laws.job_stops.Goals as goal
 
 pub returns : goal.returns
-returns g c = λ held rest before after old new j s status did on.
+returns g c = λ held rest early late before after old new j s status did on.
     let read = readings g.F.TextFiles g.F.Reader.Read before after in
+    let files = handlings g.G.Registers early late in
     let came = comings g.L.Listener (source g.L.Reader.Read g.L.Reader.Source) (sink g.L.Writer.Write g.L.Writer.Sink) old new in
-    job_stops g.D.Disk _ _ (λ it c b stands. stands.1) held rest read came s status j did on
+    job_stops g.D.Disk _ _ (λ it c b stands. stands.1) held rest read came s status files j did on

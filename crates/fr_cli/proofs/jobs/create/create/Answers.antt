@@ -15,3 +15,9 @@ returns-in-Ok-clause-made g c = ok_follows _ _ _ (λ made. both _ _ _ c.in-Ok.en
 
 pub returns-in-Err-clause-fault : goal.returns-in-Err-clause-fault
 returns-in-Err-clause-fault g c = inl (c.in-Err.ensures.fault, refl)
+
+pub returns-in-Ok-clause-files : goal.returns-in-Ok-clause-files
+returns-in-Ok-clause-files g c = inl (_, c.in-Ok.ensures.read, c.make.ensures.files)
+
+pub returns-in-Err-clause-files : goal.returns-in-Err-clause-files
+returns-in-Err-clause-files g c = inr (refl, refl)

@@ -8,7 +8,7 @@ use Rattle.fr_cli.proofs.jobs.ask.AskTaskRegisterTask.carry_out.Goals as goal
 pub returns-in-Ok-clause-does : goal.returns-in-Ok-clause-does
 returns-in-Ok-clause-does g c =
     let answered = answered_told _ _ _ _ _ _ _ _ (told_guarded _ office_of _ _) c.answer_input-asked.ensures.answered in
-    rw (c.into_office.ensures, ← c.in-Ok.ensures.ok) (
+    rw (c.into_office.ensures, ← c.new-guarded.ensures) (
       (c.answer_input-asked.result, c.of_script.ensures, c.answer_input-asked.ensures.end, c.answer_input-asked.ensures.stops, answered),
       (refl, refl),
     )
@@ -18,4 +18,4 @@ returns-in-Err-clause-does g c =
     let input = g.I.Read.remaining c.args.self.now.input.now in
     let none = asked_none _ c.args.self.now.numbered c.args.office input (g.O.Write.contents c.args.self.now.out.now) c.in-Err.fault c.from.result c.from.ensures in
     let stopped = unwatched_stops (sink g.O.Write g.O.Sink) c.in-Err.fault c.from.result c.args.self.now.out.now c.from.ensures in
-    rw (c.in-Err.ensures.err) ((Err c.from.result, c.of_script-in-Err.ensures, tt, stopped, none), (refl, refl))
+    ((Err c.from.result, c.of_script-in-Err.ensures, tt, stopped, none), (refl, refl))

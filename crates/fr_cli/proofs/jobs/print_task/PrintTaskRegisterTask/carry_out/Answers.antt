@@ -17,6 +17,6 @@ returns-in-Ok-clause-does g c = rw (c.in-Answer.is, ← c.in-Ok.ensures) (c.chan
 pub returns-in-Err-clause-does : goal.returns-in-Err-clause-does
 returns-in-Err-clause-does g c = rw c.in-Answer.is (
   refl,
-  leads_nowhere (g.R.Records.clean c.args.office.records) (StandsKept g.R.Records.stands g.R.Records.leaves c.args.office)
+  leads_nowhere (g.G.Records.Records.clean c.args.office.records) (StandsKept g.G.Records.Records.stands g.G.Records.Records.leaves c.args.office)
       (asked_with c.in-Answer.key.now (request_with c.in-Answer.delivery c.in-Answer.body.now)),
 )
