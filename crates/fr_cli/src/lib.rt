@@ -14,7 +14,6 @@ mod words;
 pub use files::hindrance::Hindrance;
 pub use files::local_files::LocalFiles;
 pub use files::local_registers::LocalRegisters;
-pub use files::local_watch::LocalWatch;
 pub use files::registers::Registers;
 pub use files::text_files::TextFiles;
 pub use files::watch::{Watch, WatchFault};

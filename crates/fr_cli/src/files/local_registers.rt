@@ -35,7 +35,7 @@ pub struct LocalRegisters<'a, S> {
 }
 
 impl<'a, S: Start> Registers for LocalRegisters<'a, S> {
-    ghost use Rattle.std.specs.Prelude.{⊤};
+    ghost use Rattle.std.specs.Prelude.{◌≡◌, ⊤};
     ghost use Rattle.sqlite_wal.specs.Files.{image_at};
 
     type File = FileFrom<S>;
@@ -55,6 +55,8 @@ impl<'a, S: Start> Registers for LocalRegisters<'a, S> {
     ghost migrated = { λ _ _ _. ⊤ };
 
     ghost hinders = { λ _ _ _. ⊤ };
+
+    ghost watches = { λ _ path watch. watch.db.bytes.items ≡ path };
 
     fn open(&mut self, path: &str) -> Result<FileDesk<S>, FileFault<FileFrom<S>>> {
         match self.start.take() {

@@ -1,5 +1,5 @@
 //! The files of this machine at an open register's path: whether they are still those that were there.
-ghost use Rattle.std.specs.Prelude.{◌≡◌};
+ghost use Rattle.std.specs.Prelude.{◌≡◌, IfOk};
 
 use crate::files::watch::{Watch, WatchFault};
 use std::fs;
@@ -67,7 +67,9 @@ impl Mark {
 
 impl<'a> LocalWatch<'a> {
     /// Watches the files at this path from now on.
-    pub fn new(rt: &'a HostRuntime, path: &str) -> Result<LocalWatch<'a>, WatchFault> {
+    pub fn new(rt: &'a HostRuntime, path: &str) -> Result<LocalWatch<'a>, WatchFault>
+        ensures { IfOk result (λ watch. watch.db.bytes.items ≡ path.now) }
+    {
         let db = String::from_str(rt.alloc(), path).map_err(|_| WatchFault::NoMemory)?;
         let log = log_of(rt, path)?;
         let seen = look(rt, path, &log)?;
@@ -94,13 +96,14 @@ impl<'a> LocalWatch<'a> {
 }
 
 impl Watch for LocalWatch<'_> {
-    fn holds(&mut self) -> bool
-        ensures db { let seen = self.old.seen.db in let now = self.new.seen.db in
-            (now.device ≡ seen.device) × (now.inode ≡ seen.inode) }
-        ensures log { let seen = self.old.seen.log in let now = self.new.seen.log in
-            (now.device ≡ seen.device) × (now.inode ≡ seen.inode) }
-        ensures path { self.new.db ≡ self.old.db }
-    {
+    ghost use Rattle.std.specs.Prelude.{◌≡◌};
+
+    ghost stays = { λ old new. ((new.seen.db.device ≡ old.seen.db.device)
+        × (new.seen.db.inode ≡ old.seen.db.inode))
+        × ((new.seen.log.device ≡ old.seen.log.device)
+        × (new.seen.log.inode ≡ old.seen.log.inode)) × (new.db ≡ old.db) };
+
+    fn holds(&mut self) -> bool {
         match look(self.rt, &self.db, &self.log) {
             Ok(now) => {
                 if !self.noted {
@@ -114,13 +117,7 @@ impl Watch for LocalWatch<'_> {
 
     // It takes the files' lengths and times, and keeps which files were seen first. So a file that was put in the place of one of these is
     // still told from it. Where they cannot be looked at, the next look takes them.
-    fn note_own_writes(&mut self) -> bool
-        ensures db { let seen = self.old.seen.db in let now = self.new.seen.db in
-            (now.device ≡ seen.device) × (now.inode ≡ seen.inode) }
-        ensures log { let seen = self.old.seen.log in let now = self.new.seen.log in
-            (now.device ≡ seen.device) × (now.inode ≡ seen.inode) }
-        ensures path { self.new.db ≡ self.old.db }
-    {
+    fn note_own_writes(&mut self) -> bool {
         self.noted = false;
         self.holds()
     }

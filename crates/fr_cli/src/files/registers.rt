@@ -50,6 +50,9 @@ pub trait Registers {
     /// What may be found in the way of using the register at a path.
     ghost hinders: { Self → List ℕ → List Hindrance → Type 0 };
 
+    /// What watches the files at a path.
+    ghost watches: { Self → List ℕ → Self.Watch → Type 0 };
+
     /// Opens the register at the path. It stands for the book that the file holds, or that a crash left in it. Where there is
     /// no file there is no register, and none is made.
     fn open(&mut self, path: &str) -> Result<Office<Self::Records>, FileFault<Self::File>>
@@ -95,7 +98,8 @@ pub trait Registers {
             IsRefusedBy migrates NeedsNone (holds self.old path.now) e.0 e.1) };
 
     /// Watches the files at the path from now on.
-    fn watch(&self, path: &str) -> Result<Self::Watch, WatchFault>;
+    fn watch(&self, path: &str) -> Result<Self::Watch, WatchFault>
+        ensures { IfOk result (λ watch. watches self.now path.now watch) };
 
     /// What stands in the way of using the register at the path, as far as that shows without a change.
     fn hindrances(&self, path: &str) -> Result<Vec<Hindrance>, NoMemory>

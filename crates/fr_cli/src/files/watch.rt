@@ -8,13 +8,18 @@ use std::io::{self, ErrorKind};
 
 /// The files of an open register, as they were seen last. No clause says what is seen of them.
 pub trait Watch: Drop {
+    /// It is of the same files as before.
+    ghost stays: { Self → Self → Type 0 };
+
     /// Whether the files are those that were seen first, as they were written last. Where they cannot be looked at,
     /// other than because one is missing, nothing tells against it.
-    fn holds(&mut self) -> bool;
+    fn holds(&mut self) -> bool
+        ensures { stays self.old self.new };
 
     /// Takes the files as they are now, since the register itself wrote to them, unless others stand in their place. Gives whether they are
     /// still those that were seen first, as `holds` does.
-    fn note_own_writes(&mut self) -> bool;
+    fn note_own_writes(&mut self) -> bool
+        ensures { stays self.old self.new };
 }
 
 /// Why a register's files are not watched.
