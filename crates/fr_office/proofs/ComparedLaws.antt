@@ -8,11 +8,11 @@ use Rattle.fr_base.specs.declared.answer.DifferenceRow.{DifferenceRow}
 use Rattle.fr_base.specs.declared.answer.LaneHolder.{LaneHolder}
 use Rattle.fr_base.specs.declared.name.Name.{Name}
 use Rattle.fr_base.specs.declared.params.Params.{Params}
-use Rattle.fr_office.specs.Compared.{AreTaken, Compares, compared_rows, rows_among, rows_told, supplier_told, suppliers_told, with_told}
+use Rattle.fr_office.specs.Compared.{AreTaken, Compares, compared_rows, rows_among, rows_told, supplier_told, suppliers_told}
 use Rattle.fr_office.specs.Shared.{grants_among, with_rows}
 use Rattle.fr_office.specs.Shown.{FindsPage, Gathers}
 use Rattle.fr_office.specs.declared.queries.compared.ComparedRows.{ComparedRows}
-use Rattle.fr_office.specs.declared.queries.frame_differences.FrameDifferences.{FrameDifferences}
+use Rattle.fr_office.specs.Kinds.{ByKind, with_more}
 use Rattle.fr_office.proofs.GatherLaws.{page-rows}
 use Rattle.fr_office.proofs.GrantLaws.{lanes-more, lanes-none}
 use Rattle.fr_world.specs.Held.{Standing}
@@ -39,23 +39,23 @@ page-taken old new s v page held after rows finds made added =
 -- ---- of the suppliers so far
 
 -- their grants of both variants, and in what their frames differ
-pub record AreGathered (p : Params) (ss : List Name) (new before : Variant) (olds news : List (ChannelSlot × LaneHolder)) (told : FrameDifferences) : Type 0 where
+pub record AreGathered (p : Params) (ss : List Name) (new before : Variant) (olds news : List (ChannelSlot × LaneHolder)) (told : ByKind DifferenceRow) : Type 0 where
   pub old_grants : grants_in_lanes olds ≡ grants_among ss before.grants
   pub new_grants : grants_in_lanes news ≡ grants_among ss new.grants
   pub frames : told ≡ suppliers_told p ss before new
 
-abbrev pub GatheredSoFar : Standing → Standing → Name → Name → List Name → List (ChannelSlot × LaneHolder) → List (ChannelSlot × LaneHolder) → FrameDifferences → Type 0
+abbrev pub GatheredSoFar : Standing → Standing → Name → Name → List Name → List (ChannelSlot × LaneHolder) → List (ChannelSlot × LaneHolder) → ByKind DifferenceRow → Type 0
 GatheredSoFar old now v w ss olds news told = Compares {X = ⊤} v w (λ p new before _. AreGathered p ss new before olds news told) old now (Ok tt)
 
 module _ (old : Standing) (v w : Name) where
   -- before the first
-  pub compared-none : (olds news : List (ChannelSlot × LaneHolder)) (told : FrameDifferences) → olds ≡ [] → news ≡ [] →
+  pub compared-none : (olds news : List (ChannelSlot × LaneHolder)) (told : ByKind DifferenceRow) → olds ≡ [] → news ≡ [] →
       told ≡ record { frames = []; placements = []; signals = []; gaps = [] } → GatheredSoFar old old v w [] olds news told
   compared-none olds news told none no_news nothing c b stood =
       (stood, λ new before is was. record { old_grants = lanes-none olds none before.grants; new_grants = lanes-none news no_news new.grants; frames = nothing })
 
   told-more : (p : Params) (s : Name) (ss : List Name) (before new : Variant) →
-      with_told (suppliers_told p ss before new) (supplier_told p before new s) ≡ suppliers_told p (ss ++ s ∷ []) before new
+      with_more (suppliers_told p ss before new) (supplier_told p before new s) ≡ suppliers_told p (ss ++ s ∷ []) before new
   told-more p s ss before new = λ i. record {
     frames = flat-more (λ t. (supplier_told p before new t).frames) ss s i;
     placements = flat-more (λ t. (supplier_told p before new t).placements) ss s i;
@@ -64,10 +64,10 @@ module _ (old : Standing) (v w : Name) where
   }
 
   -- one supplier more
-  pub compared-more : (mid one now : Standing) (s : Name) (ss more : List Name) (olds news olds_now news_now : List (ChannelSlot × LaneHolder)) (told told_now : FrameDifferences) (gone come : ComparedRows) →
+  pub compared-more : (mid one now : Standing) (s : Name) (ss more : List Name) (olds news olds_now news_now : List (ChannelSlot × LaneHolder)) (told told_now : ByKind DifferenceRow) (gone come : ComparedRows) →
       GatheredSoFar old mid v w ss olds news told →
       Gathers w (λ p x rows. AreTaken p s x olds olds_now rows) mid one (Ok gone) → Gathers v (λ p x rows. AreTaken p s x news news_now rows) one now (Ok come) →
-      told_now ≡ with_told told (rows_told gone come) → more ≡ ss ++ s ∷ [] → GatheredSoFar old now v w more olds_now news_now told_now
+      told_now ≡ with_more told (rows_told gone come) → more ≡ ss ++ s ∷ [] → GatheredSoFar old now v w more olds_now news_now told_now
   compared-more mid one now s ss more olds news olds_now news_now told told_now gone come so first second pushed is_more c b stood =
       let start = so c b stood in
       let was_taken = first c b start.0 in
@@ -81,14 +81,14 @@ module _ (old : Standing) (v w : Name) where
               old_grants = lanes-more s ss more before.grants olds olds_now so_far.old_grants taken.holders is_more;
               new_grants = lanes-more s ss more new.grants news news_now so_far.new_grants taken_now.holders is_more;
               frames = pushed
-                  ∙ (λ i. with_told (so_far.frames i) (rows_told (taken.rows_are i) (taken_now.rows_are i)))
+                  ∙ (λ i. with_more (so_far.frames i) (rows_told (taken.rows_are i) (taken_now.rows_are i)))
                   ∙ told-more c.params s ss before new
                   ∙ ap (λ ts. suppliers_told c.params ts before new) (sym is_more);
             },
       )
 
   -- after the last, kind after kind
-  pub compared-all : (now : Standing) (i : ℕ) (ss : List Name) (olds news : List (ChannelSlot × LaneHolder)) (told : FrameDifferences) (grants all : List DifferenceRow) → length ss ≤ i →
+  pub compared-all : (now : Standing) (i : ℕ) (ss : List Name) (olds news : List (ChannelSlot × LaneHolder)) (told : ByKind DifferenceRow) (grants all : List DifferenceRow) → length ss ≤ i →
       GatheredSoFar old now v w (take i ss) olds news told → grants ≡ grants_differ (grants_in_lanes olds) (grants_in_lanes news) →
       all ≡ grants ++ told.frames ++ told.placements ++ told.signals ++ told.gaps →
       Compares v w (λ p new before rows. rows ≡ rows_among p ss before new) old now (Ok all)

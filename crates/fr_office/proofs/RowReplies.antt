@@ -1,5 +1,8 @@
 -- The rows of all kinds, as they are gathered of one supplier after another, are those that the register shows.
-use Rattle.std.proofs.Common.{◌≡◌, List, [], ◌∷◌, ◌++◌, map, Some, sym, ap, ◌∙◌}
+use Rattle.std.specs.List.{flat_map}
+use Rattle.std.proofs.lemmas.List.{map-append}
+use Rattle.std.proofs.Common.{◌≡◌, ℕ, List, [], ◌∷◌, ◌++◌, length, map, drop, take, Some, sym, ap, ◌∙◌, append_assoc}
+use Rattle.std.proofs.Math.Seq.{drop-append_seam, take-append_seam}
 use Rattle.fr_base.specs.Book.{Book, Frame, Variant, own}
 use Rattle.fr_base.specs.Cluster.{Cluster}
 use Rattle.fr_base.specs.Differences.{all_placements, all_signals, frame_seen, gap_of, gap_seen, grant_seen, placement_seen, rows_of_frames, seen_rows, signal_seen}
@@ -9,11 +12,11 @@ use Rattle.fr_base.specs.Seen.{seen_frames, seen_grants}
 use Rattle.fr_base.specs.Sound.{IsSound}
 use Rattle.fr_base.specs.Tables.{each, get}
 use Rattle.fr_base.specs.declared.actor.Actor.{Actor}
-use Rattle.fr_base.specs.declared.answer.GrantRow.{GrantRow}
 use Rattle.fr_base.specs.declared.answer.SeenRow.{SeenRow}
 use Rattle.fr_base.specs.declared.name.Name.{Name}
 use Rattle.fr_base.specs.declared.params.Params.{Params}
-use Rattle.fr_office.specs.Compared.{compared_rows, frame_told, gap_told, grant_told, placement_told, seen_among, signal_told, suppliers_rows, with_more}
+use Rattle.fr_office.specs.Compared.{compared_rows, frame_told, gap_told, grant_told, kinds_told, placement_told, seen_among, signal_told, suppliers_rows}
+use Rattle.fr_office.specs.Kinds.{ByKind, with_more}
 use Rattle.fr_office.specs.Shown.{seen_names}
 use Rattle.fr_office.specs.declared.queries.compared.ComparedRows.{ComparedRows}
 use Rattle.fr_office.proofs.DifferenceReplies.{append-five, grant-keys, signals-seen}
@@ -28,30 +31,40 @@ use Rattle.fr_office.proofs.GatherLaws.{flat-more}
 -- ---- of the suppliers so far
 
 -- one page more
-pub takes-compared : (page : PageData) (old new : ComparedRows) → new ≡ with_more old (compared_rows page.params (own_rows_of page).frames) →
-    Takes (λ p first ss x rows. rows ≡ suppliers_rows p ss x) page old new
-takes-compared page old new pushed first ss x has is =
-    pushed ∙ (λ i. with_more (is i) (compared_rows page.params (has.frames i))) ∙ one_more
+pub takes-kinds : (page : PageData) (old new : ByKind SeenRow) → new ≡ with_more old (kinds_told (compared_rows page.params (own_rows_of page).frames)) →
+    Takes (λ p first ss x rows. rows ≡ kinds_told (suppliers_rows p ss x)) page old new
+takes-kinds page old new pushed first ss x has is =
+    pushed ∙ (λ i. with_more (is i) (kinds_told (compared_rows page.params (has.frames i)))) ∙ one_more
   where
     made : Name → ComparedRows
     made s = compared_rows page.params (own s x.frames)
 
-    one_more : with_more (suppliers_rows page.params ss x) (made page.supplier) ≡ suppliers_rows page.params (ss ++ page.supplier ∷ []) x
+    told_more : {X : Type 0} (tell : X → SeenRow) (f : Name → List X) → map tell (flat_map f ss) ++ map tell (f page.supplier) ≡ map tell (flat_map f (ss ++ page.supplier ∷ []))
+    told_more tell f = sym (map-append tell (flat_map f ss) (f page.supplier)) ∙ ap (map tell) (flat-more f ss page.supplier)
+
+    one_more : with_more (kinds_told (suppliers_rows page.params ss x)) (kinds_told (made page.supplier)) ≡ kinds_told (suppliers_rows page.params (ss ++ page.supplier ∷ []) x)
     one_more = λ i. record {
-      frames = flat-more (λ s. (made s).frames) ss page.supplier i;
-      placements = flat-more (λ s. (made s).placements) ss page.supplier i;
-      signals = flat-more (λ s. (made s).signals) ss page.supplier i;
-      gaps = flat-more (λ s. (made s).gaps) ss page.supplier i;
+      frames = told_more frame_told (λ s. (made s).frames) i;
+      placements = told_more placement_told (λ s. (made s).placements) i;
+      signals = told_more signal_told (λ s. (made s).signals) i;
+      gaps = told_more gap_told (λ s. (made s).gaps) i;
     }
 
 -- after the last, kind after kind
-pub rows-told : (p : Params) (ss : List Name) (x : Variant) (frames : ComparedRows) (grants : List GrantRow) (none all : List SeenRow) →
-    grants ≡ grants_of (grants_among ss x.grants) → frames ≡ suppliers_rows p ss x → none ≡ [] →
-    all ≡ none ++ map grant_told grants ++ map frame_told frames.frames ++ map placement_told frames.placements ++ map signal_told frames.signals ++ map gap_told frames.gaps →
-    all ≡ seen_among p ss x
-rows-told p ss x frames grants none all listed is empty joined =
-    joined
-    ∙ (λ j. empty j ++ map grant_told (listed j) ++ map frame_told (is j).frames ++ map placement_told (is j).placements ++ map signal_told (is j).signals ++ map gap_told (is j).gaps)
+pub rows-told : (p : Params) (ss : List Name) (x : Variant) (told : ByKind SeenRow) (grants all : List SeenRow) → grants ≡ map grant_told (grants_of (grants_among ss x.grants)) →
+    told ≡ kinds_told (suppliers_rows p ss x) → all ≡ grants ++ told.frames ++ told.placements ++ told.signals ++ told.gaps → all ≡ seen_among p ss x
+rows-told p ss x told grants all listed is joined = joined ∙ (λ j. listed j ++ (is j).frames ++ (is j).placements ++ (is j).signals ++ (is j).gaps)
+
+-- the rows of one list, which others were put behind, and which was then turned to stand behind these, with more behind
+pub joined : {A : Type 0} (most a b c d one two three round all : List A) (n : ℕ) → n ≡ length most → one ≡ most ++ a → two ≡ one ++ b → three ≡ two ++ c → round ≡ drop n three ++ take n three → all ≡ round ++ d →
+    all ≡ a ++ b ++ c ++ most ++ d
+joined most a b c d one two three round all n size first second third is last =
+    let behind : three ≡ most ++ (a ++ b ++ c) = third ∙ ap (λ s. s ++ c) (second ∙ ap (λ s. s ++ b) first ∙ append_assoc most a b) ∙ append_assoc most (a ++ b) c in
+    last
+    ∙ ap (λ rows. rows ++ d)
+    (is
+    ∙ (λ i. drop (size i) (behind i) ++ take (size i) (behind i))
+    ∙ (λ i. drop-append_seam most (a ++ b ++ c) i ++ take-append_seam most (a ++ b ++ c) i))
 
 -- ---- as the actor sees them
 

@@ -24,9 +24,9 @@ use Rattle.fr_base.specs.declared.name.Name.{Name}
 use Rattle.fr_base.specs.declared.params.Params.{Params}
 use Rattle.fr_base.specs.declared.refusal.Refusal.{Refusal}
 use Rattle.fr_base.specs.declared.refusal.Refusal.TheVariants.{NoVariant, Unavailable}
+use Rattle.fr_office.specs.Kinds.{ByKind}
 use Rattle.fr_office.specs.Shared.{grants_among, with_rows}
 use Rattle.fr_office.specs.declared.queries.compared.ComparedRows.{ComparedRows}
-use Rattle.fr_office.specs.declared.queries.frame_differences.FrameDifferences.{FrameDifferences}
 use Rattle.fr_world.specs.Held.{Standing}
 use Rattle.fr_world.specs.KeyedRows.{by_key, frame_entry, gap_entry, grant_entry, placement_entry, same_at, signal_entry}
 use Rattle.fr_world.specs.Loads.{grants_in_lanes}
@@ -69,7 +69,7 @@ abbrev pub kind_told : {X K V : Type 0} → Order K → (V → V → Bool) → (
 kind_told o same told entry before new = merge (by_key o entry) (same_at same entry) (λ r. told (entry r)) before new
 
 -- what merges tell of the rows of frames, of each kind
-abbrev pub rows_told : ComparedRows → ComparedRows → FrameDifferences
+abbrev pub rows_told : ComparedRows → ComparedRows → ByKind DifferenceRow
 rows_told before new = record {
   frames = kind_told owned same_text frame_seen frame_entry before.frames new.frames;
   placements = kind_told placed_frames (λ _ _. true) placement_seen placement_entry before.placements new.placements;
@@ -77,21 +77,12 @@ rows_told before new = record {
   gaps = kind_told owned same_gap gap_seen gap_entry before.gaps new.gaps;
 }
 
--- rows of each kind, and more behind them
-abbrev pub with_told : FrameDifferences → FrameDifferences → FrameDifferences
-with_told told more = record {
-  frames = told.frames ++ more.frames;
-  placements = told.placements ++ more.placements;
-  signals = told.signals ++ more.signals;
-  gaps = told.gaps ++ more.gaps;
-}
-
 -- what merges tell of the rows of a supplier's frames
-abbrev pub supplier_told : Params → Variant → Variant → Name → FrameDifferences
+abbrev pub supplier_told : Params → Variant → Variant → Name → ByKind DifferenceRow
 supplier_told p before new s = rows_told (compared_rows p (own s before.frames)) (compared_rows p (own s new.frames))
 
 -- what merges tell of the rows of these suppliers' frames, of each kind supplier after supplier
-abbrev pub suppliers_told : Params → List Name → Variant → Variant → FrameDifferences
+abbrev pub suppliers_told : Params → List Name → Variant → Variant → ByKind DifferenceRow
 suppliers_told p ss before new = record {
   frames = flat_map (λ s. (supplier_told p before new s).frames) ss;
   placements = flat_map (λ s. (supplier_told p before new s).placements) ss;
@@ -109,15 +100,6 @@ rows_among p ss before new =
     ++ (suppliers_told p ss before new).gaps
 
 -- ---- the rows of one variant
-
--- rows of each kind, and more behind them
-abbrev pub with_more : ComparedRows → ComparedRows → ComparedRows
-with_more rows more = record {
-  frames = rows.frames ++ more.frames;
-  placements = rows.placements ++ more.placements;
-  signals = rows.signals ++ more.signals;
-  gaps = rows.gaps ++ more.gaps;
-}
 
 -- the rows of these suppliers' frames in the variant, of each kind supplier after supplier
 abbrev pub suppliers_rows : Params → List Name → Variant → ComparedRows
@@ -143,6 +125,15 @@ signal_told r = signal_seen (signal_entry r)
 
 abbrev pub gap_told : GapRow → SeenRow
 gap_told r = gap_seen (gap_entry r)
+
+-- of each kind the rows, as rows of a variant
+abbrev pub kinds_told : ComparedRows → ByKind SeenRow
+kinds_told rows = record {
+  frames = map frame_told rows.frames;
+  placements = map placement_told rows.placements;
+  signals = map signal_told rows.signals;
+  gaps = map gap_told rows.gaps;
+}
 
 -- the rows of these suppliers in the variant: grants, frames, placements, signals and gaps
 abbrev pub seen_among : Params → List Name → Variant → List SeenRow

@@ -11,4 +11,5 @@ pub mod Shown
 pub mod Gathered
 pub mod Crashed
 pub mod Listing
+pub mod Kinds
 pub mod Compared

@@ -19,6 +19,7 @@ mod frames;
 mod gaps;
 mod gathered;
 mod grants;
+mod kind_rows;
 mod layout;
 mod load;
 mod nodes;

@@ -1,14 +1,11 @@
 //! The rows of frames that a difference compares, and a report tells: for each kind of row a list, by frame.
-ghost use Rattle.std.specs.Prelude.{◌≡◌, [], ◌++◌, map, IfOk, OnOk};
+ghost use Rattle.std.specs.Prelude.{◌≡◌, [], ◌++◌, IfOk, OnOk};
 ghost use Rattle.std.specs.List.{flat_map};
-ghost use Rattle.fr_office.specs.Compared.{compared_rows, frame_told, gap_told, grant_told, placement_told, signal_told, with_more};
+ghost use Rattle.fr_office.specs.Compared.{compared_rows};
 ghost use Rattle.fr_world.specs.Pages.{own_rows_of};
 
 use crate::queries::gaps::push_gaps;
-use crate::queries::gathered::Gathered;
-use fr_base::{
-    FrameRecord, GapRow, GrantRow, NoMemory, PlacementRecord, Rows, SeenRow, SignalRecord,
-};
+use fr_base::{FrameRecord, GapRow, NoMemory, PlacementRecord, Rows, SignalRecord};
 use fr_world::{FileRecord, KeyedRow, Page};
 use std::alloc::Global;
 
@@ -83,28 +80,6 @@ fn push_records<T: FileRecord + Drop>(page: &Page, rows: &mut Rows<T>) -> Result
     Ok(())
 }
 
-// Appends these rows as rows of a variant. Where memory is refused, some of them may have been appended.
-fn push_seen<T: KeyedRow>(kind: &[T], rows: &mut Rows<SeenRow>) -> Result<(), NoMemory>
-    ensures { OnOk result (rows.new ≡ rows.old ++ map T.told kind.now) }
-{
-    for row in kind {
-        rows.push(row.seen())?;
-    }
-    Ok(())
-}
-
-// The rows of a supplier's frames come behind those of the suppliers before.
-impl Gathered for ComparedRows {
-    ghost use Rattle.std.specs.Prelude.{◌≡◌};
-    ghost use Rattle.fr_office.specs.Compared.{suppliers_rows};
-
-    ghost gathered = { λ p first ss x rows. rows ≡ suppliers_rows p ss x };
-
-    fn take(&mut self, _alloc: Global, page: &Page) -> Result<(), NoMemory> {
-        self.push_page(page)
-    }
-}
-
 /// The rows of frames: of each kind a list, in order.
 #[derive(Drop)]
 pub(crate) struct ComparedRows {
@@ -137,36 +112,10 @@ impl ComparedRows {
             rows ≡ compared_rows page.now.params (own_rows_of page.now).frames) }
     {
         let mut rows = ComparedRows::new(alloc);
-        rows.push_page(page)?;
+        FrameRecord::push_page(page, &mut rows.frames)?;
+        PlacementRecord::push_page(page, &mut rows.placements)?;
+        SignalRecord::push_page(page, &mut rows.signals)?;
+        GapRow::push_page(page, &mut rows.gaps)?;
         Ok(rows)
-    }
-
-    /// Appends the rows of the page. Where memory is refused, some of them may have been appended.
-    pub(crate) fn push_page(&mut self, page: &Page) -> Result<(), NoMemory>
-        ensures { OnOk result (self.new ≡ with_more self.old
-            (compared_rows page.now.params (own_rows_of page.now).frames)) }
-    {
-        FrameRecord::push_page(page, &mut self.frames)?;
-        PlacementRecord::push_page(page, &mut self.placements)?;
-        SignalRecord::push_page(page, &mut self.signals)?;
-        GapRow::push_page(page, &mut self.gaps)
-    }
-
-    /// Appends these rows as rows of a variant, kind after kind, behind these grants. Where memory is refused, some of them
-    /// may have been appended.
-    pub(crate) fn push_seen(
-        &self,
-        grants: &[GrantRow],
-        rows: &mut Rows<SeenRow>,
-    ) -> Result<(), NoMemory>
-        ensures { OnOk result (rows.new ≡ rows.old ++ map grant_told grants.now
-            ++ map frame_told self.now.frames ++ map placement_told self.now.placements
-            ++ map signal_told self.now.signals ++ map gap_told self.now.gaps) }
-    {
-        push_seen(grants, rows)?;
-        push_seen(self.frames.as_slice(), rows)?;
-        push_seen(self.placements.as_slice(), rows)?;
-        push_seen(self.signals.as_slice(), rows)?;
-        push_seen(self.gaps.as_slice(), rows)
     }
 }

@@ -12,8 +12,9 @@ ghost use Rattle.fr_world.specs.Loads.{grants_in_lanes};
 
 use crate::lender::Lender;
 use crate::queries::compared::ComparedRows;
-use crate::queries::frame_differences::FrameDifferences;
+use crate::queries::frame_differences::push_frame_differences;
 use crate::queries::grants::{add_grants, grant_rows};
+use crate::queries::kind_rows::KindRows;
 use crate::queries::suppliers::seen_suppliers;
 use crate::queries::{find_page, is_there};
 use fr_base::{Actor, DifferenceRow, LaneHolder, Name, NoMemory, Refusal, ReportRows, Rows};
@@ -73,15 +74,14 @@ fn gather<R: Lender>(
 {
     let mut old_holders = BTreeMap::new(alloc);
     let mut new_holders = BTreeMap::new(alloc);
-    let mut told = FrameDifferences::new(alloc);
+    let mut told = KindRows::new(alloc);
     for supplier in suppliers {
         let old = take_rows(alloc, records, *supplier, from, &mut old_holders)?;
         let new = take_rows(alloc, records, *supplier, variant, &mut new_holders)?;
-        told.push(&old, &new)?;
+        push_frame_differences(alloc, &old, &new, &mut told)?;
     }
-    let mut rows = compare_grants(alloc, &old_holders, &new_holders)?;
-    told.append_to(&mut rows)?;
-    Ok(rows)
+    let grants = compare_grants(alloc, &old_holders, &new_holders)?;
+    Ok(told.behind(grants.as_slice())?)
 }
 
 // The rows of the supplier's frames in the variant that a difference compares. Its grants are added to those that are

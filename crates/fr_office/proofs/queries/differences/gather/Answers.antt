@@ -23,8 +23,8 @@ loop-supplier-preserved g c =
           let was = c.take_rows-in-loop-supplier.ensures.reads.falls now in
           compared-more (records.stands c.args.records.now) c.args.variant c.args.from (records.stands c.loop-supplier.records) (records.stands c.take_rows.new.records) (records.stands c.take_rows-in-loop-supplier.new.records)
           c.supplier-item.result (take i suppliers) (take (i + 1) suppliers) c.loop-supplier.old_holders.entries c.loop-supplier.new_holders.entries c.take_rows.new.held.entries c.take_rows-in-loop-supplier.new.held.entries
-          c.loop-supplier.told c.push.new.self c.in_ok-old.old c.in_ok-new.new
-          (c.loop-supplier.invariant.gathered (c.take_rows.ensures.reads.falls was)) (c.in_ok-old.ensures.told was) (c.in_ok-new.ensures.told now) c.in_ok-push.ensures
+          c.loop-supplier.told c.push_frame_differences.new.told c.in_ok-old.old c.in_ok-new.new
+          (c.loop-supplier.invariant.gathered (c.take_rows.ensures.reads.falls was)) (c.in_ok-old.ensures.told was) (c.in_ok-new.ensures.told now) c.in_ok-push_frame_differences.ensures
           (take_more suppliers i c.supplier-item.result c.loop-supplier-test.true ∙ ap (λ s. take i suppliers ++ s ∷ []) (sym c.supplier-item.is));
     }
 
@@ -35,5 +35,5 @@ returns g c = record {
       let records = g.R.Records in
       compared-all (records.stands c.args.records.now) c.args.variant c.args.from (records.stands c.loop-supplier.records)
       c.loop-supplier.supplier-index c.args.suppliers.now c.loop-supplier.old_holders.entries c.loop-supplier.new_holders.entries c.loop-supplier.told
-      c.in_ok-rows.rows c.append_to.new.rows c.loop-supplier-test.false (c.loop-supplier.invariant.gathered now) c.in_ok-rows.ensures c.in_ok-append_to.ensures;
+      c.as_slice.result.now c.in_ok-behind.field-0 c.loop-supplier-test.false (c.loop-supplier.invariant.gathered now) (c.as_slice.ensures ∙ c.in_ok-grants.ensures) c.in_ok-behind.ensures;
 }

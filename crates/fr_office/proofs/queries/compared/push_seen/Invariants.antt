@@ -1,6 +1,0 @@
-use Rattle.std.proofs.Common.{◌≡◌, ◌++◌, map, take}
-use Rattle.fr_office.proofs.queries.compared.push_seen.Given as goal
-
--- the rows so far
-abbrev pub invariant-loop-row : goal.invariant-loop-row
-invariant-loop-row g l = l.rows ≡ l.fn.rows ++ map g.T.KeyedRow.told (take l.row-index l.kind)
