@@ -22,8 +22,8 @@ mod trial;
 use crate::edit::Edit;
 use crate::page::Page;
 pub use draft::Draft;
-use fr_base::{Change, FrameChange, Refusal, RowsChange};
 pub use file::{FileDecision, decide_file};
+use fr_base::{Change, FrameChange, Refusal, RowsChange};
 pub use import_rows::RowFault;
 use std::alloc::Global;
 
