@@ -138,6 +138,14 @@ s1 r = record { actor = Supplier (codes "s1"); request = r }
 abbrev pub s2 : Request → Ask
 s2 r = record { actor = Supplier (codes "s2"); request = r }
 
+-- a variant, a node of `s1`, and a grant of a slot and channel to it
+abbrev with_a_grant : List Ask
+with_a_grant =
+    integrator (OpenVariant (codes "v1") Empty)
+    ∷ integrator (AddNode (codes "s1") (codes "n1"))
+    ∷ integrator (Grant (codes "v1") 1 (codes "A") (codes "s1") (codes "n1"))
+    ∷ []
+
 -- the figures of its cluster file
 abbrev the_figures : List ClusterRow
 the_figures =
@@ -155,10 +163,8 @@ the_figures =
 -- a variant, a node of `s1`, a grant to it, a frame, its placement in the first cycle, and the schedule
 pub the_first_script :
     answers (
-    integrator (OpenVariant (codes "v1") Empty)
-    ∷ integrator (AddNode (codes "s1") (codes "n1"))
-    ∷ integrator (Grant (codes "v1") 1 (codes "A") (codes "s1") (codes "n1"))
-    ∷ s1 (AddFrame (codes "v1") (codes "f1") (codes "n1"))
+    with_a_grant
+    ++ s1 (AddFrame (codes "v1") (codes "f1") (codes "n1"))
     ∷ s1 (Place (codes "v1") (codes "f1") 1 (codes "A") 0 64)
     ∷ s1 (Query (OfVariant (codes "v1") Schedule))
     ∷ integrator (Query (OfVariant (codes "v1") Schedule))
@@ -209,10 +215,8 @@ what_is_held = refl
 -- the cell of least cycle is named, A before B
 pub cells_taken :
     answers (
-    integrator (OpenVariant (codes "v1") Empty)
-    ∷ integrator (AddNode (codes "s1") (codes "n1"))
-    ∷ integrator (Grant (codes "v1") 1 (codes "A") (codes "s1") (codes "n1"))
-    ∷ integrator (Grant (codes "v1") 1 (codes "B") (codes "s1") (codes "n1"))
+    with_a_grant
+    ++ integrator (Grant (codes "v1") 1 (codes "B") (codes "s1") (codes "n1"))
     ∷ s1 (AddFrame (codes "v1") (codes "e") (codes "n1"))
     ∷ s1 (AddFrame (codes "v1") (codes "f") (codes "n1"))
     ∷ s1 (AddFrame (codes "v1") (codes "g") (codes "n1"))
@@ -237,10 +241,8 @@ cells_taken = refl
 -- one holder for a slot and channel
 pub two_suppliers_one_slot :
     answers (
-    integrator (OpenVariant (codes "v1") Empty)
-    ∷ integrator (AddNode (codes "s1") (codes "n1"))
-    ∷ integrator (Grant (codes "v1") 1 (codes "A") (codes "s1") (codes "n1"))
-    ∷ integrator (AddNode (codes "s2") (codes "n2"))
+    with_a_grant
+    ++ integrator (AddNode (codes "s2") (codes "n2"))
     ∷ integrator (AddNode (codes "s1") (codes "n3"))
     ∷ integrator (Grant (codes "v1") 1 (codes "A") (codes "s2") (codes "n2"))
     ∷ integrator (Grant (codes "v1") 1 (codes "A") (codes "s1") (codes "n1"))
@@ -286,10 +288,8 @@ refused_lines = refl
 -- of several refusals the first by number
 pub first_refusals :
     answers (
-    integrator (OpenVariant (codes "v1") Empty)
-    ∷ integrator (AddNode (codes "s1") (codes "n1"))
-    ∷ integrator (Grant (codes "v1") 1 (codes "A") (codes "s1") (codes "n1"))
-    ∷ s1 (AddFrame (codes "v1") (codes "f") (codes "n1"))
+    with_a_grant
+    ++ s1 (AddFrame (codes "v1") (codes "f") (codes "n1"))
     ∷ s1 (Place (codes "1v") (codes "f") 0 (codes "C") 5 3)
     ∷ s1 (Place (codes "v9") (codes "f") 0 (codes "C") 5 3)
     ∷ s1 (Place (codes "v9") (codes "f") 5 (codes "C") 0 1)
@@ -330,10 +330,8 @@ first_refusals = refl
 -- slot 1 in cycles 0, 4, .. and slot 3 in cycles 2, 6, ..: moments 0, 220, 400, 620, ..
 pub gap_of_two_slots :
     answers (
-    integrator (OpenVariant (codes "v1") Empty)
-    ∷ integrator (AddNode (codes "s1") (codes "n1"))
-    ∷ integrator (Grant (codes "v1") 1 (codes "A") (codes "s1") (codes "n1"))
-    ∷ integrator (Grant (codes "v1") 3 (codes "A") (codes "s1") (codes "n1"))
+    with_a_grant
+    ++ integrator (Grant (codes "v1") 3 (codes "A") (codes "s1") (codes "n1"))
     ∷ s1 (AddFrame (codes "v1") (codes "f") (codes "n1"))
     ∷ s1 (Place (codes "v1") (codes "f") 1 (codes "A") 0 4)
     ∷ s1 (Place (codes "v1") (codes "f") 3 (codes "A") 2 4)
@@ -363,10 +361,8 @@ counted_answers n asks = answers_to (counting n).cluster (opening (counting n)) 
 -- twelve cycles: two sets of repetitions 4 and 6 meet in cycle 8
 pub twelve_cycles :
     counted_answers 12 (
-    integrator (OpenVariant (codes "v1") Empty)
-    ∷ integrator (AddNode (codes "s1") (codes "n1"))
-    ∷ integrator (Grant (codes "v1") 1 (codes "A") (codes "s1") (codes "n1"))
-    ∷ s1 (AddFrame (codes "v1") (codes "f") (codes "n1"))
+    with_a_grant
+    ++ s1 (AddFrame (codes "v1") (codes "f") (codes "n1"))
     ∷ s1 (AddFrame (codes "v1") (codes "g") (codes "n1"))
     ∷ s1 (Place (codes "v1") (codes "f") 1 (codes "A") 0 4)
     ∷ s1 (Place (codes "v1") (codes "g") 1 (codes "A") 2 6)
@@ -380,10 +376,8 @@ twelve_cycles = refl
 -- ten cycles: a ring of 1000 macroticks, no cycle from the tenth on, and no repetition that does not divide 10
 pub ten_cycles :
     counted_answers 10 (
-    integrator (OpenVariant (codes "v1") Empty)
-    ∷ integrator (AddNode (codes "s1") (codes "n1"))
-    ∷ integrator (Grant (codes "v1") 1 (codes "A") (codes "s1") (codes "n1"))
-    ∷ s1 (AddFrame (codes "v1") (codes "f") (codes "n1"))
+    with_a_grant
+    ++ s1 (AddFrame (codes "v1") (codes "f") (codes "n1"))
     ∷ s1 (Place (codes "v1") (codes "f") 1 (codes "A") 1 5)
     ∷ s1 (Place (codes "v1") (codes "f") 1 (codes "A") 0 4)
     ∷ s1 (Place (codes "v1") (codes "f") 1 (codes "A") 0 64)
@@ -405,10 +399,8 @@ ten_cycles = refl
 -- a lone moment, two slots, and none
 pub gaps_alone_mixed_never :
     answers (
-    integrator (OpenVariant (codes "v1") Empty)
-    ∷ integrator (AddNode (codes "s1") (codes "n1"))
-    ∷ integrator (Grant (codes "v1") 1 (codes "A") (codes "s1") (codes "n1"))
-    ∷ integrator (Grant (codes "v1") 2 (codes "A") (codes "s1") (codes "n1"))
+    with_a_grant
+    ++ integrator (Grant (codes "v1") 2 (codes "A") (codes "s1") (codes "n1"))
     ∷ integrator (Grant (codes "v1") 4 (codes "A") (codes "s1") (codes "n1"))
     ∷ s1 (AddFrame (codes "v1") (codes "f") (codes "n1"))
     ∷ s1 (AddFrame (codes "v1") (codes "g") (codes "n1"))
@@ -477,10 +469,8 @@ a_grant_revoked = refl
 -- a dropped frame is not sent; a placement is that of its four fields
 pub a_frame_dropped :
     answers (
-    integrator (OpenVariant (codes "v1") Empty)
-    ∷ integrator (AddNode (codes "s1") (codes "n1"))
-    ∷ integrator (Grant (codes "v1") 1 (codes "A") (codes "s1") (codes "n1"))
-    ∷ s1 (AddFrame (codes "v1") (codes "f1") (codes "n1"))
+    with_a_grant
+    ++ s1 (AddFrame (codes "v1") (codes "f1") (codes "n1"))
     ∷ s1 (Place (codes "v1") (codes "f1") 1 (codes "A") 0 64)
     ∷ s1 (Query (OfVariant (codes "v1") Frames))
     ∷ s1 (Unplace (codes "v1") (codes "f1") 1 (codes "A") 0 32)
@@ -507,10 +497,8 @@ a_frame_dropped = refl
 -- a released variant stays; one that was opened from it goes on by itself
 pub a_variant_released :
     answers (
-    integrator (OpenVariant (codes "v1") Empty)
-    ∷ integrator (AddNode (codes "s1") (codes "n1"))
-    ∷ integrator (Grant (codes "v1") 1 (codes "A") (codes "s1") (codes "n1"))
-    ∷ s1 (AddFrame (codes "v1") (codes "f1") (codes "n1"))
+    with_a_grant
+    ++ s1 (AddFrame (codes "v1") (codes "f1") (codes "n1"))
     ∷ s1 (Place (codes "v1") (codes "f1") 1 (codes "A") 0 64)
     ∷ integrator (Release (codes "v1"))
     ∷ s1 (Place (codes "v1") (codes "f1") 1 (codes "A") 1 64)
@@ -553,10 +541,8 @@ a_variant_released = refl
 -- a variant that is opened flat has all rows of a released one, and no parent; an open variant and one that is not there refuse
 pub a_variant_opened_flat :
     answers (
-    integrator (OpenVariant (codes "v1") Empty)
-    ∷ integrator (AddNode (codes "s1") (codes "n1"))
-    ∷ integrator (Grant (codes "v1") 1 (codes "A") (codes "s1") (codes "n1"))
-    ∷ s1 (AddFrame (codes "v1") (codes "f1") (codes "n1"))
+    with_a_grant
+    ++ s1 (AddFrame (codes "v1") (codes "f1") (codes "n1"))
     ∷ s1 (Place (codes "v1") (codes "f1") 1 (codes "A") 0 64)
     ∷ integrator (OpenVariant (codes "w") (Flat (codes "v1")))
     ∷ integrator (OpenVariant (codes "w") (Flat (codes "v9")))
@@ -728,10 +714,8 @@ s3 r = record { actor = Supplier (codes "s3"); request = r }
 -- again. Nodes and grants are as any supplier's.
 unfoldable pub joining : List Ask
 joining =
-    integrator (OpenVariant (codes "v1") Empty)
-    ∷ integrator (AddNode (codes "s1") (codes "n1"))
-    ∷ integrator (Grant (codes "v1") 1 (codes "A") (codes "s1") (codes "n1"))
-    ∷ s1 (AddFrame (codes "v1") (codes "f1") (codes "n1"))
+    with_a_grant
+    ++ s1 (AddFrame (codes "v1") (codes "f1") (codes "n1"))
     ∷ s1 (Place (codes "v1") (codes "f1") 1 (codes "A") 0 64)
     ∷ s3 (Query (OfVariant (codes "v1") Schedule))
     ∷ integrator (AddSupplier (codes "s3") (codes "supplier03"))
@@ -770,10 +754,8 @@ a_key_before_and_after = (refl, refl, refl)
 -- The supplier's plan, and then another key for it. A key that is somebody's is taken, the supplier's own too.
 unfoldable pub keying : List Ask
 keying =
-    integrator (OpenVariant (codes "v1") Empty)
-    ∷ integrator (AddNode (codes "s1") (codes "n1"))
-    ∷ integrator (Grant (codes "v1") 1 (codes "A") (codes "s1") (codes "n1"))
-    ∷ s1 (AddFrame (codes "v1") (codes "f1") (codes "n1"))
+    with_a_grant
+    ++ s1 (AddFrame (codes "v1") (codes "f1") (codes "n1"))
     ∷ s1 (Place (codes "v1") (codes "f1") 1 (codes "A") 0 64)
     ∷ integrator (SetKey (codes "s1") (codes "supplier09"))
     ∷ s1 (Query (OfVariant (codes "v1") Schedule))
