@@ -1,16 +1,13 @@
 //! The files of registers on this machine.
-ghost use Rattle.fr_base.specs.Book.{Book};
-ghost use Rattle.fr_base.specs.Cluster.{Cluster};
-ghost use Rattle.fr_desks.specs.FileDesk.{IsLeftWith};
-ghost use Rattle.sqlite.specs.Files.{IsCleanLeft};
 
 use crate::files::hindrance::Hindrance;
 use crate::files::inspection::find_hindrances;
 use crate::files::local_watch::LocalWatch;
 use crate::files::registers::Registers;
 use crate::files::watch::WatchFault;
-use fr_base::{Config, Desk, NoMemory};
+use fr_base::{Config, NoMemory};
 use fr_desks::{FileDesk, FileFault, file_desk};
+use fr_office::Office;
 use fr_store::{Store, StoreFault};
 use sqlite::{FileFrom, FileStore, Files, Leftover, Start};
 use std::alloc::AllocError;
@@ -65,12 +62,8 @@ impl<'a, S: Start> Registers for LocalRegisters<'a, S> {
         }
     }
 
-    fn close(&mut self, office: FileDesk<S>) -> Leftover<FileFrom<S>>
-        ensures clean { IsCleanLeft result → ⟦<FileDesk<S> as Desk>⟧.clean office }
-        ensures book { (c : Cluster) (b : Book) → ⟦<FileDesk<S> as Desk>⟧.stands office c b
-            → IsLeftWith result c b }
-    {
-        file_desk::close(office)
+    fn close(&mut self, records: Store<FileStore<FileFrom<S>>>) -> Leftover<FileFrom<S>> {
+        file_desk::close(Office::new(self.rt.alloc(), records))
     }
 
     // A file that is made for the register is read and written by its owner alone.

@@ -16,6 +16,7 @@ pub trait Registers {
     ghost use Rattle.fr_base.specs.Cluster.{Cluster, ClusterFile};
     ghost use Rattle.fr_cli.specs.declared.files.hindrance.Hindrance.{Hindrance};
     ghost use Rattle.fr_desks.specs.FileDesk.{FindsHeld, FindsRegister, IsLeftWith, LeavesBook};
+    ghost use Rattle.fr_office.specs.Crashed.{IsKept};
     ghost use Rattle.fr_store.specs.Opened.{IsMigrated};
     ghost use Rattle.fr_store.specs.Opening.{AllowsCreation};
     ghost use Rattle.fr_store.specs.Refused.{IsRefusedBy, IsUnavailable, NeedsNone, makes_closed, migrates, opens};
@@ -64,14 +65,14 @@ pub trait Registers {
         ensures refused { IfErr result (λ e.
             IsRefusedBy opens NeedsNone (holds self.old path.now) e.0 e.1) };
 
-    /// Closes the register, and gives what is left of its files. Where they close they hold its book as long as nobody else writes to
+    /// Closes the register that has these records, and gives what is left of its files. Where they close they hold its book as long as nobody else writes to
     /// them, and so does what a crash leaves of them. Where they fail to close, their store is left: what is opened after a
     /// crash is then the register as it stood, or after one request more.
-    fn close(&mut self, office: Office<Self::Records>) -> Leftover<Self::File>
+    fn close(&mut self, records: Self::Records) -> Leftover<Self::File>
         ensures files { closed self.old self.new }
-        ensures clean { IsCleanLeft result → ⟦<Office<Self::Records> as Desk>⟧.clean office }
-        ensures book { (c : Cluster) (b : Book)
-            → ⟦<Office<Self::Records> as Desk>⟧.stands office c b → IsLeftWith result c b };
+        ensures clean { IsCleanLeft result → Self.Records.Records.clean records }
+        ensures book { (c : Cluster) (b : Book) → Self.Records.Records.stands records c b
+            → IsKept (Self.Records.Records.leaves records c) c b → IsLeftWith result c b };
 
     /// Makes the register of this cluster at the path, where there is none, and closes it: the files that are left hold the book of a new
     /// register. Where they fail to close, their store is left: what is opened after a crash is then the new register.

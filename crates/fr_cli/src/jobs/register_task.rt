@@ -54,7 +54,7 @@ pub(crate) fn run_task<G: Registers, E: RegisterTask>(
     match registers.open(db) {
         Ok(office) => {
             let (done, after) = task.carry_out(alloc, registers, db, office);
-            (done, Some(registers.close(after)))
+            (done, Some(registers.close(after.into_records())))
         }
         Err((fault, left)) => (Err(E::Fault::from(Fault::Register(fault))), left),
     }

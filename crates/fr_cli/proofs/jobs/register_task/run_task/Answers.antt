@@ -1,11 +1,15 @@
-use Rattle.std.proofs.Common.{inl, inr, refl}
+use Rattle.std.proofs.Common.{inl, inr, refl, subst, sym}
+use Rattle.fr_office.specs.Crashed.{IsKept}
 use Rattle.fr_cli.proofs.RefusedFiles.{not_opened}
 use Rattle.fr_cli.proofs.RegisterTaskLaws.{over}
 use Rattle.fr_cli.proofs.jobs.register_task.run_task.Goals as goal
 
 pub returns-in-Ok-clause-done : goal.returns-in-Ok-clause-done
 returns-in-Ok-clause-done g c =
-    let stood = over c.close.ensures.clean c.carry_out-done.ensures.falls c.in-Ok.ensures.found c.in-Ok.ensures.reads c.close.ensures.book in
+    let rows = g.G.Records.Records in
+    let same = c.into_records.ensures in
+    let stood = over (λ kept. subst (λ r. rows.clean r) same (c.close.ensures.clean kept)) c.carry_out-done.ensures.falls c.in-Ok.ensures.found c.in-Ok.ensures.reads
+    (λ k b stands. c.close.ensures.book k b (subst (λ r. rows.stands r k b) (sym same) stands.0.0) (subst (λ r. IsKept (rows.leaves r k) k b) (sym same) stands.1)) in
     inr (_, c.in-Ok.office, c.carry_out-done.result.1, stood, c.carry_out-done.ensures.does)
 
 pub returns-in-Ok-clause-files : goal.returns-in-Ok-clause-files
