@@ -5,7 +5,7 @@ use fr_base::{Purpose, Query, Report};
 use fr_cli::perform::perform;
 use fr_cli::{Delivery, Inquiry, Job, LocalFiles, LocalListener, LocalRegisters};
 use fr_desks::file_desk;
-use sqlite::Unknown;
+use sqlite::{FileFrom, Leftover, Start, Unknown};
 use std::fs;
 use std::net::{Ipv4Addr, TcpListener};
 use std::test::Fail;
@@ -17,21 +17,32 @@ const PLACEMENTS: &str = "frame,node,slot,channels,base,repetition\nf1,n1,1,A,0,
 fn ends(rt: &HostRuntime, job: &Job<'_>, out: &str, err: &str, status: u8) -> bool {
     let mut printed = Vec::new(rt.alloc());
     let mut told = Vec::new(rt.alloc());
+    let (done, _left) = perform_from(rt, job, Unknown, &mut printed, &mut told);
+    done == status && printed.as_slice() == out.as_bytes() && told.as_slice() == err.as_bytes()
+}
+
+// Does the job with nothing to read. `start` says what its register file held as it was opened.
+fn perform_from<S: Start>(
+    rt: &HostRuntime,
+    job: &Job<'_>,
+    start: S,
+    printed: &mut Vec<u8>,
+    told: &mut Vec<u8>,
+) -> (u8, Option<Leftover<FileFrom<S>>>) {
     let mut registers = LocalRegisters {
         rt,
-        start: Some(Unknown),
+        start: Some(start),
     };
-    let (done, _left) = perform(
+    perform(
         rt.alloc(),
         job,
         &mut registers,
         &mut LocalFiles { rt },
         &mut b"".as_slice(),
-        &mut printed,
-        &mut told,
+        printed,
+        told,
         &mut LocalListener::new(rt),
-    );
-    done == status && printed.as_slice() == out.as_bytes() && told.as_slice() == err.as_bytes()
+    )
 }
 
 fn prints(rt: &HostRuntime, job: &Job<'_>, text: &str) -> bool {

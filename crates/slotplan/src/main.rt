@@ -4,8 +4,11 @@
 mod streams;
 
 use fr_cli::perform::{explain, perform};
-use fr_cli::{Job, LocalFiles, LocalListener, LocalRegisters, WordFault, end_closed, read_words};
-use sqlite::Unknown;
+use fr_cli::{
+    Job, Listener, LocalFiles, LocalListener, LocalRegisters, WordFault, end_closed, read_words,
+};
+use fr_text::Sink;
+use sqlite::{FileFrom, Leftover, Start, Unknown};
 use std::env;
 use std::io::{self, ErrorKind};
 use std::process::ExitCode;
@@ -30,25 +33,37 @@ fn run(rt: &HostRuntime) -> u8 {
             if let Job::Serve { count, .. } = job {
                 listener.most = count;
             }
-            let mut registers = LocalRegisters {
-                rt,
-                start: Some(Unknown),
-            };
-            let (status, left) = perform(
-                rt.alloc(),
-                &job,
-                &mut registers,
-                &mut LocalFiles { rt },
-                &mut rt.reader(),
-                &mut out,
-                &mut err,
-                &mut listener,
-            );
+            let (status, left) = perform_from(rt, &job, Unknown, &mut out, &mut err, &mut listener);
             listener.finish();
             end_closed(status, &left, &mut err)
         }
         Err(fault) => explain(&fault, &mut out, &mut err),
     }
+}
+
+// Does the job with this machine's files and connections. `start` says what the job's register file held as it was opened.
+fn perform_from<S: Start, O: Sink, E: Sink, L: Listener>(
+    rt: &HostRuntime,
+    job: &Job<'_>,
+    start: S,
+    out: &mut O,
+    err: &mut E,
+    listener: &mut L,
+) -> (u8, Option<Leftover<FileFrom<S>>>) {
+    let mut registers = LocalRegisters {
+        rt,
+        start: Some(start),
+    };
+    perform(
+        rt.alloc(),
+        job,
+        &mut registers,
+        &mut LocalFiles { rt },
+        &mut rt.reader(),
+        out,
+        err,
+        listener,
+    )
 }
 
 // The words after the program's name.
