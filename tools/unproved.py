@@ -21,8 +21,6 @@ TOP = Path(__file__).resolve().parent.parent
 MODULES = Path(__file__).resolve().with_name("modules.py")
 # So many parts of the program are compiled at once.
 JOBS = int(os.environ.get("JOBS") or len(os.sched_getaffinity(0)))
-# What is used is to be fast, and what is tried once is to be there soon.
-FAST, SOON = "-O2", "-O1 -mllvm -inline-threshold=0"
 # What the program says of its version: the logic by which it is proved.
 VERSIONED = "crates/fr_cli/src/words/commands.rt"
 VERSION = re.compile(r'^(const VERSION: &str = "[\d.]+\\n)logic \w+(";)$', re.M)
@@ -31,9 +29,21 @@ UNPROVED = r"\1unproved\2"
 COPIED = "bin/rt", "bin/rtlib.py"
 # Those that are no links.
 FOLDERS = "", "bin", "toolchain", "toolchain/bin"
-# What rt starts has no environment, so each path is whole.
-CLANG = """#!/bin/sh
-exec {python} {modules} {commands}/clang {jobs} {level} "$@"
+# What rt starts has no environment, so each path is whole. What is used is to be fast.
+FAST = """#!/bin/sh
+exec {python} {modules} {commands}/clang {jobs} -O2 "$@"
+"""
+# What is tried once is to be there soon. Where clang inlines little, it is done in half the time.
+SOON = """#!/bin/sh
+for word do
+  shift
+  case $word in
+  -fsanitize=address) ;;
+  -O0) set -- "$@" -O1 -mllvm -inline-threshold=0 ;;
+  *) set -- "$@" "$word" ;;
+  esac
+done
+exec {commands}/clang "$@"
 """
 # Between the two flags stands the library that looks at addresses.
 LLD = """#!/bin/sh
@@ -54,12 +64,12 @@ RATTLE = """#!/bin/sh
 TOLD_EACH = 30
 
 
-def kit_by_links(room, level):
-    """A folder that is the kit's by links, but for the three scripts, of which clang's optimises at this level."""
+def kit_by_links(room, clang):
+    """A folder that is the kit's by links, but for the three scripts, of which this is clang's."""
     kit = Path(shutil.which("rt") or sys.exit("there is no command rt on PATH")).resolve().parent.parent
-    fill = {"room": room, "commands": kit / "toolchain/bin", "python": sys.executable, "modules": MODULES, "jobs": JOBS, "level": level}
+    fill = {"room": room, "commands": kit / "toolchain/bin", "python": sys.executable, "modules": MODULES, "jobs": JOBS}
     fill = {name: shlex.quote(str(value)) for name, value in fill.items()}
-    scripts = {"toolchain/bin/clang": CLANG.format(**fill), "toolchain/bin/ld.lld": LLD.format(**fill), "bin/rattle": RATTLE}
+    scripts = {"toolchain/bin/clang": clang.format(**fill), "toolchain/bin/ld.lld": LLD.format(**fill), "bin/rattle": RATTLE}
     for folder in FOLDERS:
         (room / "kit" / folder).mkdir()
         for file in (kit / folder).iterdir():
