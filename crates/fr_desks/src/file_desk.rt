@@ -13,7 +13,7 @@ ghost use Rattle.sqlite_wal.specs.Files.{image_at};
 ghost use Rattle.sqlite_wal.specs.Reads.{AreClean};
 
 use fr_base::{Config, Desk};
-use fr_office::Office;
+use fr_office::{MAX_BYTES, Office};
 use fr_store::{Store, StoreFault, migrate_at};
 use fr_world::Records;
 use sqlite::{FileFrom, FileStore, Files, Leftover, Start};
@@ -72,7 +72,7 @@ fn new_desk<S: Start>(
     // Gives the proof that the suppliers are in order.
     let _formed = config.params();
     match Store::create_at(rt, path, config, start) {
-        Ok(store) => Ok(Office::new(rt.alloc(), store)),
+        Ok(store) => Ok(Office::new(rt.alloc(), store, MAX_BYTES)),
         Err(refused) => Err(refused),
     }
 }
@@ -117,7 +117,7 @@ pub fn open<S: Start>(
         return Err((StoreFault::NotARegister, None));
     }
     match Store::open_at(rt, path, start) {
-        Ok(store) => Ok(Office::new(rt.alloc(), store)),
+        Ok(store) => Ok(Office::new(rt.alloc(), store, MAX_BYTES)),
         Err(refused) => Err(refused),
     }
 }

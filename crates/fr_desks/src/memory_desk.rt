@@ -6,7 +6,7 @@ ghost use Rattle.fr_office.specs.KeptPages.{StandsWarm};
 ghost use Rattle.fr_store.specs.declared.fault.StoreFault.TheVariants.{Unavailable};
 
 use fr_base::{Actor, Answer, Ask, Config, Desk};
-use fr_office::{Office, Stopped};
+use fr_office::{MAX_BYTES, Office, Stopped};
 use fr_store::{MemoryFile, Store, StoreFault};
 use fr_world::Records;
 use sqlite::FileStore;
@@ -52,7 +52,7 @@ impl MemoryDesk {
         // Gives the proof that the suppliers are in order.
         let _formed = config.params();
         let store = Store::create_in_memory(alloc, config)?;
-        let office = Office::new(alloc, store);
+        let office = Office::new(alloc, store, MAX_BYTES);
         Ok(MemoryDesk { office })
     }
 

@@ -43,7 +43,7 @@ all_pass test passes (x ∷ xs) = rw (passes x) (ap (λ rest. x ∷ rest) (all_p
 pub same-followed : (edit : Edit) (kept : KeptData) → ((page : PageData) → touches edit page ≡ false) → AreFollowed edit kept kept
 same-followed edit kept never = record {
   lent = lent kept.lent;
-  others = λ i. record { lent = None; recent = all_pass (λ page. not (touches edit page)) passes kept.recent i; earlier = all_pass (λ page. not (touches edit page)) passes kept.earlier i };
+  others = λ i. record kept { lent = None; recent = all_pass (λ page. not (touches edit page)) passes kept.recent i; earlier = all_pass (λ page. not (touches edit page)) passes kept.earlier i };
 }
   where
     passes : (page : PageData) → not (touches edit page) ≡ true

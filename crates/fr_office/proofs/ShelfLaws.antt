@@ -20,7 +20,7 @@ use Rattle.fr_office.specs.KeptPages.{bytes_of, is_page_of, others_than, page_at
 use Rattle.fr_office.specs.Shelves.{IsKeyed, IsShelf, key_of}
 use Rattle.fr_office.specs.contracts.shelf.PageKeyOrd.TheImpl as by_owner
 use Rattle.fr_office.specs.declared.shelf.PageKey.{PageKey}
-use Rattle.fr_office.specs.declared.shelf.TheConstants.{MAX_BYTES}
+use Rattle.fr_office.specs.declared.shelf.TheConstants.{COUNTED_BYTES}
 use Rattle.fr_office.proofs.WarmLaws.{both_true}
 
 -- ---- keys
@@ -156,7 +156,7 @@ shelf_taken k es left bytes less page shelf taken found is =
     )
 
 module _ (es later : List (PageKey × PageData)) (bytes more : ℕ) (k : PageKey) (page : PageData) (named : k ≡ key_of page) (shelf : IsShelf es bytes) (sorted : IsStrictlySortedBy key_cmp (keys_of es))
-    (put : later ≡ insert_entry key_cmp es k page) (is : more ≡ bytes_of page) (fits : sum_by bytes_of (values_of es) + bytes_of page ≤ MAX_BYTES) where
+    (put : later ≡ insert_entry key_cmp es k page) (is : more ≡ bytes_of page) (fits : sum_by bytes_of (values_of es) + bytes_of page ≤ COUNTED_BYTES) where
   then_keyed : All IsKeyed later
   then_keyed = subst (All IsKeyed) (sym (put ∙ ap (λ j. insert_entry key_cmp es j page) named)) (placed-keyed page es shelf.keyed)
 
@@ -203,7 +203,7 @@ module _ (test : PageData → Bool) (es left : List (PageKey × PageData)) (byte
   pub left_pages : values_of left ≡ filter test (values_of es)
   left_pages = ap values_of kept ∙ values-filter test es
 
-  pub left_bytes : sum_by bytes_of (values_of left) ≤ MAX_BYTES
+  pub left_bytes : sum_by bytes_of (values_of left) ≤ COUNTED_BYTES
   left_bytes = omega (arith, ap (sum_by bytes_of) left_pages, fewer_bytes test (values_of es), shelf.counted, shelf.bound)
 
   pub shelf_left : (less : ℕ) → less ≡ sum_by bytes_of (values_of left) → IsShelf left less

@@ -1,5 +1,5 @@
 -- Records and the pages beside them: what is read of the records and changed in them.
-use Rattle.std.proofs.Common.{◌≡◌, ℕ, ◌+◌, ◌&&◌, Bool, true, false, not, List, [], ◌∷◌, sum_by, Option, Some, None, Result, Ok, Err, All, Less, Equal, Greater, refl, sym, ap, subst, ◌∙◌, inl, inr}
+use Rattle.std.proofs.Common.{◌≡◌, ℕ, ◌-◌, ◌&&◌, Bool, true, false, not, List, [], ◌∷◌, sum_by, Option, Some, None, Result, Ok, Err, All, Less, Equal, Greater, refl, sym, ap, subst, ◌∙◌, inl, inr}
 use Rattle.std.specs.Prelude.{⊤, IfSome, MatchResult, OnErr, OnOk, if◌then◌else◌, is_some, nat_le, option_map}
 use Rattle.std.specs.Option.{option_or}
 use Rattle.std.specs.Ordering.{match_ordering}
@@ -22,7 +22,6 @@ use Rattle.fr_world.specs.Held.{Applies, IsFresh, Leaving, Reads, Standing, Tell
 use Rattle.fr_office.specs.KeptPages.{AreFresh, EachKept, TurnsFrom, KeptData, StandsWarm, WarmData, bytes_of, given_back, given_up, is_page_of, kept_at, kept_without, lent_at, none_lent, page_at, put_away, put_back, shelved_at, whose, with_page, with_room}
 use Rattle.fr_office.specs.ImportCounts.{AreCounted, count_of}
 use Rattle.fr_office.specs.declared.import_counts.ImportCount.{ImportCount}
-use Rattle.fr_office.specs.declared.shelf.TheConstants.{MAX_BYTES}
 use Rattle.fr_office.proofs.CountLaws.{counted_of, found_all}
 
 -- the book's page is fresh, and what is fresh is the book's page
@@ -76,7 +75,7 @@ module _ (P : PageData → Type 0) where
   others_all s v kept each = (each.0, All-filter (λ page. not (is_page_of s v page)) P kept.recent each.1, All-filter (λ page. not (is_page_of s v page)) P kept.earlier each.2)
 
   room_all : (bytes : ℕ) (kept : KeptData) → EachKept P kept → EachKept P (with_room bytes kept)
-  room_all bytes kept each = elim (nat_le (sum_by bytes_of kept.recent + bytes) MAX_BYTES) as (λ b. EachKept P (if b then kept else record kept { recent = []; earlier = kept.recent })) [
+  room_all bytes kept each = elim (nat_le (sum_by bytes_of kept.recent) (kept.most - bytes)) as (λ b. EachKept P (if b then kept else record kept { recent = []; earlier = kept.recent })) [
     | true ↦ each
     | false ↦ (each.0, All-nil P, each.1)
   ]

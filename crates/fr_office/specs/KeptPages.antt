@@ -1,7 +1,7 @@
 -- Kept pages: when no page that is kept is stale. When records stand for a book, with pages and
 -- counts kept beside them. Which page is found. How many bytes a page takes at most. Which pages
 -- are let go where one that was lent has no room among the others. What an edit may change.
-use Rattle.std.specs.Prelude.{◌≡◌, ◌⊎◌, ℕ, ◌+◌, ◌*◌, Bool, true, false, ◌&&◌, ◌||◌, not, if◌then◌else◌, nat_le, min, List, [], ◌∷◌, length, find, filter, sum_by, All, Option, Some, None, IfSome, ⊤}
+use Rattle.std.specs.Prelude.{◌≡◌, ◌⊎◌, ℕ, ◌+◌, ◌-◌, ◌*◌, Bool, true, false, ◌&&◌, ◌||◌, not, if◌then◌else◌, nat_le, min, List, [], ◌∷◌, length, find, filter, sum_by, All, Option, Some, None, IfSome, ⊤}
 use Rattle.std.specs.List.{list_any}
 use Rattle.std.specs.Option.{option_or}
 use Rattle.std.specs.Ordering.{match_ordering}
@@ -17,17 +17,17 @@ use Rattle.fr_world.specs.Pages.{FrameData, IsKept, PageData, own_rows_of}
 use Rattle.fr_world.specs.Held.{IsFresh, Standing}
 use Rattle.fr_office.specs.ImportCounts.{AreCounted}
 use Rattle.fr_office.specs.declared.import_counts.ImportCount.{ImportCount}
-use Rattle.fr_office.specs.declared.page_bytes.TheConstants.{FRAME_BYTES, GRANT_BYTES, MOST_GRANTS, MOST_PLACEMENTS, MOST_SIGNALS, PAGE_BYTES, PLACEMENT_BYTES, SIGNAL_BYTES}
-use Rattle.fr_office.specs.declared.shelf.TheConstants.{MAX_BYTES}
+use Rattle.fr_office.specs.declared.page_bytes.TheConstants.{FRAME_BYTES, GRANT_BYTES, MAX_BYTES, MOST_GRANTS, MOST_PLACEMENTS, MOST_SIGNALS, PAGE_BYTES, PLACEMENT_BYTES, SIGNAL_BYTES}
 use Rattle.fr_world.specs.declared.edit.Edit.{Edit}
 use Rattle.fr_world.specs.declared.edit.Edit.TheVariants.{NewVariant, NewFlat, SetReleased, NewSupplier, SetKey, NewNode, Rows, KeepImport}
 
--- the page that is lent, which was used last; the pages that were used before it; and the pages
--- that were used before those
+-- the page that is lent, which was used last; the pages that were used before it; the pages that
+-- were used before those; and how many bytes the pages of either list may take
 pub record KeptData : Type 0 where
   pub lent : Option PageData
   pub recent : List PageData
   pub earlier : List PageData
+  pub most : ℕ
 
 -- This holds of each page that is kept.
 abbrev pub EachKept : (PageData → Type 0) → KeptData → Type 0
@@ -79,7 +79,7 @@ with_page page (other ∷ pages) = match_ordering (owned.compare (whose page) (w
 unfoldable pub frame_bytes : FrameData → ℕ
 frame_bytes f = FRAME_BYTES + min (length f.placements) MOST_PLACEMENTS * PLACEMENT_BYTES + min (length f.layout.signals) MOST_SIGNALS * SIGNAL_BYTES
 
--- how many bytes a page takes at most; it has no more grants than are counted, and takes no more than a shelf may
+-- how many bytes a page takes at most; it has no more grants than are counted, and no more bytes are reckoned
 unfoldable pub bytes_of : PageData → ℕ
 bytes_of page = min (PAGE_BYTES + min (length page.grants) MOST_GRANTS * GRANT_BYTES + sum_by (λ e. frame_bytes e.1) page.frames) MAX_BYTES
 
@@ -105,7 +105,7 @@ kept_without s v kept = record kept { recent = others_than s v kept.recent; earl
 -- Where so many bytes more are too many for the pages that were used last, these become the pages
 -- that were used before, and the others are let go.
 abbrev pub with_room : ℕ → KeptData → KeptData
-with_room bytes kept = if nat_le (sum_by bytes_of kept.recent + bytes) MAX_BYTES then kept else record kept { recent = []; earlier = kept.recent }
+with_room bytes kept = if nat_le (sum_by bytes_of kept.recent) (kept.most - bytes) then kept else record kept { recent = []; earlier = kept.recent }
 
 -- the pages once none is lent
 abbrev pub none_lent : KeptData → KeptData
@@ -157,7 +157,7 @@ lent_where test None = None
 lent_where test (Some page) = if test page then Some page else None
 
 abbrev pub kept_where : (PageData → Bool) → KeptData → KeptData
-kept_where test kept = record { lent = lent_where test kept.lent; recent = filter test kept.recent; earlier = filter test kept.earlier }
+kept_where test kept = record kept { lent = lent_where test kept.lent; recent = filter test kept.recent; earlier = filter test kept.earlier }
 
 -- the pages that the edits, one after another, leave as they are
 abbrev pub untouched_by : List Edit → KeptData → KeptData

@@ -23,15 +23,15 @@ pub(crate) struct Kept {
 }
 
 impl Kept {
-    /// No page and no count.
-    pub(crate) fn new(alloc: Global) -> Kept
+    /// No page and no count, and the most bytes that pages may take.
+    pub(crate) fn new(alloc: Global, most: usize) -> Kept
         ensures { result ≡ record {
-          pages = record { lent = None; recent = []; earlier = [] };
+          pages = record { lent = None; recent = []; earlier = []; most = most };
           counts = [];
         } }
     {
         Kept {
-            pages: Pages::new(alloc),
+            pages: Pages::new(alloc, most),
             counts: ImportCounts::new(alloc),
         }
     }

@@ -23,6 +23,6 @@ pub use laws::answers_are_kept;
 pub use lender::Lender;
 pub use listing::list_variants;
 pub use office::Office;
+pub use page_bytes::MAX_BYTES;
 pub use running::{Stopped, run};
-pub use shelf::MAX_BYTES;
 pub use warm::Warm;

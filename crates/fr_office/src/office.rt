@@ -21,7 +21,7 @@ use std::alloc::Global;
 use std::marker::Model;
 
 /// The office of a register, which answers requests from its records. It keeps pages of them in memory, the one that
-/// was used last and others of at most twice [`MAX_BYTES`](crate::MAX_BYTES) by its own count, and none that is stale.
+/// was used last and others of at most as many bytes as it was made for, by its own count, and none that is stale.
 pub struct Office<R: Records> {
     warm: Warm<R>,
 }
@@ -60,18 +60,19 @@ impl<R: Records> Desk for Office<R> {
 }
 
 impl<R: Records> Office<R> {
-    /// The office of the register that has these records, with no page kept yet.
-    pub fn new(alloc: Global, records: R) -> Office<R>
+    /// The office of the register that has these records, with no page kept yet. Beside the page that was used last it will
+    /// keep others of at most twice so many bytes, by its own count.
+    pub fn new(alloc: Global, records: R, kept: usize) -> Office<R>
         ensures value { result ≡ record {
           records = records;
-          pages = record { lent = None; recent = []; earlier = [] };
+          pages = record { lent = None; recent = []; earlier = []; most = kept };
           counts = [];
         } }
         ensures stands { (c : Cluster) (b : Book) → R.stands records c b
             → StandsWarm R.stands result c b }
     {
         Office {
-            warm: Warm::new(alloc, records),
+            warm: Warm::new(alloc, records, kept),
         }
     }
 

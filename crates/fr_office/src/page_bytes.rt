@@ -1,12 +1,15 @@
 //! How many bytes a page takes in memory, and a page beside which that stands.
 ghost use Rattle.std.specs.Prelude.{◌≡◌, ◌≤◌};
 ghost use Rattle.fr_office.specs.KeptPages.{bytes_of, frame_bytes};
-ghost use Rattle.fr_office.specs.declared.shelf.TheConstants.{MAX_BYTES};
+ghost use Rattle.fr_office.specs.declared.page_bytes.TheConstants.{MAX_BYTES};
 ghost use Rattle.fr_world.specs.Pages.{frame_data};
 
-use crate::shelf::MAX_BYTES;
 use fr_world::{Page, PageFrame};
 use std::marker::Model;
+
+/// The most bytes that are reckoned for a page, 64 MiB, and for pages that were used one after another where nothing else is
+/// said. No clause ties what is reckoned to what memory they have.
+pub const MAX_BYTES: usize = 67_108_864;
 
 /// The bytes that a page takes at most beside its frames and grants: its names, its nodes, and its place on a shelf.
 const PAGE_BYTES: usize = 8_192;
@@ -87,7 +90,7 @@ impl Weighed {
     }
 }
 
-// How many bytes a page takes at most. One that might take more than a shelf may is reckoned as a whole shelf.
+// How many bytes a page takes at most. One that might take more than is reckoned for a page is reckoned as that.
 #[tactic(auto, using(crate::proofs::PageBytes::frames_weigh), unfolding(crate::specs::KeptPages::bytes_of))]
 fn bytes_of(page: &Page) -> usize
     ensures { result ≡ bytes_of page.now }

@@ -5,12 +5,13 @@ ghost use Rattle.fr_base.specs.Book.{Book};
 ghost use Rattle.fr_base.specs.Names.{same_text};
 ghost use Rattle.fr_base.specs.declared.params.Params.{Params};
 ghost use Rattle.fr_office.specs.KeptPages.{Amends, AreFresh, Turns, AreOf, bytes_of, given_up, kept_at, kept_where, kept_without, lent_at, none_lent, put_away, shelved_at, with_room};
-ghost use Rattle.fr_office.specs.declared.shelf.TheConstants.{MAX_BYTES};
+ghost use Rattle.fr_office.specs.declared.page_bytes.TheConstants.{MAX_BYTES};
+ghost use Rattle.fr_office.specs.declared.shelf.TheConstants.{COUNTED_BYTES};
 ghost use Rattle.fr_world.specs.Edits.{Takes};
 ghost use Rattle.fr_world.specs.Pages.{own_rows_of};
 
 use crate::page_bytes::Weighed;
-use crate::shelf::{MAX_BYTES, Shelf};
+use crate::shelf::Shelf;
 use fr_base::{Name, NoMemory};
 use fr_world::{Edit, Page};
 use std::alloc::Global;
@@ -18,13 +19,14 @@ use std::marker::Model;
 use std::mem::swap;
 
 /// The page that is lent, which was used last. The pages that were used before it lie on one shelf,
-/// those that were used before these on another. When the first shelf is full, the second is
-/// emptied and they change places.
+/// those that were used before these on another. A shelf takes so many bytes at most, or one page.
+/// When the first shelf is full, the second is emptied and they change places.
 #[derive(Drop)]
 pub(crate) struct Pages {
     lent: Option<Page>,
     recent: Shelf,
     earlier: Shelf,
+    most: usize,
 }
 
 impl Model for Pages {
@@ -32,18 +34,19 @@ impl Model for Pages {
 
     ghost Value = { KeptData };
 
-    ghost view = { λ p. record { lent = p.lent; recent = p.recent; earlier = p.earlier } };
+    ghost view = { λ p. record { lent = p.lent; recent = p.recent; earlier = p.earlier; most = p.most } };
 }
 
 impl Pages {
-    /// No pages.
-    pub(crate) fn new(alloc: Global) -> Pages
-        ensures { result ≡ record { lent = None; recent = []; earlier = [] } }
+    /// No pages, and the most bytes that those of a shelf may take.
+    pub(crate) fn new(alloc: Global, most: usize) -> Pages
+        ensures { result ≡ record { lent = None; recent = []; earlier = []; most = most } }
     {
         Pages {
             lent: None,
             recent: Shelf::new(alloc),
             earlier: Shelf::new(alloc),
+            most,
         }
     }
 
@@ -126,9 +129,9 @@ impl Pages {
     fn make_room(&mut self, bytes: usize)
         requires { bytes ≤ MAX_BYTES }
         ensures value { self.new ≡ with_room bytes self.old }
-        ensures room { sum_by bytes_of self.new.recent + bytes ≤ MAX_BYTES }
+        ensures room { sum_by bytes_of self.new.recent + bytes ≤ COUNTED_BYTES }
     {
-        if self.recent.bytes() + bytes > MAX_BYTES {
+        if self.recent.bytes() > self.most.saturating_sub(bytes) {
             swap(&mut self.recent, &mut self.earlier);
             self.recent.clear();
         }

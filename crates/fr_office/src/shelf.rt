@@ -11,9 +11,8 @@ use std::alloc::Global;
 use std::collections::BTreeMap;
 use std::marker::Model;
 
-/// The most bytes that the pages of a shelf take, 64 MiB, reckoned page by page. No clause ties what is reckoned to what
-/// memory they have.
-pub const MAX_BYTES: usize = 67_108_864;
+/// The most bytes of pages that can be counted.
+pub(crate) const COUNTED_BYTES: usize = usize::MAX;
 
 /// Whose page it is: a supplier's, in a variant.
 #[derive(Clone, Copy, PartialEq, Eq, PartialOrd, Ord)]
@@ -22,7 +21,7 @@ struct PageKey {
     variant: Name,
 }
 
-/// Pages, at most one of each supplier and variant, which take at most [`MAX_BYTES`].
+/// Pages, at most one of each supplier and variant, and how many bytes they take at most.
 #[derive(Drop)]
 pub(crate) struct Shelf {
     pages: BTreeMap<PageKey, Weighed>,
@@ -57,7 +56,7 @@ impl Shelf {
     /// How many bytes its pages take at most.
     pub(crate) fn bytes(&self) -> usize
         ensures value { result ≡ sum_by bytes_of self.now }
-        ensures bound { result ≤ MAX_BYTES }
+        ensures bound { result ≤ COUNTED_BYTES }
     {
         self.bytes
     }
@@ -77,7 +76,7 @@ impl Shelf {
     /// Puts a page in its place, and lets go of the page that lay there. Where memory is refused,
     /// the page is given up.
     pub(crate) fn put(&mut self, page: Weighed) -> Result<(), NoMemory>
-        requires fits { sum_by bytes_of self.old + bytes_of page ≤ MAX_BYTES }
+        requires fits { sum_by bytes_of self.old + bytes_of page ≤ COUNTED_BYTES }
         ensures ok { OnOk result (self.new ≡ with_page page self.old) }
         ensures err { OnErr result (self.new ≡ self.old) }
     {
@@ -131,7 +130,7 @@ impl Shelf {
 
 // How many bytes the pages take at most.
 fn total(pages: &BTreeMap<PageKey, Weighed>) -> usize
-    requires { sum_by bytes_of (values_of pages.now.entries) ≤ MAX_BYTES }
+    requires { sum_by bytes_of (values_of pages.now.entries) ≤ COUNTED_BYTES }
     ensures { result ≡ sum_by bytes_of (values_of pages.now.entries) }
 {
     let mut bytes = 0;

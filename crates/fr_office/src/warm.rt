@@ -38,17 +38,18 @@ impl<R: Records + Drop> Drop for Warm<R> {
 }
 
 impl<R: Records> Warm<R> {
-    /// These records, with no page and no count kept.
-    pub fn new(alloc: Global, records: R) -> Warm<R>
+    /// These records, with no page and no count kept. Of the pages that are kept, those that were used last and those that
+    /// were used before these take `kept` bytes each at most, or are one page.
+    pub fn new(alloc: Global, records: R, kept: usize) -> Warm<R>
         ensures { result ≡ record {
           records = records;
-          pages = record { lent = None; recent = []; earlier = [] };
+          pages = record { lent = None; recent = []; earlier = []; most = kept };
           counts = [];
         } }
     {
         Warm {
             records,
-            kept: Kept::new(alloc),
+            kept: Kept::new(alloc, kept),
         }
     }
 

@@ -2,7 +2,7 @@
 use crate::asks::{name, told};
 use crate::stores::found;
 use fr_base::{BodyRef, Desk};
-use fr_office::Office;
+use fr_office::{MAX_BYTES, Office};
 use fr_store::{Store, StoreFault, migrate_on};
 use sqlite::{Alter, Connection};
 use std::alloc::Global;
@@ -109,7 +109,7 @@ pub(crate) fn book_of<S: Alter + Drop>(
     push_nodes(alloc, &mut text, &mut store, "s1")?;
     push_nodes(alloc, &mut text, &mut store, "s2")?;
     push_import(alloc, &mut text, &mut store)?;
-    let mut office = Office::new(alloc, store);
+    let mut office = Office::new(alloc, store, MAX_BYTES);
     push_answers(alloc, &mut text, &mut office, "integrator1", &ROWS)?;
     Ok(text)
 }
@@ -117,7 +117,7 @@ pub(crate) fn book_of<S: Alter + Drop>(
 /// The answers to each query of all that may ask.
 pub(crate) fn answers_of<S: Alter + Drop>(alloc: Global, store: Store<S>) -> Result<Vec<u8>, Fail> {
     let mut text = Vec::new(alloc);
-    let mut office = Office::new(alloc, store);
+    let mut office = Office::new(alloc, store, MAX_BYTES);
     for key in KEYS {
         push_answers(alloc, &mut text, &mut office, key, &ROWS)?;
         push_answers(alloc, &mut text, &mut office, key, &REPORTS)?;

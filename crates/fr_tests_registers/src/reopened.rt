@@ -4,7 +4,7 @@ ghost use Rattle.std.specs.Prelude.{◌≡◌, IsTrue, IfOk};
 
 use crate::asks::{FIRST, are_answers, config, name, push_lines};
 use fr_base::{Channel, Channels, CycleSet, Placement, Slot, VariantRow};
-use fr_office::Office;
+use fr_office::{MAX_BYTES, Office};
 use fr_store::{Holder, MemoryFile, Store, StoreFault};
 use fr_world::{ChannelSlot, Page, Records};
 use sqlite::{Alter, FileStore, Files, Options};
@@ -101,7 +101,7 @@ fn filled<D: Disk + Drop>(alloc: Global, files: Files<D>) -> Result<Files<D>, Fa
     ensures { IfOk result (λ files. IsTrue (D.Disk.is_usable files.log)
         × IsTrue (D.Disk.is_usable files.db)) }
 {
-    let mut office = Office::new(alloc, created(alloc, files)??);
+    let mut office = Office::new(alloc, created(alloc, files)??, MAX_BYTES);
     if !are_answered(alloc, &mut office)? {
         return Err(Fail::from("other answers"));
     }

@@ -7,7 +7,7 @@ use crate::fused::{Fused, Fusible, Image, USUAL, files_left, opened};
 use crate::looking::{NOTHING, book_of};
 use crate::stores::{after, created};
 use fr_base::{Config, Desk};
-use fr_office::Office;
+use fr_office::{MAX_BYTES, Office};
 use fr_store::Store;
 use sqlite::{Alter, Connection, FileStore};
 use std::alloc::Global;
@@ -115,7 +115,7 @@ fn counted<S: Alter + Drop>(
     store: Store<S>,
     lines: &[Line],
 ) -> Result<(usize, Store<S>), Fail> {
-    let mut office = Office::new(alloc, store);
+    let mut office = Office::new(alloc, store, MAX_BYTES);
     let count = count_done(alloc, &mut office, lines)?;
     carry_out(alloc, &mut office, &NOT_YOURS)?;
     Ok((count, office.into_records()))

@@ -1,6 +1,6 @@
 //! Registers on connections.
 use crate::asks::{Line, carry_out, config};
-use fr_office::Office;
+use fr_office::{MAX_BYTES, Office};
 use fr_store::Store;
 use sqlite::{Alter, Connection};
 use std::alloc::Global;
@@ -32,7 +32,7 @@ pub(crate) fn after<S: Alter + Drop>(
     store: Store<S>,
     lines: &[Line],
 ) -> Result<Store<S>, Fail> {
-    let mut office = Office::new(alloc, store);
+    let mut office = Office::new(alloc, store, MAX_BYTES);
     carry_out(alloc, &mut office, lines)?;
     Ok(office.into_records())
 }

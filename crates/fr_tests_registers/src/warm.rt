@@ -190,10 +190,10 @@ pub(crate) fn unread(alloc: Global) -> Result<Counted, Fail> {
     })
 }
 
-/// An office that has read nothing.
+/// An office that has read nothing, with room for many pages.
 pub(crate) fn office(alloc: Global) -> Result<Office<Counted>, Fail> {
     let records = unread(alloc)?;
-    Ok(Office::new(alloc, records))
+    Ok(Office::new(alloc, records, MAX_BYTES))
 }
 
 fn asked(alloc: Global, office: &mut Office<Counted>, key: &str, text: &str) -> Result<(), Fail> {
@@ -263,14 +263,17 @@ const REFUSED: [Line; 6] = [
 fn a_refused_import_loses_no_page(rt: HostRuntime) -> Result<(), Fail> {
     let mut records = unread(rt.alloc())?;
     records.kept = 999;
-    let mut office = Office::new(rt.alloc(), records);
+    let mut office = Office::new(rt.alloc(), records, MAX_BYTES);
     carry_out(rt.alloc(), &mut office, &REFUSED)?;
     assert_eq!(rt; office.into_records().reads, 1);
     Ok(())
 }
 
 /// As many pages without rows as one shelf has room for.
-const FULL: usize = MAX_BYTES / 8_192;
+const FULL: usize = 100;
+
+/// The most bytes of a shelf that has room for so many and no more.
+const KEPT: usize = FULL * 8_192 + 8_191;
 
 // A supplier of which each page is without rows looks at its frames in the variant.
 fn use_page(alloc: Global, office: &mut Office<Counted>, number: usize) -> Result<(), Fail> {
@@ -293,7 +296,7 @@ fn use_pages(
 // The office once a shelf of pages was used and one more, then the first one again, and then as many others. The one that
 // was used last lies on no shelf.
 fn filled(alloc: Global) -> Result<Office<Counted>, Fail> {
-    let mut office = office(alloc)?;
+    let mut office = Office::new(alloc, unread(alloc)?, KEPT);
     use_pages(alloc, &mut office, 1, FULL + 2)?;
     use_page(alloc, &mut office, 1)?;
     use_pages(alloc, &mut office, FULL + 2, 2 * FULL + 3)?;

@@ -1,6 +1,6 @@
 use Rattle.std.proofs.Common.{◌≡◌, ◌+◌, ◌≤◌, min, sum_by}
 use Rattle.fr_office.specs.KeptPages.{bytes_of, frame_bytes}
-use Rattle.fr_office.specs.declared.shelf.TheConstants.{MAX_BYTES}
+use Rattle.fr_office.specs.declared.page_bytes.TheConstants.{MAX_BYTES}
 use Rattle.fr_world.specs.Pages.{frame_data}
 use Rattle.fr_office.proofs.page_bytes.bytes_of.Given as goal
 
