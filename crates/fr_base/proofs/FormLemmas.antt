@@ -5,21 +5,21 @@ use Rattle.std.specs.List.{find}
 use Rattle.std.specs.Map.{lookup}
 use Rattle.std.specs.Str.{bytes_eq}
 use Rattle.fr_base.specs.declared.forms.Form.{Form}
-use Rattle.fr_base.specs.Forms.{FieldData, fields_of, form_in}
+use Rattle.fr_base.specs.Forms.{form_data, form_in}
 
 -- what is seen of a form, and of its copy
-pub copied : (o : Option (Bor Form)) → option_map (λ form. fields_of form.now) o ≡ option_map fields_of (option_copied o)
+pub copied : (o : Option (Bor Form)) → option_map (λ form. form_data form.now) o ≡ option_map form_data (option_copied o)
 copied None = refl
 copied (Some form) = refl
 
 -- a form is found by its word
 pub found : (word : List ℕ) (all : List Form)
-    → option_map fields_of (find (λ form. bytes_eq word form.word.now) all) ≡ lookup (bytes_eq word) (map form_in all)
+    → option_map form_data (find (λ form. bytes_eq word form.word.now) all) ≡ lookup (bytes_eq word) (map form_in all)
 found word [] = refl
 found word (form ∷ others) = by (bytes_eq word form.word.now) (found word others)
   where
-    by : (b : Bool) → option_map fields_of (find (λ form. bytes_eq word form.word.now) others) ≡ lookup (bytes_eq word) (map form_in others)
-        → option_map fields_of (cond b (Some form) (find (λ form. bytes_eq word form.word.now) others))
-        ≡ cond b (Some (fields_of form)) (lookup (bytes_eq word) (map form_in others))
+    by : (b : Bool) → option_map form_data (find (λ form. bytes_eq word form.word.now) others) ≡ lookup (bytes_eq word) (map form_in others)
+        → option_map form_data (cond b (Some form) (find (λ form. bytes_eq word form.word.now) others))
+        ≡ cond b (Some (form_data form)) (lookup (bytes_eq word) (map form_in others))
     by true same = refl
     by false same = same

@@ -1,4 +1,4 @@
--- What a proof about the names of a query opens, and what comes of a query whose names are read.
+-- What a proof about the names of a query opens, and what comes of a query whose names are read, or not.
 use Rattle.std.proofs.Common.{◌≡◌, ◌∙◌, ◌⊎◌, inl, inr, ℕ, Option, Some, None, Result, Ok, Err, IfOk, refl, ap}
 use Rattle.std.specs.Prelude.{⊤, MatchResult, option_map}
 use Rattle.fr_base.specs.Refusing.{◌>>=◌}
@@ -143,3 +143,87 @@ module _ {N M A E : Type 0} (f : N → A) (g : M → Option ℕ) (Lacks Refuses 
   query_taken (Difference variant from) result (Ok v, made, (Ok o, other, is)) = rw (is, made, other) refl
   query_taken (Difference variant from) result (Ok v, made, (Err e, lacks, is)) = rw is (inl lacks)
   query_taken (Difference variant from) result (Err e, lacks, is) = rw is (inl lacks)
+
+-- Where a name that is not read has no other reading, and a number neither, a query that is not read has none.
+module _ {N M A E : Type 0} (reads : N → Result A E → Type 0) (counts : M → Result ℕ E → Type 0)
+    (once : (word : N) (e : E) (made : A) → reads word (Err e) → reads word (Ok made) → ⊥)
+    (counted_once : (word : M) (e : E) (number : ℕ) → counts word (Err e) → counts word (Ok number) → ⊥) where
+  report_once : (report : Report N M) (e : E) (r : Report A ℕ) → IsReportRead reads counts report (Err e) → IsReportRead reads counts report (Ok r) → ⊥
+  unfolding names_open
+  report_once Grants e r none is = cc
+  report_once Frames e r none is = cc
+  report_once Schedule e r none is = cc
+  report_once Gaps e r none is = cc
+  report_once Load e r none is = cc
+  report_once Rows e r none is = cc
+  report_once (Layout frame) e r (Ok f, has, lost) is = cc
+  report_once (Layout frame) e r (Err e', none, lost) (Ok f, has, is) = once frame e' f none has
+  report_once (Layout frame) e r (Err _, none, lost) (Err _, other, is) = cc
+  report_once (Room frame repetition) e r (Ok f, has, (Ok n, counted, lost)) is = cc
+  report_once (Room frame repetition) e r (Ok f, has, (Err e', none, lost)) (Ok _, _, (Ok n, counted, is)) = counted_once repetition e' n none counted
+  report_once (Room frame repetition) e r (Ok f, has, (Err _, none, lost)) (Ok _, _, (Err _, other, is)) = cc
+  report_once (Room frame repetition) e r (Ok f, has, (Err _, none, lost)) (Err _, other, is) = cc
+  report_once (Room frame repetition) e r (Err e', none, lost) (Ok f, has, is) = once frame e' f none has
+  report_once (Room frame repetition) e r (Err _, none, lost) (Err _, other, is) = cc
+  report_once (Export header part) e r (Ok n, counted, lost) is = cc
+  report_once (Export header part) e r (Err e', none, lost) (Ok n, counted, is) = counted_once part e' n none counted
+  report_once (Export header part) e r (Err _, none, lost) (Err _, other, is) = cc
+
+  pub query_once : (query : Query N M) (e : E) (q : Query A ℕ) → IsQueryRead reads counts query (Err e) → IsQueryRead reads counts query (Ok q) → ⊥
+  unfolding names_open
+  query_once (Register inventory) e q none is = cc
+  query_once (Variant variant report) e q (Ok v, has, (Ok r, read, lost)) is = cc
+  query_once (Variant variant report) e q (Ok v, has, (Err e', none, lost)) (Ok _, _, (Ok r, read, is)) = report_once report e' r none read
+  query_once (Variant variant report) e q (Ok v, has, (Err e', none, lost)) (Ok _, _, (Err _, other, is)) = cc
+  query_once (Variant variant report) e q (Ok v, has, (Err e', none, lost)) (Err _, other, is) = cc
+  query_once (Variant variant report) e q (Err e', none, lost) (Ok v, has, is) = once variant e' v none has
+  query_once (Variant variant report) e q (Err _, none, lost) (Err _, other, is) = cc
+  query_once (Difference variant from) e q (Ok v, has, (Ok f, other, lost)) is = cc
+  query_once (Difference variant from) e q (Ok v, has, (Err e', none, lost)) (Ok _, _, (Ok f, other, is)) = once from e' f none other
+  query_once (Difference variant from) e q (Ok v, has, (Err _, none, lost)) (Ok _, _, (Err _, other, is)) = cc
+  query_once (Difference variant from) e q (Ok v, has, (Err _, none, lost)) (Err _, other, is) = cc
+  query_once (Difference variant from) e q (Err e', none, lost) (Ok v, has, is) = once variant e' v none has
+  query_once (Difference variant from) e q (Err _, none, lost) (Err _, other, is) = cc
+
+-- Each name and number of a query is such a one.
+module _ {N M : Type 0} (Named : N → Type 0) (Counted : M → Type 0) where
+  abbrev EachOfReport : Report N M → Type 0
+  EachOfReport (Layout frame) = Named frame
+  EachOfReport (Room frame repetition) = Named frame × Counted repetition
+  EachOfReport (Export header part) = Counted part
+  EachOfReport _ = ⊤
+
+  abbrev pub EachOf : Query N M → Type 0
+  EachOf (Register inventory) = ⊤
+  EachOf (Variant variant report) = Named variant × EachOfReport report
+  EachOf (Difference variant from) = Named variant × Named from
+
+-- Where each is one that can be read, the query is read.
+module _ {N M A E : Type 0} (reads : N → Result A E → Type 0) (counts : M → Result ℕ E → Type 0) (Named : N → Type 0) (Counted : M → Type 0)
+    (name_at : (word : N) → Named word → (made : A) × reads word (Ok made)) (number_at : (word : M) → Counted word → (number : ℕ) × counts word (Ok number)) where
+  report_filled : (report : Report N M) → EachOfReport Named Counted report → (r : Report A ℕ) × IsReportRead reads counts report (Ok r)
+  unfolding names_open
+  report_filled Grants has = (Grants, refl)
+  report_filled Frames has = (Frames, refl)
+  report_filled Schedule has = (Schedule, refl)
+  report_filled Gaps has = (Gaps, refl)
+  report_filled Load has = (Load, refl)
+  report_filled Rows has = (Rows, refl)
+  report_filled (Layout frame) has = let of = name_at frame has in (Layout of.0, (Ok of.0, of.1, refl))
+  report_filled (Room frame repetition) has =
+      let of = name_at frame has.0 in
+      let every = number_at repetition has.1 in
+      (Room of.0 every.0, (Ok of.0, of.1, (Ok every.0, every.1, refl)))
+  report_filled (Export header part) has = let of = number_at part has in (Export header of.0, (Ok of.0, of.1, refl))
+
+  pub query_filled : (query : Query N M) → EachOf Named Counted query → (q : Query A ℕ) × IsQueryRead reads counts query (Ok q)
+  unfolding names_open
+  query_filled (Register inventory) has = (Register inventory, refl)
+  query_filled (Variant variant report) has =
+      let of = name_at variant has.0 in
+      let asked = report_filled report has.1 in
+      (Variant of.0 asked.0, (Ok of.0, of.1, (Ok asked.0, asked.1, refl)))
+  query_filled (Difference variant from) has =
+      let of = name_at variant has.0 in
+      let other = name_at from has.1 in
+      (Difference of.0 other.0, (Ok of.0, of.1, (Ok other.0, other.1, refl)))

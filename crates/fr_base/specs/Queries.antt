@@ -1,8 +1,11 @@
 -- Query: an actor sees its own rows, and the integrator those of all suppliers. Of the register these are the cluster's
 -- figures with the suppliers, the variants, and the nodes; of a variant grants, frames, schedule, gaps, layouts, the load,
 -- its rows of all kinds, the room for a frame, and records for a file, each in its order; and in what two variants differ.
-use Rattle.std.specs.Prelude.{ℕ, ◌==◌, List, [], ◌∷◌, ◌++◌, map, codes, Result, Ok, Err, ⊤}
+use Rattle.std.specs.Prelude.{ℕ, ◌==◌, List, [], ◌∷◌, ◌++◌, map, codes, Option, Some, None, Result, Ok, Err, ⊤}
+use Rattle.std.specs.Option.{option_map_or}
 use Rattle.std.specs.List.{flat_map}
+use Rattle.fr_base.specs.Forms.{of_variant}
+use Rattle.fr_base.specs.QueryNames.{Question, word_of_query}
 use Rattle.fr_base.specs.Refusing.{◌>>=◌, ◌>>◌, ◌or◌, refuse◌when◌}
 use Rattle.fr_base.specs.Tables.{Table, get, len, only}
 use Rattle.fr_base.specs.Keys.{names, owned, channel_slots}
@@ -41,6 +44,7 @@ use Rattle.fr_base.specs.declared.refusal.Refusal.TheVariants.{NotYours, NoVaria
 use Rattle.fr_base.specs.declared.import.Header.TheVariants as header
 use Rattle.fr_base.specs.declared.actor.Actor.{Actor}
 use Rattle.fr_base.specs.declared.actor.Actor.TheVariants.{Integrator, Supplier}
+use Rattle.fr_base.specs.declared.field_name.FieldName.TheVariants as field
 use Rattle.fr_base.specs.declared.key.Key.{Key}
 use Rattle.fr_base.specs.declared.query.Query.{Query}
 use Rattle.fr_base.specs.declared.query.Query.TheVariants.{Register as OfRegister, Variant as OfVariant, Difference}
@@ -49,50 +53,28 @@ use Rattle.fr_base.specs.declared.query.Inventory.TheVariants.{Cluster as TheClu
 use Rattle.fr_base.specs.declared.report.Report.{Report}
 use Rattle.fr_base.specs.declared.report.Report.TheVariants.{Grants, Frames, Schedule, Gaps, Layout, Load, Rows, Room, Export}
 
--- the word by which a report is asked for
-abbrev pub word_of : {F M : Type 0} → Report F M → List ℕ
-word_of Grants = codes "grants"
-word_of Frames = codes "frames"
-word_of Schedule = codes "schedule"
-word_of Gaps = codes "gaps"
-word_of (Layout frame) = codes "layout"
-word_of Load = codes "load"
-word_of Rows = codes "rows"
-word_of (Room frame repetition) = codes "room"
-word_of (Export header.Frames part) = codes "export_frames"
-word_of (Export header.Placements part) = codes "export_placements"
-word_of (Export header.Signals part) = codes "export_signals"
+-- what is asked, if it has these rows for an answer; those of a trial answer no query
+abbrev pub question_of : ReportRows → Option Question
+question_of (rows.Cluster _) = Some (OfRegister TheCluster)
+question_of (rows.Variants _) = Some (OfRegister Variants)
+question_of (rows.Nodes _) = Some (OfRegister Nodes)
+question_of (rows.Grants _) = Some (of_variant Grants)
+question_of (rows.Frames _) = Some (of_variant Frames)
+question_of (rows.Schedule _) = Some (of_variant Schedule)
+question_of (rows.Gaps _) = Some (of_variant Gaps)
+question_of (rows.Layout _) = Some (of_variant (Layout field.Frame))
+question_of (rows.Load _) = Some (of_variant Load)
+question_of (rows.Seen _) = Some (of_variant Rows)
+question_of (rows.Room _) = Some (of_variant (Room field.Frame field.Repetition))
+question_of (rows.FrameRecords _) = Some (of_variant (Export header.Frames field.Part))
+question_of (rows.PlacementRecords _) = Some (of_variant (Export header.Placements field.Part))
+question_of (rows.SignalRecords _) = Some (of_variant (Export header.Signals field.Part))
+question_of (rows.Difference _) = Some (Difference field.Variant field.From)
+question_of (rows.Fates _) = None
 
--- the word by which it is asked what the register holds
-abbrev pub word_of_inventory : Inventory → List ℕ
-word_of_inventory TheCluster = codes "cluster"
-word_of_inventory Variants = codes "variants"
-word_of_inventory Nodes = codes "nodes"
-
--- the word by which a query asks
-abbrev pub word_of_query : {N M : Type 0} → Query N M → List ℕ
-word_of_query (OfRegister inventory) = word_of_inventory inventory
-word_of_query (OfVariant variant report) = word_of report
-word_of_query (Difference variant from) = codes "diff"
-
--- the name of the report that has these rows
+-- the name of the report that has these rows: the word by which it is asked for
 abbrev pub name_of_rows : ReportRows → List ℕ
-name_of_rows (rows.Cluster _) = codes "cluster"
-name_of_rows (rows.Variants _) = codes "variants"
-name_of_rows (rows.Nodes _) = codes "nodes"
-name_of_rows (rows.Grants _) = codes "grants"
-name_of_rows (rows.Frames _) = codes "frames"
-name_of_rows (rows.Schedule _) = codes "schedule"
-name_of_rows (rows.Gaps _) = codes "gaps"
-name_of_rows (rows.Layout _) = codes "layout"
-name_of_rows (rows.Load _) = codes "load"
-name_of_rows (rows.Seen _) = codes "rows"
-name_of_rows (rows.Room _) = codes "room"
-name_of_rows (rows.FrameRecords _) = codes "export_frames"
-name_of_rows (rows.PlacementRecords _) = codes "export_placements"
-name_of_rows (rows.SignalRecords _) = codes "export_signals"
-name_of_rows (rows.Difference _) = codes "diff"
-name_of_rows (rows.Fates _) = codes "try"
+name_of_rows rows = option_map_or word_of_query (question_of rows) (codes "try")
 
 -- a frame's placements, in order
 abbrev pub placements_in : Frame → List Placement

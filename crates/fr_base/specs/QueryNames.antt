@@ -1,13 +1,56 @@
--- Query's names: a query whose names and numbers are read, one after another. The first that gives
--- an error gives it to the query. The label of a delivered file is read so too.
-use Rattle.std.specs.Prelude.{ℕ, ◌≡◌, Option, Some, option_map, Result, Ok, Err, MatchResult}
+-- Query's names: the word by which a query asks, and the fields that hold its names and numbers. A query whose names and numbers
+-- are read, one after another: the first that gives an error gives it to the query. The label of a delivered file is read so too.
+use Rattle.std.specs.Prelude.{ℕ, ◌≡◌, List, codes, Option, Some, option_map, Result, Ok, Err, MatchResult}
 use Rattle.fr_base.specs.Refusing.{◌>>=◌}
 use Rattle.fr_base.specs.declared.delivery.Purpose.{Purpose}
 use Rattle.fr_base.specs.declared.delivery.Purpose.TheVariants.{Import, Replacement, Trial}
+use Rattle.fr_base.specs.declared.field_name.FieldName.{FieldName}
+use Rattle.fr_base.specs.declared.field_name.FieldName.TheVariants as field
+use Rattle.fr_base.specs.declared.import.Header.TheVariants as header
+use Rattle.fr_base.specs.declared.query.Inventory.{Inventory}
+use Rattle.fr_base.specs.declared.query.Inventory.TheVariants.{Cluster, Variants, Nodes}
 use Rattle.fr_base.specs.declared.query.Query.{Query}
 use Rattle.fr_base.specs.declared.query.Query.TheVariants.{Register, Variant, Difference}
 use Rattle.fr_base.specs.declared.report.Report.{Report}
 use Rattle.fr_base.specs.declared.report.Report.TheVariants.{Grants, Frames, Schedule, Gaps, Layout, Load, Rows, Room, Export}
+
+-- the word by which a report is asked for
+abbrev pub word_of : {F M : Type 0} → Report F M → List ℕ
+word_of Grants = codes "grants"
+word_of Frames = codes "frames"
+word_of Schedule = codes "schedule"
+word_of Gaps = codes "gaps"
+word_of (Layout frame) = codes "layout"
+word_of Load = codes "load"
+word_of Rows = codes "rows"
+word_of (Room frame repetition) = codes "room"
+word_of (Export header.Frames part) = codes "export_frames"
+word_of (Export header.Placements part) = codes "export_placements"
+word_of (Export header.Signals part) = codes "export_signals"
+
+-- the word by which it is asked what the register holds
+abbrev pub word_of_inventory : Inventory → List ℕ
+word_of_inventory Cluster = codes "cluster"
+word_of_inventory Variants = codes "variants"
+word_of_inventory Nodes = codes "nodes"
+
+-- the word by which a query asks
+abbrev pub word_of_query : {N M : Type 0} → Query N M → List ℕ
+word_of_query (Register inventory) = word_of_inventory inventory
+word_of_query (Variant variant report) = word_of report
+word_of_query (Difference variant from) = codes "diff"
+
+-- the name of a field that holds a name or a number
+abbrev pub name_of_field : FieldName → List ℕ
+name_of_field field.Variant = codes "variant"
+name_of_field field.From = codes "from"
+name_of_field field.Frame = codes "frame"
+name_of_field field.Repetition = codes "repetition"
+name_of_field field.Part = codes "part"
+
+-- what is asked, with a field for each name and number
+abbrev pub Question : Type 0
+Question = Query FieldName FieldName
 
 -- the result of a report whose names and numbers are read by these two relations
 unfoldable pub IsReportRead : {N M A E : Type 0} → (N → Result A E → Type 0) → (M → Result ℕ E → Type 0) → Report N M → Result (Report A ℕ) E → Type 0

@@ -3,6 +3,7 @@ ghost use Rattle.std.specs.Prelude.{◌≡◌};
 ghost use Rattle.fr_base.specs.Queries.{key_of_figure, name_of_rows, rows_in};
 
 use crate::channel::{Channel, Channels};
+use crate::forms;
 use crate::name::Name;
 use crate::placement::Placement;
 use crate::refusal::Refusal;
@@ -107,22 +108,22 @@ impl ReportRows {
         ensures { result.now ≡ name_of_rows self.now }
     {
         match self {
-            ReportRows::Cluster(_) => "cluster",
-            ReportRows::Variants(_) => "variants",
-            ReportRows::Nodes(_) => "nodes",
-            ReportRows::Grants(_) => "grants",
-            ReportRows::Frames(_) => "frames",
-            ReportRows::Schedule(_) => "schedule",
-            ReportRows::Gaps(_) => "gaps",
-            ReportRows::Layout(_) => "layout",
-            ReportRows::Load(_) => "load",
-            ReportRows::Seen(_) => "rows",
-            ReportRows::Room(_) => "room",
-            ReportRows::FrameRecords(_) => "export_frames",
-            ReportRows::PlacementRecords(_) => "export_placements",
-            ReportRows::SignalRecords(_) => "export_signals",
-            ReportRows::Difference(_) => "diff",
-            ReportRows::Fates(_) => "try",
+            ReportRows::Cluster(_) => forms::CLUSTER,
+            ReportRows::Variants(_) => forms::VARIANTS,
+            ReportRows::Nodes(_) => forms::NODES,
+            ReportRows::Grants(_) => forms::GRANTS,
+            ReportRows::Frames(_) => forms::FRAMES,
+            ReportRows::Schedule(_) => forms::SCHEDULE,
+            ReportRows::Gaps(_) => forms::GAPS,
+            ReportRows::Layout(_) => forms::LAYOUT,
+            ReportRows::Load(_) => forms::LOAD,
+            ReportRows::Seen(_) => forms::ROWS,
+            ReportRows::Room(_) => forms::ROOM,
+            ReportRows::FrameRecords(_) => forms::EXPORT_FRAMES,
+            ReportRows::PlacementRecords(_) => forms::EXPORT_PLACEMENTS,
+            ReportRows::SignalRecords(_) => forms::EXPORT_SIGNALS,
+            ReportRows::Difference(_) => forms::DIFF,
+            ReportRows::Fates(_) => forms::TRY,
         }
     }
 }

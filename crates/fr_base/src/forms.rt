@@ -1,8 +1,14 @@
-//! The forms of the requests: the word of each, and its fields, each a name and a kind.
+//! The forms of the requests: the word of each, and its fields, each a name and a kind; and what is asked with those that change
+//! nothing.
 ghost use Rattle.std.specs.Prelude.{◌≡◌, map, option_copied, option_map};
 ghost use Rattle.std.specs.List.{find};
 ghost use Rattle.std.specs.Str.{bytes_eq};
-ghost use Rattle.fr_base.specs.Forms.{fields_of, form_in, form_of, forms};
+ghost use Rattle.fr_base.specs.Forms.{form_data, form_in, form_of, forms};
+
+use crate::field_name::FieldName;
+use crate::import::Header;
+use crate::query::{Inventory, Query, Question};
+use crate::report::Report;
 
 /// The kind of a request's field.
 #[derive(Clone, Copy, PartialEq, Eq)]
@@ -36,20 +42,68 @@ pub struct Form {
     pub word: &'static str,
     /// Its fields besides the word.
     pub fields: &'static [Field],
+    /// What is asked with it, where it changes nothing.
+    pub asks: Option<Question>,
 }
 
-// A form: its word, and its fields, each a kind and a name, and where it needs another field the
-// name of that.
+// The form of a request that may change rows: its word, and its fields.
 macro_rules! form {
-    ($word:literal $(, $kind:ident $name:literal $(with $other:literal)?)*) => {
+    ($word:expr $(, $kind:ident $name:literal $(with $other:literal)?)*) => {
         Form {
             word: $word,
-            fields: &[$(Field {
-                name: $name,
-                kind: Kind::$kind,
-                needs: other!($($other)?),
-            }),*],
+            fields: fields!($($kind $name $(with $other)?),*),
+            asks: None,
         }
+    };
+}
+
+// The form of a request that changes nothing: its word, what is asked with it, and its fields.
+macro_rules! question {
+    ($word:expr, $asks:expr $(, $kind:ident $name:literal)*) => {
+        Form {
+            word: $word,
+            fields: fields!($($kind $name),*),
+            asks: Some($asks),
+        }
+    };
+}
+
+// The form of a report of a variant: its word, the report, and its fields beside the variant.
+macro_rules! report {
+    ($word:expr, $report:expr $(, $kind:ident $name:literal)*) => {
+        question!(
+            $word,
+            Query::Variant {
+                variant: FieldName::Variant,
+                report: $report,
+            },
+            Text "variant" $(, $kind $name)*
+        )
+    };
+}
+
+// The form of a report of the records below a header.
+macro_rules! export {
+    ($word:expr, $header:ident) => {
+        report!(
+            $word,
+            Report::Export {
+                header: Header::$header,
+                part: FieldName::Part,
+            },
+            Number "part"
+        )
+    };
+}
+
+// Fields, each a kind and a name, and where it needs another field the name of that.
+macro_rules! fields {
+    ($($kind:ident $name:literal $(with $other:literal)?),*) => {
+        &[$(Field {
+            name: $name,
+            kind: Kind::$kind,
+            needs: other!($($other)?),
+        }),*]
     };
 }
 
@@ -62,6 +116,40 @@ macro_rules! other {
         Some($other)
     };
 }
+
+// The words of the requests that change nothing. Their answers are named by them too.
+pub(crate) const CLUSTER: &str = "cluster";
+
+pub(crate) const VARIANTS: &str = "variants";
+
+pub(crate) const NODES: &str = "nodes";
+
+pub(crate) const DIFF: &str = "diff";
+
+pub(crate) const GRANTS: &str = "grants";
+
+pub(crate) const FRAMES: &str = "frames";
+
+pub(crate) const SCHEDULE: &str = "schedule";
+
+pub(crate) const GAPS: &str = "gaps";
+
+pub(crate) const LOAD: &str = "load";
+
+pub(crate) const ROWS: &str = "rows";
+
+pub(crate) const LAYOUT: &str = "layout";
+
+pub(crate) const ROOM: &str = "room";
+
+pub(crate) const EXPORT_FRAMES: &str = "export_frames";
+
+pub(crate) const EXPORT_PLACEMENTS: &str = "export_placements";
+
+pub(crate) const EXPORT_SIGNALS: &str = "export_signals";
+
+// The word of a trial, by which its answer is named too.
+pub(crate) const TRY: &str = "try";
 
 // The forms of all requests, in the order in which they are listed.
 const TABLE: &[Form] = &[
@@ -89,22 +177,30 @@ const TABLE: &[Form] = &[
     form!("drop_signal", Text "variant", Text "frame", Text "signal"),
     form!("import", Text "variant", Text "label", Text "body"),
     form!("replace", Text "variant", Text "body", Flag "whole"),
-    form!("try", Text "variant", Text "body", Flag "replace", Flag "whole" with "replace"),
-    form!("cluster"),
-    form!("variants"),
-    form!("nodes"),
-    form!("diff", Text "variant", Text "from"),
-    form!("grants", Text "variant"),
-    form!("frames", Text "variant"),
-    form!("schedule", Text "variant"),
-    form!("gaps", Text "variant"),
-    form!("load", Text "variant"),
-    form!("rows", Text "variant"),
-    form!("layout", Text "variant", Text "frame"),
-    form!("room", Text "variant", Text "frame", Number "repetition"),
-    form!("export_frames", Text "variant", Number "part"),
-    form!("export_placements", Text "variant", Number "part"),
-    form!("export_signals", Text "variant", Number "part"),
+    form!(TRY, Text "variant", Text "body", Flag "replace", Flag "whole" with "replace"),
+    question!(CLUSTER, Query::Register(Inventory::Cluster)),
+    question!(VARIANTS, Query::Register(Inventory::Variants)),
+    question!(NODES, Query::Register(Inventory::Nodes)),
+    question!(
+        DIFF,
+        Query::Difference { variant: FieldName::Variant, from: FieldName::From },
+        Text "variant", Text "from"
+    ),
+    report!(GRANTS, Report::Grants),
+    report!(FRAMES, Report::Frames),
+    report!(SCHEDULE, Report::Schedule),
+    report!(GAPS, Report::Gaps),
+    report!(LOAD, Report::Load),
+    report!(ROWS, Report::Rows),
+    report!(LAYOUT, Report::Layout { frame: FieldName::Frame }, Text "frame"),
+    report!(
+        ROOM,
+        Report::Room { frame: FieldName::Frame, repetition: FieldName::Repetition },
+        Text "frame", Number "repetition"
+    ),
+    export!(EXPORT_FRAMES, Frames),
+    export!(EXPORT_PLACEMENTS, Placements),
+    export!(EXPORT_SIGNALS, Signals),
 ];
 
 /// The forms of all requests.
@@ -117,7 +213,7 @@ pub fn request_forms() -> &'static [Form]
 
 /// The form of the request of this word.
 pub fn form_of(word: &str) -> Option<&'static Form>
-    ensures { option_map (λ form. fields_of form.now) result ≡ form_of word.now }
+    ensures { option_map (λ form. form_data form.now) result ≡ form_of word.now }
 {
     find(request_forms(), word)
 }

@@ -1,6 +1,7 @@
 //! What a query asks, and how the names and numbers in it are read.
 ghost use Rattle.fr_base.specs.QueryNames.{IsQueryRead};
 
+use crate::field_name::FieldName;
 use crate::report::Report;
 
 /// What a query asks, where a name is an `N` and a number an `M`.
@@ -13,6 +14,9 @@ pub enum Query<N, M = u32> {
     /// How `variant` differs from `from`: the rows that are gone, and those that are new.
     Difference { variant: N, from: N },
 }
+
+/// What is asked with a form of requests: each name and number in it is that of a field.
+pub type Question = Query<FieldName, FieldName>;
 
 /// What a register holds beside the rows of its variants.
 #[derive(Clone, Copy, Debug, Drop, PartialEq, Eq)]
