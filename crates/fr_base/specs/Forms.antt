@@ -43,12 +43,15 @@ pub record FormData : Type 0 where
   pub fields : List FieldData
   pub asks : Option Question
 
--- what a form of the code says: its fields and what is asked with it; its word and these
+-- what a form of the code says: its fields; these and what is asked with it; its word and these
 abbrev pub field_in : Field → FieldData
 field_in field = record { name = field.name.now; kind = field.kind; needs = option_copied field.needs }
 
+abbrev pub fields_of : Form → List FieldData
+fields_of form = map field_in form.fields.now
+
 abbrev pub form_data : Form → FormData
-form_data form = record { fields = map field_in form.fields.now; asks = form.asks }
+form_data form = record { fields = fields_of form; asks = form.asks }
 
 abbrev pub form_in : Form → List ℕ × FormData
 form_in form = (form.word.now, form_data form)

@@ -13,7 +13,7 @@ use Rattle.fr_base.specs.declared.report.Report.TheVariants.{Grants, Frames, Sch
 use Rattle.fr_base.specs.declared.import.Header.TheVariants as header
 use Rattle.fr_base.specs.Forms.{form_of, forms}
 use Rattle.fr_text.specs.Fields.{value_of, word_of, text, text_or_null, flag, number, as_whole, has_just, only, is_among}
-use Rattle.fr_text.specs.RequestText.{integrators, of_frames, of_files, queries, request_in, request_from, request_of}
+use Rattle.fr_text.specs.RequestText.{integrators, of_frames, of_files, request_in, request_from, request_of}
 use Rattle.fr_text.specs.Laws.{fields_of, numbers_of, WrittenIsReadBack}
 
 -- what two tests say that both pass
@@ -23,7 +23,7 @@ both false y h = cc
 
 -- the fields of a request are read as it
 pub fields_read : (r : Request) → IsTrue (list_all (λ n. nat_lt n (2 ^ 32)) (numbers_of r)) → request_in (fields_of r) ≡ Some r
-unfolding request_in form_of forms integrators of_frames of_files queries fields_of word_of text text_or_null flag number as_whole has_just only is_among
+unfolding request_in form_of forms integrators of_frames of_files fields_of word_of text text_or_null flag number as_whole has_just only is_among
 fields_read (OpenVariant v Empty) fit = refl
 fields_read (OpenVariant v (From parent)) fit = refl
 fields_read (OpenVariant v (Flat from)) fit = refl

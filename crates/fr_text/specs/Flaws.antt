@@ -55,4 +55,4 @@ flaws_from value = do
   fields ← as_object value
   word ← word_of fields
   form ← form_of word
-  Some (flaws_in form fields)
+  Some (flaws_in form.fields fields)

@@ -4,7 +4,7 @@ use Rattle.std.specs.List.{list_all}
 use Rattle.std.specs.Str.{is_utf8}
 use Rattle.serde_json.specs.Data.{Data, Members, no_members, boolean, string, number, unsigned, null, object, put}
 use Rattle.serde_json.specs.Read.{read}
-use Rattle.fr_base.specs.Queries.{word_of_query}
+use Rattle.fr_base.specs.QueryNames.{word_of_query}
 use Rattle.fr_base.specs.declared.beginning.Beginning.{Beginning}
 use Rattle.fr_base.specs.declared.beginning.Beginning.TheVariants.{Empty, From, Flat}
 use Rattle.fr_base.specs.declared.request.Request.{Request}

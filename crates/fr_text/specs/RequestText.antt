@@ -6,6 +6,7 @@ use Rattle.std.specs.Str.{bytes_eq}
 use Rattle.serde_json.specs.Data.{Data, Members}
 use Rattle.serde_json.specs.Find.{as_object}
 use Rattle.fr_base.specs.Forms.{form_of}
+use Rattle.fr_base.specs.QueryNames.{Question, name_of_field, query_with}
 use Rattle.fr_base.specs.declared.beginning.Beginning.{Beginning}
 use Rattle.fr_base.specs.declared.beginning.Beginning.TheVariants.{Empty, From, Flat}
 use Rattle.fr_base.specs.declared.request.Request.{Request}
@@ -13,10 +14,6 @@ use Rattle.fr_base.specs.declared.request.Request.TheVariants.{OpenVariant, Rele
 use Rattle.fr_base.specs.declared.delivery.Manner.{Manner}
 use Rattle.fr_base.specs.declared.delivery.Manner.TheVariants as manner
 use Rattle.fr_base.specs.declared.delivery.Purpose.TheVariants as purpose
-use Rattle.fr_base.specs.declared.query.Inventory.TheVariants.{Cluster, Variants, Nodes}
-use Rattle.fr_base.specs.declared.query.Query.TheVariants.{Register as OfRegister, Variant as OfVariant, Difference as OfTwo}
-use Rattle.fr_base.specs.declared.report.Report.TheVariants.{Grants, Frames, Schedule, Gaps, Layout, Load, Rows, Room, Export}
-use Rattle.fr_base.specs.declared.import.Header.TheVariants as header
 use Rattle.fr_text.specs.Fields.{◌>>=◌, ◌>>◌, provided, value_of, has_just, word_of, text, text_or_null, flag, number}
 
 -- the word of each request, and what the request is made of: the values of its fields
@@ -64,25 +61,9 @@ of_files =
     ∷ (codes "try", λ o. Deliver (text o (codes "variant")) (purpose.Trial (manner_of (flag o (codes "replace")) (flag o (codes "whole")))) (text o (codes "body")))
     ∷ []
 
--- queries
-unfoldable pub queries : Arms
-queries =
-    (codes "cluster", λ o. Query (OfRegister Cluster))
-    ∷ (codes "variants", λ o. Query (OfRegister Variants))
-    ∷ (codes "nodes", λ o. Query (OfRegister Nodes))
-    ∷ (codes "diff", λ o. Query (OfTwo (text o (codes "variant")) (text o (codes "from"))))
-    ∷ (codes "grants", λ o. Query (OfVariant (text o (codes "variant")) Grants))
-    ∷ (codes "frames", λ o. Query (OfVariant (text o (codes "variant")) Frames))
-    ∷ (codes "schedule", λ o. Query (OfVariant (text o (codes "variant")) Schedule))
-    ∷ (codes "gaps", λ o. Query (OfVariant (text o (codes "variant")) Gaps))
-    ∷ (codes "load", λ o. Query (OfVariant (text o (codes "variant")) Load))
-    ∷ (codes "rows", λ o. Query (OfVariant (text o (codes "variant")) Rows))
-    ∷ (codes "layout", λ o. Query (OfVariant (text o (codes "variant")) (Layout (text o (codes "frame")))))
-    ∷ (codes "room", λ o. Query (OfVariant (text o (codes "variant")) (Room (text o (codes "frame")) (number o (codes "repetition")))))
-    ∷ (codes "export_frames", λ o. Query (OfVariant (text o (codes "variant")) (Export header.Frames (number o (codes "part")))))
-    ∷ (codes "export_placements", λ o. Query (OfVariant (text o (codes "variant")) (Export header.Placements (number o (codes "part")))))
-    ∷ (codes "export_signals", λ o. Query (OfVariant (text o (codes "variant")) (Export header.Signals (number o (codes "part")))))
-    ∷ []
+-- what is asked, with the fields' values for its names and numbers
+abbrev pub asked : Members → Question → Request
+asked o question = Query (query_with (λ name. text o (name_of_field name)) (λ name. number o (name_of_field name)) question)
 
 -- the request of this word among these, made of the fields
 abbrev pub picked : Arms → List ℕ → Members → Option Request
@@ -90,13 +71,18 @@ picked arms word fields = do
   arm ← lookup (bytes_eq word) arms
   Some (arm fields)
 
+-- the request of this word, made of the fields: of one that changes nothing its form says what is asked
+abbrev pub made : Option Question → List ℕ → Members → Option Request
+made (Some question) word fields = Some (asked fields question)
+made None word fields = picked (integrators ++ of_frames ++ of_files) word fields
+
 -- the request that the fields are
 unfoldable pub request_in : Members → Option Request
 request_in fields = do
   word ← word_of fields
   form ← form_of word
-  provided (has_just form fields)
-  picked (integrators ++ of_frames ++ of_files ++ queries) word fields
+  provided (has_just form.fields fields)
+  made form.asks word fields
 
 -- the request that a value is
 unfoldable pub request_from : Data → Option Request

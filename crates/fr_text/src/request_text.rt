@@ -4,15 +4,16 @@ ghost use Rattle.std.specs.Prelude.{◌≡◌, ◌⊎◌, ◌++◌, Some, None, 
 ghost use Rattle.serde_json.specs.View.{view};
 ghost use Rattle.fr_text.specs.Fields.{fields_in};
 ghost use Rattle.fr_text.specs.Faults.{ReadsRequest};
-ghost use Rattle.fr_text.specs.RequestText.{integrators, of_files, of_frames, picked, queries, request_of};
+ghost use Rattle.fr_text.specs.RequestText.{integrators, made, of_files, of_frames, picked, request_of};
 
 mod files;
 mod frames;
 mod integrator;
-mod queries;
+mod question;
 
 use crate::field_faults::{FieldFault, field_faults};
 use crate::fields::{Fields, JsonFault, field, read_json, word_in};
+use crate::request_text::question::ask;
 use fr_base::{Form, NoMemory, Refusal, Request, form_of};
 use serde_json::Value;
 use std::alloc::{AllocError, Global};
@@ -69,17 +70,33 @@ pub fn read_request<'v>(alloc: Global, value: &'v Value) -> Result<Request, Requ
     if !faults.is_empty() {
         return Err(RequestFault::OfFields(form, faults));
     }
-    match pick(alloc, word, fields) {
+    match make(alloc, form, word, fields) {
         Ok(Some(request)) => Ok(request),
         Ok(None) => Err(RequestFault::NoRequest(field(fields, "do"))),
         Err(AllocError) => Err(RequestFault::NoMemory),
     }
 }
 
-// The request of this word, made of the fields' values.
+// The request of this word, whose form this is, made of the fields' values.
+fn make(
+    alloc: Global,
+    form: &Form,
+    word: &str,
+    fields: &Fields,
+) -> Result<Option<Request>, NoMemory>
+    ensures { IfOk result (λ request. request
+        ≡ made form.now.asks word.now (fields_in fields.now)) }
+{
+    match form.asks {
+        Some(question) => Ok(Some(ask(alloc, &question, fields)?)),
+        None => pick(alloc, word, fields),
+    }
+}
+
+// The request of this word that may change rows, made of the fields' values.
 fn pick(alloc: Global, word: &str, fields: &Fields) -> Result<Option<Request>, NoMemory>
     ensures { IfOk result (λ request. request
-        ≡ picked (integrators ++ of_frames ++ of_files ++ queries) word.now (fields_in fields.now)) }
+        ≡ picked (integrators ++ of_frames ++ of_files) word.now (fields_in fields.now)) }
 {
     if let Some(request) = integrator::pick(alloc, word, fields)? {
         return Ok(Some(request));
@@ -87,8 +104,5 @@ fn pick(alloc: Global, word: &str, fields: &Fields) -> Result<Option<Request>, N
     if let Some(request) = frames::pick(alloc, word, fields)? {
         return Ok(Some(request));
     }
-    if let Some(request) = files::pick(alloc, word, fields)? {
-        return Ok(Some(request));
-    }
-    queries::pick(alloc, word, fields)
+    files::pick(alloc, word, fields)
 }
