@@ -28,7 +28,7 @@ use Rattle.fr_cli.specs.ScriptRun.{answers_of, answers_to, lines_of}
 
 -- what the rows below unfold
 unfoldable pub a_script : ⊤
-unfolding a_small_register actor_of key_and_text request_lines ask_in encode_utf8 scan_numeral chars is_utf8 value lex punctuate content after_number word number_of value_of is_among only as_whole has_just word_of text text_or_null number form_of forms request.integrators request.of_frames request.of_files request.queries request.request_in request.request_from request.request_of
+unfolding a_small_register actor_of key_and_text request_lines ask_in encode_utf8 scan_numeral chars is_utf8 value lex punctuate content after_number word number_of value_of is_among only as_whole has_just word_of text text_or_null number form_of forms request.integrators request.of_frames request.of_files request.request_in request.request_from request.request_of
 a_script = tt
 
 -- a line: a key, a space, and a request

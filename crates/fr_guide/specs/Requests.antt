@@ -7,7 +7,7 @@ use Rattle.fr_base.specs.declared.beginning.Beginning.TheVariants.{Empty, From, 
 use Rattle.fr_base.specs.declared.query.Query.{Query}
 use Rattle.fr_base.specs.declared.query.Query.TheVariants.{Register as OfRegister, Variant as OfVariant, Difference as OfTwo}
 use Rattle.fr_base.specs.declared.report.Report.{Report}
-use Rattle.fr_base.specs.declared.report.Report.TheVariants.{Grants, Frames, Schedule, Gaps, Layout, Load, Rows, Room, Export}
+use Rattle.fr_base.specs.declared.report.Report.TheVariants.{Layout, Room}
 use Rattle.fr_base.specs.declared.request.Request.{Request}
 use Rattle.fr_base.specs.declared.request.Request.TheVariants as request
 use Rattle.fr_base.specs.declared.delivery.Purpose.TheVariants as purpose
@@ -32,15 +32,9 @@ origin_in (Flat from) = name from ∷ []
 
 -- the name of a report's frame, if the report is of one
 abbrev pub frame_in : Report (List ℕ) ℕ → List (Form × List ℕ)
-frame_in Grants = []
-frame_in Frames = []
-frame_in Schedule = []
-frame_in Gaps = []
 frame_in (Layout frame) = name frame ∷ []
-frame_in Load = []
-frame_in Rows = []
 frame_in (Room frame repetition) = name frame ∷ []
-frame_in (Export header part) = []
+frame_in _ = []
 
 -- the names in a query
 abbrev pub names_in : Query (List ℕ) ℕ → List (Form × List ℕ)
