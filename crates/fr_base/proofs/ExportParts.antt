@@ -11,7 +11,7 @@ use Rattle.std.proofs.lemmas.List.Elements.{All-head, All-tail, All-map, All-wea
 use Rattle.fr_base.specs.Refusing.{◌>>=◌, ◌>>◌, ◌or◌, refuse◌when◌}
 use Rattle.fr_base.specs.Tables.{get, len}
 use Rattle.fr_base.specs.Keys.{owned}
-use Rattle.fr_base.specs.Checks.{is_integrator, name, report, query, check}
+use Rattle.fr_base.specs.Checks.{is_integrator, name, query, check}
 use Rattle.fr_base.specs.Cluster.{Cluster}
 use Rattle.fr_base.specs.Names.{is_name}
 use Rattle.fr_base.specs.Book.{Frame, Variant, Book, is_of, own}
@@ -331,7 +331,7 @@ module _ (c : Cluster) (b : Book) (actor : Actor) where
 
   checks-named : (variant : List ℕ) (header : Header) (part : ℕ) → IsTrue (is_name variant) →
       check c.params actor (asked variant header part) ≡ Ok (checked.Query (OfVariant variant (Export header part)))
-  unfolding check query report name ◌>>=◌ ◌>>◌ refuse◌when◌
+  unfolding check query name ◌>>=◌ ◌>>◌ refuse◌when◌
   checks-named variant header part named = by actor
     where
       by : (who : Actor) → check c.params who (asked variant header part) ≡ Ok (checked.Query (OfVariant variant (Export header part)))

@@ -1,8 +1,8 @@
 -- What a proof about the names of a query opens, and what comes of a query whose names are read, or not.
-use Rattle.std.proofs.Common.{◌≡◌, ◌∙◌, ◌⊎◌, inl, inr, ℕ, Option, Some, None, Result, Ok, Err, IfOk, refl, ap}
+use Rattle.std.proofs.Common.{◌≡◌, ◌∙◌, ◌⊎◌, inl, inr, ℕ, Option, Some, None, Result, Ok, Err, IfOk, refl, sym, ap}
 use Rattle.std.specs.Prelude.{⊤, MatchResult, option_map}
 use Rattle.fr_base.specs.Refusing.{◌>>=◌}
-use Rattle.fr_base.specs.QueryNames.{IsReportRead, IsQueryRead, report_by, report_with, query_by, query_with}
+use Rattle.fr_base.specs.QueryNames.{IsReportRead, IsQueryRead, report_by, report_in, report_with, query_by, query_in, query_with}
 use Rattle.fr_base.specs.declared.query.Query.{Query}
 use Rattle.fr_base.specs.declared.query.Query.TheVariants.{Register, Variant, Difference}
 use Rattle.fr_base.specs.declared.import.Header.{Header}
@@ -67,6 +67,31 @@ module _ {N M A E : Type 0} (reads : N → Result A E → Type 0) (counts : M �
   pub older_unread : (variant : N) (v : A) (from : N) (e : E) → reads variant (Ok v) → reads from (Err e) → IsQueryRead {A = A} reads counts (Difference variant from) (Err e)
   unfolding names_open
   older_unread variant v from e read unread = (Ok v, read, (Err e, unread, refl))
+
+-- where a name is what the first function makes of it, and a number what the second does, so is the query
+module _ {N M A E : Type 0} (f : N → Result A E) (g : M → Result ℕ E) where
+  report_alike : (report : Report N M) (result : Result (Report A ℕ) E) → IsReportRead (λ word read. read ≡ f word) (λ word read. read ≡ g word) report result → result ≡ report_in f g report
+  unfolding names_open
+  report_alike Grants result is = is
+  report_alike Frames result is = is
+  report_alike Schedule result is = is
+  report_alike Gaps result is = is
+  report_alike (Layout frame) result (read, is_name, is) = rw is (rw is_name refl)
+  report_alike Load result is = is
+  report_alike Rows result is = is
+  report_alike (Room frame repetition) result (Ok n, is_name, (number, is_number, is)) = rw is (rw is_number (rw (sym is_name) refl))
+  report_alike (Room frame repetition) result (Err e, is_name, is) = rw is (rw (sym is_name) refl)
+  report_alike (Export header part) result (number, is_number, is) = rw is (rw is_number refl)
+
+  pub query_alike : (query : Query N M) (result : Result (Query A ℕ) E) → IsQueryRead (λ word read. read ≡ f word) (λ word read. read ≡ g word) query result → result ≡ query_in f g query
+  unfolding names_open
+  query_alike (Register inventory) result is = is
+  query_alike (Variant variant report) result (Ok v, is_name, (r, read, is)) =
+      is ∙ ap (λ u. u >>= (λ r. Ok (Variant v r))) (report_alike report r read) ∙ ap (λ n. n >>= (λ v. report_in f g report >>= (λ r. Ok (Variant v r)))) is_name
+  query_alike (Variant variant report) result (Err e, is_name, is) = is ∙ ap (λ n. n >>= (λ v. report_in f g report >>= (λ r. Ok (Variant v r)))) is_name
+  query_alike (Difference variant from) result (Ok v, is_name, (other, is_other, is)) =
+      is ∙ ap (λ u. u >>= (λ o. Ok (Difference v o))) is_other ∙ ap (λ n. n >>= (λ v. f from >>= (λ o. Ok (Difference v o)))) is_name
+  query_alike (Difference variant from) result (Err e, is_name, is) = is ∙ ap (λ n. n >>= (λ v. f from >>= (λ o. Ok (Difference v o)))) is_name
 
 -- where a reader makes this of each name that it reads, and that of each number, so do the names and numbers of the query become
 module _ {N M A E : Type 0} (f : N → A) (g : M → ℕ) where

@@ -8,7 +8,7 @@ use Rattle.fr_base.specs.Refusing.{◌>>=◌, ◌>>◌, ◌or◌, refuse◌when�
 use Rattle.fr_base.specs.Tables.{get}
 use Rattle.fr_base.specs.Channels.{channels_in, has_channel, text_of_channels, channels_of_text}
 use Rattle.fr_base.specs.Changes.{in_rows}
-use Rattle.fr_base.specs.Checks.{asking, name, cycles, slot, channels, placement, report, query, check}
+use Rattle.fr_base.specs.Checks.{asking, name, cycles, slot, channels, placement, query, check}
 use Rattle.fr_base.specs.Cycles.{Cycles, are_cycles, is_repetition}
 use Rattle.fr_base.specs.Cluster.{Cluster}
 use Rattle.fr_base.specs.Names.{is_name}
@@ -129,7 +129,7 @@ module _ (c : Cluster) (b : Book) (s : Name) (variant frame : List ℕ) where
 
   room-checks : (r : ℕ) → IsTrue (is_name variant) → IsTrue (is_name frame) → IsTrue (is_repetition c.params.cycles r) →
       by_its_text (room_of variant frame r) ≡ asked_room r
-  unfolding check query report name ◌>>=◌ ◌>>◌ refuse◌when◌
+  unfolding check query name ◌>>=◌ ◌>>◌ refuse◌when◌
   room-checks r v f divides = rw (v, f, divides) refl
 
   room-variant : (r : ℕ) → is_name variant ≡ false → by_its_text (room_of variant frame r) ≡ Err BadName
@@ -138,12 +138,12 @@ module _ (c : Cluster) (b : Book) (s : Name) (variant frame : List ℕ) where
 
   room-frame : (r : ℕ) → IsTrue (is_name variant) → is_name frame ≡ false →
       by_its_text (room_of variant frame r) ≡ Err BadName
-  unfolding check query report name ◌>>=◌ ◌>>◌ refuse◌when◌
+  unfolding check query name ◌>>=◌ ◌>>◌ refuse◌when◌
   room-frame r v f = rw (v, f) refl
 
   room-cycles : (r : ℕ) → IsTrue (is_name variant) → IsTrue (is_name frame) → is_repetition c.params.cycles r ≡ false →
       by_its_text (room_of variant frame r) ≡ Err BadCycles
-  unfolding check query report name ◌>>=◌ ◌>>◌ refuse◌when◌
+  unfolding check query name ◌>>=◌ ◌>>◌ refuse◌when◌
   room-cycles r v f other = rw (v, f, other) refl
 
   place-checks : (q : Placement) → FitsCluster c.params q → IsTrue (is_name variant) → IsTrue (is_name frame) →

@@ -2,6 +2,7 @@
 -- signal's length and order. They are asked in the order of refusals.
 use Rattle.std.specs.Prelude.{ℕ, Bool, true, false, not, ◌&&◌, List, nat_le, Result, Ok, Err, if◌then◌else◌}
 use Rattle.std.specs.List.{list_all}
+use Rattle.fr_base.specs.QueryNames.{query_in}
 use Rattle.fr_base.specs.Refusing.{◌>>=◌, ◌>>◌, ◌or◌, refuse◌when◌}
 use Rattle.fr_base.specs.Names.{is_name, is_key}
 use Rattle.fr_base.specs.Cycles.{Cycles, are_cycles, is_repetition}
@@ -29,9 +30,9 @@ use Rattle.fr_base.specs.declared.request.CommonCommand.TheVariants.{OpenVariant
 use Rattle.fr_base.specs.declared.request.Change.TheVariants.{Grant, Revoke, Frame}
 use Rattle.fr_base.specs.declared.request.FrameChange.TheVariants.{Add, Drop, Place, Unplace, AddSignal, DropSignal}
 use Rattle.fr_base.specs.declared.query.Query.{Query}
-use Rattle.fr_base.specs.declared.query.Query.TheVariants.{Register, Variant, Difference}
+use Rattle.fr_base.specs.declared.query.Query.TheVariants.{Variant}
 use Rattle.fr_base.specs.declared.report.Report.{Report}
-use Rattle.fr_base.specs.declared.report.Report.TheVariants.{Grants, Frames, Schedule, Gaps, Layout, Load, Rows as AllRows, Room, Export}
+use Rattle.fr_base.specs.declared.report.Report.TheVariants.{Room}
 use Rattle.fr_base.specs.declared.request.Checked.{Checked}
 use Rattle.fr_base.specs.declared.request.Checked.TheVariants as checked
 
@@ -109,33 +110,9 @@ purpose (Import label) = do
 purpose (Replacement whole) = Ok (Replacement whole)
 purpose (Trial manner) = Ok (Trial manner)
 
--- a report whose frame, if it names one, has a name
-unfoldable pub report : Report (List ℕ) ℕ → Result (Report Name ℕ) Refusal
-report Grants = Ok Grants
-report Frames = Ok Frames
-report Schedule = Ok Schedule
-report Gaps = Ok Gaps
-report (Layout frame) = do
-  f ← name frame
-  Ok (Layout f)
-report Load = Ok Load
-report AllRows = Ok AllRows
-report (Room frame repetition) = do
-  f ← name frame
-  Ok (Room f repetition)
-report (Export header part) = Ok (Export header part)
-
 -- a query whose names are checked
 unfoldable pub query : Query (List ℕ) ℕ → Result (Query Name ℕ) Refusal
-query (Register inventory) = Ok (Register inventory)
-query (Variant variant asked) = do
-  v ← name variant
-  r ← report asked
-  Ok (Variant v r)
-query (Difference variant from) = do
-  v ← name variant
-  f ← name from
-  Ok (Difference v f)
+query = query_in name Ok
 
 -- whether a query is of the room for a frame, which a supplier alone may ask
 abbrev pub is_of_room : {N M : Type 0} → Query N M → Bool

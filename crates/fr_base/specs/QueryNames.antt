@@ -93,6 +93,37 @@ purpose_with f (Import label) = Import (f label)
 purpose_with f (Replacement whole) = Replacement whole
 purpose_with f (Trial manner) = Trial manner
 
+-- the report whose names and numbers are read by these functions, one after another
+abbrev pub report_in : {N M A E : Type 0} → (N → Result A E) → (M → Result ℕ E) → Report N M → Result (Report A ℕ) E
+report_in reads counts Grants = Ok Grants
+report_in reads counts Frames = Ok Frames
+report_in reads counts Schedule = Ok Schedule
+report_in reads counts Gaps = Ok Gaps
+report_in reads counts (Layout frame) = do
+  f ← reads frame
+  Ok (Layout f)
+report_in reads counts Load = Ok Load
+report_in reads counts Rows = Ok Rows
+report_in reads counts (Room frame repetition) = do
+  f ← reads frame
+  r ← counts repetition
+  Ok (Room f r)
+report_in reads counts (Export header part) = do
+  k ← counts part
+  Ok (Export header k)
+
+-- the query whose names and numbers are read so
+abbrev pub query_in : {N M A E : Type 0} → (N → Result A E) → (M → Result ℕ E) → Query N M → Result (Query A ℕ) E
+query_in reads counts (Register inventory) = Ok (Register inventory)
+query_in reads counts (Variant variant report) = do
+  v ← reads variant
+  r ← report_in reads counts report
+  Ok (Variant v r)
+query_in reads counts (Difference variant from) = do
+  v ← reads variant
+  f ← reads from
+  Ok (Difference v f)
+
 -- the report with its names changed by the first function and its numbers by the second
 abbrev pub report_with : {N M A : Type 0} → (N → A) → (M → ℕ) → Report N M → Report A ℕ
 report_with f g Grants = Grants

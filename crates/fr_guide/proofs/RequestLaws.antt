@@ -3,7 +3,7 @@ use Rattle.std.proofs.Common.{◌≡◌, ◌∙◌, ap, refl, sym, ℕ, Bool, tr
 use Rattle.std.specs.Prelude.{not, ◌&&◌, nat_le}
 use Rattle.std.specs.List.{list_all}
 use Rattle.fr_base.specs.Channels.{channel_of_text, channels_in, channels_of_text, has_channel}
-use Rattle.fr_base.specs.Checks.{asking, channel, channels, check, cycles, key, name, beginning, placement, purpose, query, report, signal, slot}
+use Rattle.fr_base.specs.Checks.{asking, channel, channels, check, cycles, key, name, beginning, placement, purpose, query, signal, slot}
 use Rattle.fr_base.specs.Cycles.{Cycles, are_cycles, is_repetition}
 use Rattle.fr_base.specs.Names.{is_key, is_name}
 use Rattle.fr_base.specs.Refusing.{◌>>=◌, ◌>>◌, ◌or◌, refuse◌when◌}
@@ -124,7 +124,7 @@ in_turn (Err e) f g = refl
 -- ---- requests
 
 pub misformed_requests : MisformedRequestsAreRefused
-unfolding check asking formed_in ◌>>=◌ ◌>>◌ refuse◌when◌ beginning purpose report query
+unfolding check asking formed_in ◌>>=◌ ◌>>◌ refuse◌when◌ beginning purpose query
 misformed_requests p s (request.OpenVariant v Empty) = sym (named v _ true refl)
 misformed_requests p s (request.OpenVariant v (From parent)) = sym (named v _ (is_name parent && true) (named_within parent _ _ refl))
 misformed_requests p s (request.OpenVariant v (Flat from)) = sym (named v _ (is_name from && true) (named_within from _ _ refl))

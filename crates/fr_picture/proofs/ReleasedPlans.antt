@@ -8,7 +8,7 @@ use Rattle.std.specs.Cmp.{tied_itself}
 use Rattle.std.specs.Cmp.Lexicographic.{nat_list_cmp_total}
 use Rattle.std.proofs.lemmas.Bool.{cases_Bool}
 use Rattle.fr_base.specs.Book.{Book, Frame, Variant, file_of, is_of}
-use Rattle.fr_base.specs.Checks.{check, has_repetition, is_integrator, name, query, report}
+use Rattle.fr_base.specs.Checks.{check, has_repetition, is_integrator, name, query}
 use Rattle.fr_base.specs.Cluster.{Cluster}
 use Rattle.fr_base.specs.Keys.{names}
 use Rattle.fr_base.specs.Names.{is_name, same_text}
@@ -191,7 +191,7 @@ module _ (c : Cluster) (b : Book) (s : Name) where
   its_lines : (known named : Bool) (variant : List ℕ) → HasOf (Supplier s) (outcome b ((refuse UnknownKey when not known)
       >> (((refuse NotYours when false) >> (((if named then Ok variant else Err BadName) >>= λ v. report Frames >>= λ r. Ok (OfVariant v r))
       >>= λ q. (refuse BadCycles when not (has_repetition c.params q)) >> Ok (checked.Query q))) >>= λ valid. act c b (Supplier s) valid))).answer
-  unfolding report act reply found outcome ◌>>=◌ ◌>>◌ refuse◌when◌
+  unfolding act reply found outcome ◌>>=◌ ◌>>◌ refuse◌when◌
   its_lines false named variant = tt
   its_lines true false variant = tt
   its_lines true true variant = its_told (reply c.params b (Supplier s) (OfVariant variant Frames)) (its_reply (get b.variants variant))
