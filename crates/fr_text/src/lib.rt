@@ -29,7 +29,7 @@ pub use laws::{
     sent_whole_changes_nothing, written_is_read_back,
 };
 pub use output::{Output, WRITE_RETRIES, WriteFailed};
-pub use report::write_lines;
+pub use report::{ReportText, report_text, write_lines};
 pub use request_text::{RequestFault, read_command, read_request};
 pub use retry::try_again;
 pub use script::{LINE_BYTES, RequestLines, key_and_text, next_line, split_once, split_script};
