@@ -1,26 +1,20 @@
 -- Words in which `clap` finds no fault ask for a job, but for those of `check`, `export` and `try` that lack an object.
-use Rattle.std.proofs.Common.{◌≡◌, ◌⊎◌, inl, inr, ℕ, Bool, true, false, ◌||◌, cond, List, [], ◌∷◌, Option, Some, None, Ok, codes, refl, sym, ap, ◌∙◌, subst}
+use Rattle.std.proofs.Common.{◌≡◌, ◌⊎◌, inl, inr, ℕ, Bool, true, false, ◌||◌, cond, List, [], ◌∷◌, ◌++◌, map, Option, Some, None, codes, refl, rules, sym, ap, ◌∙◌, subst}
 use Rattle.std.specs.Prelude.{find, option_map}
 use Rattle.std.specs.Borrow.{Bor}
 use Rattle.std.specs.Str.{bytes_eq}
 use Rattle.std.proofs.lemmas.Slice.Eq.{bytes_eq-Decides}
 use Rattle.clap.specs.Faults.{level_fault}
-use Rattle.clap.specs.Simple.{Shape, built, label_of}
+use Rattle.clap.specs.Simple.{Shape, built, built_leaf, inherited, label_of, marked_built, on_top, with_leaf_noted}
 use Rattle.clap.specs.Walk.{Row, Rule, Text, answers_to, first_of, nothing_held, rows_after}
-use Rattle.fr_base.proofs.QueryLemmas.{names_open}
-use Rattle.fr_base.specs.QueryNames.{IsQueryRead, IsReportRead}
+use Rattle.fr_base.proofs.QueryLemmas.{EachOf, query_filled}
+use Rattle.fr_base.specs.QueryNames.{Question}
+use Rattle.fr_base.specs.declared.field_name.FieldName.{FieldName}
 use Rattle.fr_base.specs.declared.import.Header.{Header}
-use Rattle.fr_base.specs.declared.query.Inventory.TheVariants.{Cluster, Variants, Nodes}
-use Rattle.fr_base.specs.declared.query.Query.{Query}
-use Rattle.fr_base.specs.declared.query.Query.TheVariants.{Register as OfRegister, Variant as OfVariant, Difference as OfTwo}
-use Rattle.fr_base.specs.declared.report.Report.{Report}
-use Rattle.fr_base.specs.declared.report.Report.TheVariants.{Grants, Frames, Schedule, Gaps, Layout, Load, Rows, Room, Export}
 use Rattle.fr_base.specs.declared.delivery.Manner.{Manner}
-use Rattle.fr_cli.specs.Commands.{slotplan}
-use Rattle.fr_cli.specs.Reports.{Question, asked_with, of_variant, text_of_name}
+use Rattle.fr_cli.specs.Commands.{report, slotplan}
+use Rattle.fr_cli.specs.Reports.{argument_name, asked_with, reports}
 use Rattle.fr_cli.specs.Words.{AreTaken, AskForNone, HasPurpose, HasNoObject, HasNumber, IsAnswerable, IsFoundWithoutObject, IsJobFound, IsJobIn, IsJobOf, IsNumberAt, IsWordAt, LackAnObject, asked_by, header_in, is_given, manner_in, max_number, records, word_of_delivery}
-use Rattle.fr_cli.specs.declared.words.reports.ArgName.{ArgName}
-use Rattle.fr_cli.specs.declared.words.reports.ArgName.TheVariants as arg
 use Rattle.fr_base.specs.declared.delivery.Purpose.{Purpose}
 use Rattle.fr_base.specs.declared.delivery.Purpose.TheVariants.{Import as ByLabel, Replacement, Trial}
 use Rattle.fr_cli.specs.declared.words.delivery.Delivery.{Delivery}
@@ -65,21 +59,16 @@ Asks s = (label_of s ≡ (codes "help", [])) ⊎ OnlyLacks s
 asks : (s : Shape) → AlwaysHasJob s → Asks s
 asks s has = inr (λ rest fine none. let (j, is) = has rest fine in absurd (none j is))
 
--- a number of any size has a word
-abbrev NumberThere : List Rule → ArgName → Type 0
-NumberThere rules name = (has_word rules (text_of_name name) ≡ true) × IsNumber rules (text_of_name name) 0 max_number
+-- the word for a field of what is asked is there, and so is the number of any size
+abbrev NameThere : Question → List Rule → FieldName → Type 0
+NameThere asked rules field = has_word rules (argument_name asked field) ≡ true
 
--- each name and number of a report has a word, and so of a question
-abbrev MoreThere : List Rule → Report ArgName ArgName → Type 0
-MoreThere rules (Layout frame) = has_word rules (text_of_name frame) ≡ true
-MoreThere rules (Room frame number) = (has_word rules (text_of_name frame) ≡ true) × NumberThere rules number
-MoreThere rules (Export header part) = NumberThere rules part
-MoreThere rules _ = Unit {0}
+abbrev NumberThere : Question → List Rule → FieldName → Type 0
+NumberThere asked rules field = NameThere asked rules field × IsNumber rules (argument_name asked field) 0 max_number
 
+-- each name and number of what is asked has a word
 abbrev WordsThere : List Rule → Question → Type 0
-WordsThere rules (OfRegister inventory) = Unit {0}
-WordsThere rules (OfVariant variant report) = (has_word rules (text_of_name variant) ≡ true) × MoreThere rules report
-WordsThere rules (OfTwo variant from) = (has_word rules (text_of_name variant) ≡ true) × (has_word rules (text_of_name from) ≡ true)
+WordsThere rules asked = EachOf (NameThere asked rules) (NumberThere asked rules) asked
 
 module _ (s : Shape) (once : s.args_override_self ≡ false) (rest : List Text) (fine : level_fault s [] nothing_held rest false [] ≡ []) where
   there : (id : Text) → has_word s.rules id ≡ true → Stands s.rules id (rows_after s.rules [] rest)
@@ -89,52 +78,17 @@ module _ (s : Shape) (once : s.args_override_self ≡ false) (rest : List Text) 
       → (n : ℕ) × HasNumber id low high (rows_after s.rules [] rest) n
   count id low high has parser = number_stands s.rules id (rows_after s.rules [] rest) low high (there id has) parser
 
-  -- the text of an argument that stands there
-  text_at : (name : ArgName) → has_word s.rules (text_of_name name) ≡ true → (text : Bor Text) × IsWordAt (rows_after s.rules [] rest) name (Ok text)
-  text_at name has = let at = there (text_of_name name) has in (lent at.text, at.first)
-
-  number_at : (name : ArgName) → NumberThere s.rules name → (n : ℕ) × IsNumberAt (rows_after s.rules [] rest) name (Ok n)
-  number_at name has = count (text_of_name name) 0 max_number has.0 has.1
-
-  -- the report with its words
-  report_filled : (report : Report ArgName ArgName) → MoreThere s.rules report
-      → (filled : Report (Bor Text) ℕ) × IsReportRead (IsWordAt (rows_after s.rules [] rest)) (IsNumberAt (rows_after s.rules [] rest)) report (Ok filled)
-  unfolding names_open
-  report_filled Grants has = (Grants, refl)
-  report_filled Frames has = (Frames, refl)
-  report_filled Schedule has = (Schedule, refl)
-  report_filled Gaps has = (Gaps, refl)
-  report_filled Load has = (Load, refl)
-  report_filled Rows has = (Rows, refl)
-  report_filled (Layout frame) has = let of = text_at frame has in (Layout of.0, (Ok of.0, of.1, refl))
-  report_filled (Room frame number) has =
-      let of = text_at frame has.0 in
-      let every = number_at number has.1 in
-      (Room of.0 every.0, (Ok of.0, of.1, (Ok every.0, every.1, refl)))
-  report_filled (Export header part) has = let of = number_at part has in (Export header of.0, (Ok of.0, of.1, refl))
-
-  -- the query with its words
-  query_filled : (question : Question) → WordsThere s.rules question
-      → (filled : Query (Bor Text) ℕ) × IsQueryRead (IsWordAt (rows_after s.rules [] rest)) (IsNumberAt (rows_after s.rules [] rest)) question (Ok filled)
-  unfolding names_open
-  query_filled (OfRegister inventory) has = (OfRegister inventory, refl)
-  query_filled (OfVariant variant report) has =
-      let of = text_at variant has.0 in
-      let asked = report_filled report has.1 in
-      (OfVariant of.0 asked.0, (Ok of.0, of.1, (Ok asked.0, asked.1, refl)))
-  query_filled (OfTwo variant from) has =
-      let of = text_at variant has.0 in
-      let other = text_at from has.1 in
-      (OfTwo of.0 other.0, (Ok of.0, of.1, (Ok other.0, other.1, refl)))
-
-  asked_job : (question : Question) → asked_by s.name (rows_after s.rules [] rest) ≡ Some question → has_word s.rules (codes "DB") ≡ true
-      → WordsThere s.rules question → HasJob s.name (rows_after s.rules [] rest)
-  asked_job question asks db words =
+  asked_job : (asked : Question) → asked_by s.name (rows_after s.rules [] rest) ≡ Some asked → has_word s.rules (codes "DB") ≡ true
+      → WordsThere s.rules asked → HasJob s.name (rows_after s.rules [] rest)
+  asked_job asked asks db words =
+      let rows = rows_after s.rules [] rest in
       let at = there (codes "DB") db in
-      let filled = query_filled question words in
-      let who = first_of (codes "supplier") (rows_after s.rules [] rest) in
+      let filled = query_filled (IsWordAt asked rows) (IsNumberAt asked rows) (NameThere asked s.rules) (NumberThere asked s.rules)
+      (λ field has. let at = there (argument_name asked field) has in (lent at.text, at.first))
+      (λ field has. count (argument_name asked field) 0 max_number has.0 has.1) asked words in
+      let who = first_of (codes "supplier") rows in
       let inquiry : Inquiry = record { query = filled.0; supplier = lent_if who } in
-      let is = subst (λ (q : Option Question). IsAnswerable q (rows_after s.rules [] rest) filled.0) (sym asks) filled.1 in
+      let is = subst (λ (o : Option Question). IsAnswerable o rows filled.0) (sym asks) filled.1 in
       (job.Report (lent at.text) inquiry, (at.first, is, lent_back who))
 
   deliver_job : (how : Purpose (Bor (List ℕ))) → s.name ≡ word_of_delivery how → HasPurpose how (rows_after s.rules [] rest)
@@ -180,10 +134,17 @@ serve_job s once named db port ports many counts long seconds rest fine =
     let time = count s once rest fine (codes "seconds") 1 3600 long seconds in
     (job.Serve (lent at.text) number.0 connections.0 time.0, (named, at.first, number.1, connections.1, time.1))
 
--- a report's subcommand
-report_job : (question : Question) (s : Shape) → s.args_override_self ≡ false → ((rows : List Row) → asked_by s.name rows ≡ Some question)
-    → has_word s.rules (codes "DB") ≡ true → WordsThere s.rules question → AlwaysHasJob s
-report_job question s once asks db words rest fine = asked_job s once rest fine question (asks (rows_after s.rules [] rest)) db words
+-- The subcommand asks for this report, and each of its words is there.
+abbrev AsksReport : Shape → Question → Type 0
+AsksReport s asked = (s.args_override_self ≡ false) × (bytes_eq s.name (codes "export") ≡ false) × (asked_with s.name ≡ Some asked)
+    × (has_word s.rules (codes "DB") ≡ true) × WordsThere s.rules asked
+
+report_job : (asked : Question) (s : Shape) → AsksReport s asked → AlwaysHasJob s
+report_job asked s (once, other, asks, db, words) rest fine = asked_job s once rest fine asked by_name db words
+  where
+    by_name : asked_by s.name (rows_after s.rules [] rest) ≡ Some asked
+    by_name =
+        ap (λ (b : Bool). cond b (option_map records (header_in (rows_after s.rules [] rest))) (asked_with s.name)) other ∙ asks
 
 picture_job : (s : Shape) → s.args_override_self ≡ false → s.name ≡ codes "picture" → has_word s.rules (codes "DB") ≡ true
     → has_word s.rules (codes "VARIANT") ≡ true
@@ -252,28 +213,33 @@ data EachAsks : List Shape → Type 0 where
   nothing : EachAsks []
   ◌and◌ : {s : Shape} {subs : List Shape} → Asks s → EachAsks subs → EachAsks (s ∷ subs)
 
+-- a report's subcommand, as `clap` builds it
+abbrev shape_of : Text × Question → Shape
+shape_of row = built_leaf (inherited (on_top with_leaf_noted (on_top marked_built slotplan)).top (report row).top)
+
+-- each report of the list has a subcommand that asks for it
+abbrev AskReports : List (Text × Question) → Type 0
+AskReports [] = Unit {0}
+AskReports (row ∷ rows) = AsksReport (shape_of row) row.1 × AskReports rows
+
+-- their subcommands, before others
+each_report : (rows : List (Text × Question)) → AskReports rows → {subs : List Shape} → EachAsks subs → EachAsks (map shape_of rows ++ subs)
+each_report [] ask others = others
+each_report (row ∷ rows) (one, more) others = asks _ (report_job row.1 _ one) and each_report rows more others
+
+reports_ask : AskReports reports
+unfolding asked_with
+reports_ask = search rules
+
 -- in the order of the command line
 all_ask : EachAsks (built slotplan).subs
-unfolding asked_with
 all_ask =
     asks _ (run_job _ refl)
     and asks _ (create_job _ refl refl refl refl)
     and asks _ (migrate_job _ refl refl refl)
     and asks _ (serve_job _ refl refl refl refl refl refl refl refl refl)
     and asks _ (ask_job _ refl refl refl)
-    and asks _ (report_job (OfRegister Cluster) _ refl (λ rows. refl) refl tt)
-    and asks _ (report_job (OfRegister Variants) _ refl (λ rows. refl) refl tt)
-    and asks _ (report_job (OfRegister Nodes) _ refl (λ rows. refl) refl tt)
-    and asks _ (report_job (OfTwo arg.To arg.From) _ refl (λ rows. refl) refl (refl, refl))
-    and asks _ (report_job (of_variant Grants) _ refl (λ rows. refl) refl (refl, tt))
-    and asks _ (report_job (of_variant Frames) _ refl (λ rows. refl) refl (refl, tt))
-    and asks _ (report_job (of_variant Schedule) _ refl (λ rows. refl) refl (refl, tt))
-    and asks _ (report_job (of_variant Gaps) _ refl (λ rows. refl) refl (refl, tt))
-    and asks _ (report_job (of_variant Load) _ refl (λ rows. refl) refl (refl, tt))
-    and asks _ (report_job (of_variant Rows) _ refl (λ rows. refl) refl (refl, tt))
-    and asks _ (report_job (of_variant (Layout arg.Frame)) _ refl (λ rows. refl) refl (refl, refl))
-    and asks _ (report_job (of_variant (Room arg.Frame arg.Repetition)) _ refl (λ rows. refl) refl (refl, (refl, (refl, refl))))
-    and inr (export_job _ refl refl refl (λ header. (refl, (refl, refl))))
+    and each_report reports reports_ask (inr (export_job _ refl refl refl (λ header. (refl, (refl, refl))))
     and asks _ (picture_job _ refl refl refl refl)
     and asks _ (import_job _ refl refl refl refl refl refl refl)
     and asks _ (replace_job _ refl refl refl refl refl refl)
@@ -281,7 +247,7 @@ all_ask =
     and inr (check_job _ refl)
     and asks _ (explain_job _ refl)
     and inl refl
-    and nothing
+    and nothing)
 
 found_asks : (p : Shape → Bool) (subs : List Shape) (s : Shape) → EachAsks subs → find p subs ≡ Some s → Asks s × (p s ≡ true)
 found_asks p [] s all e = some_none s e

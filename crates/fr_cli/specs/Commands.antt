@@ -7,11 +7,12 @@ use Rattle.clap.specs.declared.builder.action.ArgAction.TheVariants.{Set, SetTru
 use Rattle.clap.specs.declared.builder.command.Command.{Command}
 use Rattle.clap.specs.declared.builder.command.Command.TheViews.{out-Command as fields_of}
 use Rattle.clap.specs.declared.builder.value_parser.ValueParser.TheVariants.{Signed}
+use Rattle.fr_base.specs.QueryNames.{Question}
+use Rattle.fr_base.specs.declared.field_name.FieldName.{FieldName}
 use Rattle.fr_base.specs.declared.query.Query.TheVariants.{Register as OfRegister, Variant as OfVariant, Difference as OfTwo}
 use Rattle.fr_base.specs.declared.report.Report.{Report}
 use Rattle.fr_base.specs.declared.report.Report.TheVariants.{Layout, Room}
-use Rattle.fr_cli.specs.Reports.{Question, reports, text_of_name}
-use Rattle.fr_cli.specs.declared.words.reports.ArgName.{ArgName}
+use Rattle.fr_cli.specs.Reports.{argument_name, reports}
 
 -- a word that must stand at its place
 abbrev pub word : Text → Rule
@@ -68,13 +69,9 @@ ask = with_rule (with_rule (new_app (codes "ask")) (word (codes "DB"))) (flag (c
 abbrev pub supplier : Rule
 supplier = record (new_rule (codes "supplier")) { long = Some (codes "supplier"); action = Some Set; value_names = 1 }
 
--- a word that is a name in what is asked
-abbrev pub argument : ArgName → Rule
-argument name = word (text_of_name name)
-
--- a word that is a number in what is asked
-abbrev pub numeral : ArgName → Rule
-numeral name = record (argument name) { parser = Some (Signed (pos 0) (pos 4294967295)) }
+-- a word that is a number
+abbrev pub numeral : Text → Rule
+numeral name = record (word name) { parser = Some (Signed (pos 0) (pos 4294967295)) }
 
 -- the supplier whose frame it is
 abbrev pub owner : Rule
@@ -85,21 +82,22 @@ abbrev pub reader : Question → Rule
 reader (OfVariant _ (Room _ _)) = owner
 reader _ = supplier
 
--- a subcommand with a word for each name and number of a report
-abbrev pub with_more_words : App → Report ArgName ArgName → App
-with_more_words app (Layout frame) = with_rule app (argument frame)
-with_more_words app (Room frame repetition) = with_rule (with_rule app (argument frame)) (numeral repetition)
-with_more_words app _ = app
+-- A subcommand with a word for each name and number of a report. The function says what the word for a field is called.
+abbrev pub with_more_words : (FieldName → Text) → App → Report FieldName FieldName → App
+with_more_words called app (Layout frame) = with_rule app (word (called frame))
+with_more_words called app (Room frame repetition) = with_rule (with_rule app (word (called frame))) (numeral (called repetition))
+with_more_words called app _ = app
 
--- a subcommand with a word for each name and number of what is asked
-abbrev pub with_words : App → Question → App
-with_words app (OfRegister _) = app
-with_words app (OfVariant variant report) = with_more_words (with_rule app (argument variant)) report
-with_words app (OfTwo variant from) = with_rule (with_rule app (argument from)) (argument variant)
+-- The same of what is asked. Of two variants the one that is compared stands behind the other.
+abbrev pub with_words : (FieldName → Text) → App → Question → App
+with_words called app (OfRegister _) = app
+with_words called app (OfVariant variant report) = with_more_words called (with_rule app (word (called variant))) report
+with_words called app (OfTwo variant from) = with_rule (with_rule app (word (called from))) (word (called variant))
 
 -- the subcommand of a report
 abbrev pub report : Text × Question → App
-report row = with_rule (with_words (with_rule (new_app row.0) (word (codes "DB"))) row.1) (reader row.1)
+report row =
+    with_rule (with_words (argument_name row.1) (with_rule (new_app row.0) (word (codes "DB"))) row.1) (reader row.1)
 
 -- a text that may be named, as a file, a path or another variant
 abbrev pub named : Text → Rule

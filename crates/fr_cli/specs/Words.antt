@@ -9,7 +9,10 @@ use Rattle.clap.specs.Walk.{Row, Text, first_of, one_of}
 use Rattle.clap.specs.Words.{IsAmong, fault_of, subcommand_of}
 use Rattle.clap.specs.declared.error.kind.ErrorKind.{ErrorKind}
 use Rattle.clap.specs.declared.error.kind.ErrorKind.TheVariants.{DisplayHelp, DisplayVersion, OutOfMemory, ValueValidation}
-use Rattle.fr_base.specs.QueryNames.{IsQueryRead}
+use Rattle.fr_base.specs.Forms.{of_variant}
+use Rattle.fr_base.specs.QueryNames.{IsQueryRead, Question}
+use Rattle.fr_base.specs.declared.field_name.FieldName.{FieldName}
+use Rattle.fr_base.specs.declared.field_name.FieldName.TheVariants as field
 use Rattle.fr_base.specs.declared.import.Header.{Header}
 use Rattle.fr_base.specs.declared.import.Header.TheVariants.{Frames, Placements, Signals}
 use Rattle.fr_base.specs.declared.query.Query.{Query}
@@ -17,9 +20,7 @@ use Rattle.fr_base.specs.declared.report.Report.TheVariants.{Export}
 use Rattle.fr_base.specs.declared.delivery.Manner.{Manner}
 use Rattle.fr_base.specs.declared.delivery.Manner.TheVariants.{Import, Replace}
 use Rattle.fr_cli.specs.Commands.{slotplan}
-use Rattle.fr_cli.specs.Reports.{Question, asked_with, of_variant, text_of_name}
-use Rattle.fr_cli.specs.declared.words.reports.ArgName.{ArgName}
-use Rattle.fr_cli.specs.declared.words.reports.ArgName.TheVariants as arg
+use Rattle.fr_cli.specs.Reports.{argument_name, asked_with}
 use Rattle.fr_cli.specs.declared.words.Job.{Job}
 use Rattle.fr_cli.specs.declared.words.Job.TheVariants.{Run, Create, Migrate, Serve, Ask, Report as ReportOn, Picture, Deliver, Check, Explain}
 use Rattle.fr_cli.specs.declared.words.WordFault.{WordFault}
@@ -65,25 +66,27 @@ header_in rows = option_and_then header_named (first_of (codes "ROWS") rows)
 
 -- the query for the records below a header
 abbrev pub records : Header → Question
-records header = of_variant (Export header arg.Part)
+records header = of_variant (Export header field.Part)
 
 -- What is asked with the subcommand of this name and these words. `export` asks for the records that the words name.
 abbrev pub asked_by : Text → List Row → Option Question
 asked_by name rows = if bytes_eq name (codes "export") then option_map records (header_in rows) else asked_with name
 
--- The text is the word of this argument; or there is none.
-abbrev pub IsWordAt : List Row → ArgName → Result (Bor (List ℕ)) ⊤ → Type 0
-IsWordAt rows name result = MatchResult result (λ text. Has (text_of_name name) rows text.now) (λ _. first_of (text_of_name name) rows ≡ None)
+-- The text is the word for this field of what is asked; or there is none.
+abbrev pub IsWordAt : Question → List Row → FieldName → Result (Bor (List ℕ)) ⊤ → Type 0
+IsWordAt asked rows field result = MatchResult result
+    (λ text. Has (argument_name asked field) rows text.now)
+    (λ _. first_of (argument_name asked field) rows ≡ None)
 
--- The number is the word of this argument; or that is no number, or too great.
-abbrev pub IsNumberAt : List Row → ArgName → Result ℕ ⊤ → Type 0
-IsNumberAt rows name result = MatchResult result
-    (λ number. HasNumber (text_of_name name) 0 max_number rows number)
-    (λ _. (number : ℕ) → HasNumber (text_of_name name) 0 max_number rows number → ⊥)
+-- The number is the word for this field of what is asked; or that is no number, or too great.
+abbrev pub IsNumberAt : Question → List Row → FieldName → Result ℕ ⊤ → Type 0
+IsNumberAt asked rows field result = MatchResult result
+    (λ number. HasNumber (argument_name asked field) 0 max_number rows number)
+    (λ _. (number : ℕ) → HasNumber (argument_name asked field) 0 max_number rows number → ⊥)
 
--- The query is what is asked, with the words of its arguments for its names and numbers.
+-- The query is what is asked, with the words for its fields as its names and numbers.
 abbrev pub IsAnswerable : Option Question → List Row → Query (Bor (List ℕ)) ℕ → Type 0
-IsAnswerable (Some question) rows query = IsQueryRead (IsWordAt rows) (IsNumberAt rows) question (Ok query)
+IsAnswerable (Some asked) rows query = IsQueryRead (IsWordAt asked rows) (IsNumberAt asked rows) asked (Ok query)
 IsAnswerable None rows query = ⊥
 
 -- The supplier is the one that the words name, if they name one.

@@ -15,10 +15,10 @@ use crate::words::check_subject::CheckSubject;
 use crate::words::commands::{MAX_CONNECTIONS, MAX_PORT, MAX_SECONDS, program};
 use crate::words::delivery::Delivery;
 use crate::words::inquiry::Inquiry;
-use crate::words::reports::{ArgName, report_command};
+use crate::words::reports::{argument_name, asked_with};
 use clap::error::ErrorKind;
 use clap::{ArgMatches, Error};
-use fr_base::{Header, Manner, Purpose, Query, QueryReader, Report};
+use fr_base::{FieldName, Header, Manner, Purpose, Query, QueryReader, Question, Report};
 use std::alloc::Global;
 
 /// What is said of words of `check` that name no job, though `clap` takes them.
@@ -223,7 +223,7 @@ fn report_job<'a>(name: &str, found: &ArgMatches<'a>) -> Option<Job<'a>>
 {
     let asked = asked_by(name, found)?;
     let db = word(found, "DB")?;
-    match asked.read(&Words { found }) {
+    match asked.read(&Words { found, asked }) {
         Ok(query) => {
             let query = Inquiry {
                 query,
@@ -235,51 +235,52 @@ fn report_job<'a>(name: &str, found: &ArgMatches<'a>) -> Option<Job<'a>>
     }
 }
 
-// What is asked with the subcommand of this name and these words, with arguments for its names and numbers.
-fn asked_by(name: &str, found: &ArgMatches<'_>) -> Option<Query<ArgName, ArgName>>
+// What is asked with the subcommand of this name and these words.
+fn asked_by(name: &str, found: &ArgMatches<'_>) -> Option<Question>
     ensures { result ≡ asked_by name.now (rows_of (found_of found.now)) }
 {
     match name {
         "export" => header(found).map(records),
-        _ => Some(report_command(name)?.query),
+        _ => asked_with(name),
     }
 }
 
-// The query for the records below this header.
-fn records(header: Header) -> Query<ArgName, ArgName>
+// What is asked for the records below this header.
+fn records(header: Header) -> Question
     ensures { result ≡ records header }
 {
     Query::Variant {
-        variant: ArgName::Variant,
+        variant: FieldName::Variant,
         report: Report::Export {
             header,
-            part: ArgName::Part,
+            part: FieldName::Part,
         },
     }
 }
 
-// The words of a subcommand.
+// The words of a subcommand, and what is asked with them.
 #[derive(Drop)]
 struct Words<'m, 'a> {
     found: &'m ArgMatches<'a>,
+    asked: Question,
 }
 
-// The names and numbers of a query are the words at the places of their arguments.
-impl<'a> QueryReader<ArgName, ArgName, &'a str, ()> for Words<'_, 'a> {
+// The names and numbers of what is asked are the words at the places of their arguments.
+impl<'a> QueryReader<FieldName, FieldName, &'a str, ()> for Words<'_, 'a> {
     ghost use Rattle.clap.specs.Walk.{rows_of};
     ghost use Rattle.clap.specs.Words.{found_of};
     ghost use Rattle.fr_cli.specs.Words.{IsNumberAt, IsWordAt};
 
-    ghost reads = { λ words name result. IsWordAt (rows_of (found_of words.found.now)) name result };
+    ghost reads = { λ words field result. IsWordAt words.asked (rows_of (found_of words.found.now)) field result };
 
-    ghost counts = { λ words name result. IsNumberAt (rows_of (found_of words.found.now)) name result };
+    ghost counts = { λ words field result. IsNumberAt words.asked (rows_of (found_of words.found.now)) field result };
 
-    fn read_name(&self, name: &ArgName) -> Result<&'a str, ()> {
-        word(self.found, name.as_str()).ok_or(())
+    fn read_name(&self, field: &FieldName) -> Result<&'a str, ()> {
+        word(self.found, argument_name(&self.asked, *field)).ok_or(())
     }
 
-    fn read_number(&self, name: &ArgName) -> Result<u32, ()> {
-        match number(self.found, name.as_str(), 0, u32::MAX) {
+    fn read_number(&self, field: &FieldName) -> Result<u32, ()> {
+        match number(self.found, argument_name(&self.asked, *field), 0, u32::MAX) {
             Some(read) => Ok(read),
             None => Err(()),
         }

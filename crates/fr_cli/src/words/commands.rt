@@ -1,14 +1,16 @@
 //! The program's command line, as `clap` reads it: a subcommand for each job.
-ghost use Rattle.std.specs.Prelude.{◌≡◌, IfOk, codes, false, map};
+ghost use Rattle.std.specs.Prelude.{◌≡◌, IfOk, codes, false, filter_map, map};
 ghost use Rattle.std.specs.List.{fold};
 ghost use Rattle.clap.specs.Words.{App, Text, new_app, rule_of};
+ghost use Rattle.fr_base.specs.Forms.{form_in};
 ghost use Rattle.fr_cli.specs.Commands as app;
 ghost use Rattle.fr_cli.specs.Commands.{IsReadAs};
-ghost use Rattle.fr_cli.specs.Reports.{row_in, text_of_name};
+ghost use Rattle.fr_cli.specs.Reports.{argument_name, report_row};
 
-use crate::words::reports::{ArgName, ReportCommand, report_commands};
+use crate::words::reports::{argument_help, argument_name, asked_in};
 use clap::{Arg, ArgAction, Command, value_parser};
-use fr_base::{Query, Report};
+use fr_base::{FieldName, Form, Query, Question, Report, request_forms};
+use fr_text::report_text;
 use std::alloc::{AllocError, Global};
 
 /// The greatest port of TCP.
@@ -30,7 +32,7 @@ pub fn program<'a>(alloc: Global) -> Result<Command<'a>, AllocError>
         .subcommand(migrate(alloc)?)?
         .subcommand(serve(alloc)?)?
         .subcommand(ask(alloc)?)?;
-    let program = with_reports(alloc, program, report_commands())?
+    let program = with_reports(alloc, program, request_forms())?
         .subcommand(export(alloc)?)?
         .subcommand(picture(alloc)?)?
         .subcommand(import(alloc)?)?
@@ -158,31 +160,38 @@ fn lines<'a>(alloc: Global) -> Arg<'a>
     )
 }
 
-// The program with a subcommand for each of these reports.
+// The program with a subcommand for each report of these forms.
 fn with_reports<'a>(
     alloc: Global,
     program: Command<'a>,
-    reports: &'static [ReportCommand],
+    forms: &'static [Form],
 ) -> Result<Command<'a>, AllocError>
     ensures { IfOk result (λ more. (old : App) → IsReadAs old program.entry
-        → IsReadAs (fold app.with_report old (map row_in reports.now)) more) }
+        → IsReadAs (fold app.with_report old (filter_map report_row (map form_in forms.now))) more) }
 {
     let mut grown = program;
-    for asked in reports {
-        grown = grown.subcommand(report(alloc, asked)?)?;
+    for form in forms {
+        if let Some(asked) = asked_in(form) {
+            grown = grown.subcommand(report(alloc, form.word, &asked)?)?;
+        }
     }
     Ok(grown)
 }
 
 // The subcommand of a report.
-fn report<'a>(alloc: Global, asked: &ReportCommand) -> Result<Command<'a>, AllocError>
-    ensures { IfOk result (IsReadAs (app.report (row_in asked.now))) }
+fn report<'a>(
+    alloc: Global,
+    name: &'static str,
+    asked: &Question,
+) -> Result<Command<'a>, AllocError>
+    ensures { IfOk result (IsReadAs (app.report (name.now, asked.now))) }
 {
-    let command = Command::new(alloc, asked.name)
-        .about(asked.about)
-        .after_help(asked.help)
+    let (about, lines) = report_text(name).map_or(("", ""), |text| (text.about, text.lines));
+    let command = Command::new(alloc, name)
+        .about(about)
+        .after_help(lines)
         .arg(db(alloc))?;
-    let command = with_words(alloc, command, asked.query)?.arg(reader(alloc, asked.query))?;
+    let command = with_words(alloc, command, asked)?.arg(reader(alloc, asked))?;
     Ok(command)
 }
 
@@ -190,44 +199,45 @@ fn report<'a>(alloc: Global, asked: &ReportCommand) -> Result<Command<'a>, Alloc
 fn with_words<'a>(
     alloc: Global,
     command: Command<'a>,
-    query: Query<ArgName, ArgName>,
+    asked: &Question,
 ) -> Result<Command<'a>, AllocError>
     ensures { IfOk result (λ more. (a : App) → IsReadAs a command.entry
-        → IsReadAs (app.with_words a query) more) }
+        → IsReadAs (app.with_words (argument_name asked.now) a asked.now) more) }
 {
-    match query {
+    match asked {
         Query::Register(_) => Ok(command),
         Query::Variant { variant, report } => {
-            let command = command.arg(argument(alloc, variant))?;
-            with_more_words(alloc, command, report)
+            let command = command.arg(argument(alloc, asked, *variant))?;
+            with_more_words(alloc, command, asked, report)
         }
         Query::Difference { variant, from } => {
             let command = command
-                .arg(argument(alloc, from))?
-                .arg(argument(alloc, variant))?;
+                .arg(argument(alloc, asked, *from))?
+                .arg(argument(alloc, asked, *variant))?;
             Ok(command)
         }
     }
 }
 
-// The subcommand with a word for each name and number of the report.
+// The subcommand with a word for each name and number of the report that is asked for.
 fn with_more_words<'a>(
     alloc: Global,
     command: Command<'a>,
-    report: Report<ArgName, ArgName>,
+    asked: &Question,
+    report: &Report<FieldName, FieldName>,
 ) -> Result<Command<'a>, AllocError>
     ensures { IfOk result (λ more. (a : App) → IsReadAs a command.entry
-        → IsReadAs (app.with_more_words a report) more) }
+        → IsReadAs (app.with_more_words (argument_name asked.now) a report.now) more) }
 {
     match report {
         Report::Layout { frame } => {
-            let command = command.arg(argument(alloc, frame))?;
+            let command = command.arg(argument(alloc, asked, *frame))?;
             Ok(command)
         }
         Report::Room { frame, repetition } => {
             let command = command
-                .arg(argument(alloc, frame))?
-                .arg(numeral(alloc, repetition))?;
+                .arg(argument(alloc, asked, *frame))?
+                .arg(numeral(alloc, asked, *repetition))?;
             Ok(command)
         }
         _ => Ok(command),
@@ -398,18 +408,22 @@ fn variant<'a>(alloc: Global) -> Arg<'a>
     word(alloc, "VARIANT", "The variant's name")
 }
 
-// A word that is a name in what is asked.
-fn argument<'a>(alloc: Global, name: ArgName) -> Arg<'a>
-    ensures { (rule_of result ≡ app.word (text_of_name name)) × (result.global ≡ false) }
+// A word for a name in what is asked.
+fn argument<'a>(alloc: Global, asked: &Question, field: FieldName) -> Arg<'a>
+    ensures { (rule_of result ≡ app.word (argument_name asked.now field)) × (result.global ≡ false) }
 {
-    word(alloc, name.as_str(), name.help())
+    word(
+        alloc,
+        argument_name(asked, field),
+        argument_help(asked, field),
+    )
 }
 
-// A word that is a number in what is asked, any number.
-fn numeral<'a>(alloc: Global, name: ArgName) -> Arg<'a>
-    ensures { (rule_of result ≡ app.numeral name) × (result.global ≡ false) }
+// A word for a number in what is asked, any number.
+fn numeral<'a>(alloc: Global, asked: &Question, field: FieldName) -> Arg<'a>
+    ensures { (rule_of result ≡ app.numeral (argument_name asked.now field)) × (result.global ≡ false) }
 {
-    argument(alloc, name).value_parser(value_parser!(u32))
+    argument(alloc, asked, field).value_parser(value_parser!(u32))
 }
 
 // The key of a supplier.
@@ -444,10 +458,10 @@ fn part<'a>(alloc: Global) -> Arg<'a>
 }
 
 // The supplier that reads a report: where room is asked for it is the one whose frame it is.
-fn reader<'a>(alloc: Global, query: Query<ArgName, ArgName>) -> Arg<'a>
-    ensures { (rule_of result ≡ app.reader query) × (result.global ≡ false) }
+fn reader<'a>(alloc: Global, asked: &Question) -> Arg<'a>
+    ensures { (rule_of result ≡ app.reader asked.now) × (result.global ≡ false) }
 {
-    match query {
+    match asked {
         Query::Variant {
             report: Report::Room { .. },
             ..

@@ -1,7 +1,7 @@
 use Rattle.std.proofs.Common.{subst, sym, Option}
 use Rattle.clap.specs.Walk.{rows_of}
 use Rattle.clap.specs.Words.{found_of}
-use Rattle.fr_cli.specs.Reports.{Question}
+use Rattle.fr_base.specs.QueryNames.{Question}
 use Rattle.fr_cli.specs.Words.{IsAnswerable}
 use Rattle.fr_cli.proofs.ReportLaws.{unread}
 use Rattle.fr_cli.proofs.words.report_job.Goals as goal
@@ -11,4 +11,4 @@ returns-in-Err c = λ db query is.
     let rows = rows_of (found_of c.args.found.now) in
     let asked = c.in_ok-asked.asked in
     let has = subst (λ (question : Option Question). IsAnswerable question rows query.query) (sym c.in_ok-asked.ensures) is.1 in
-    unread rows asked tt query.query c.in-Err.ensures has
+    unread asked rows tt query.query c.in-Err.ensures has

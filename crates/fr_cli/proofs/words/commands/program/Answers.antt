@@ -1,13 +1,14 @@
-use Rattle.std.proofs.Common.{codes, ap, ◌∙◌, subst, List}
+use Rattle.std.proofs.Common.{codes, ap, ◌∙◌, filter_map, subst, List}
 use Rattle.std.specs.List.{fold}
 use Rattle.clap.specs.Simple.{app_of_fields}
 use Rattle.clap.specs.Words.{App, Text, new_app, with_subcommand}
 use Rattle.clap.specs.declared.builder.command.Command.{Command}
 use Rattle.clap.specs.declared.builder.command.Command.TheOpen.{Command-F}
-use Rattle.fr_cli.proofs.CommandLaws.{with_job}
+use Rattle.fr_base.specs.QueryNames.{Question}
+use Rattle.fr_cli.proofs.CommandLaws.{rows_of_forms, with_job}
 use Rattle.fr_cli.proofs.words.commands.program.Goals as goal
 use Rattle.fr_cli.specs.Commands.{IsReadAs, ask, create, migrate, run, serve, unasked, with_report, with_reports}
-use Rattle.fr_cli.specs.Reports.{Question}
+use Rattle.fr_cli.specs.Reports.{report_row}
 
 pub returns : goal.returns
 returns c =
@@ -21,7 +22,8 @@ returns c =
     (with_job _ _ _ _ _ c.in_ok-subcommand-2.ensures started c.in_ok-create.ensures) c.in_ok-migrate.ensures) c.in_ok-serve.ensures) c.in_ok-ask.ensures in
     let jobs : App = with_subcommand (with_subcommand (with_subcommand (with_subcommand (with_subcommand (unasked (codes "slotplan")) run.top) create.top) migrate.top) serve.top) ask.top in
     let reports : IsReadAs (with_reports jobs) c.in_ok-with_reports.field-0 =
-    subst (λ (rows : List (Text × Question)). IsReadAs (fold with_report jobs rows) c.in_ok-with_reports.field-0) c.report_commands.ensures (c.in_ok-with_reports.ensures jobs files) in
+    subst (λ (rows : List (Text × Question)). IsReadAs (fold with_report jobs rows) c.in_ok-with_reports.field-0) (ap (filter_map report_row) c.request_forms.ensures ∙ rows_of_forms)
+    (c.in_ok-with_reports.ensures jobs files) in
     let pages = with_job _ _ _ _ _ c.in_ok-subcommand-6.ensures
     (with_job _ _ _ _ _ c.in_ok-subcommand-5.ensures reports c.in_ok-export.ensures) c.in_ok-picture.ensures in
     let changes = with_job _ _ _ _ _ c.in_ok-subcommand-9.ensures

@@ -1,20 +1,27 @@
-use Rattle.std.proofs.Common.{map, subst}
+use Rattle.std.proofs.Common.{Some, None, subst, sym}
 use Rattle.std.proofs.lemmas.List.{take_all}
 use Rattle.std.specs.List.{fold}
-use Rattle.fr_cli.proofs.CommandLaws.{one_more, with_job}
+use Rattle.fr_cli.proofs.CommandLaws.{one_more, rows_of, with_job}
 use Rattle.fr_cli.proofs.words.commands.with_reports.Goals as goal
+use Rattle.fr_cli.proofs.words.commands.with_reports.Goals.{in-Some+in_ok-report+in_ok-grown, in_default}
 use Rattle.fr_cli.specs.Commands.{IsReadAs, with_report}
-use Rattle.fr_cli.specs.Reports.{row_in}
 
-pub loop-asked-init : goal.loop-asked-init
-loop-asked-init c old is = is
+pub loop-form-init : goal.loop-form-init
+loop-form-init c old is = is
 
-pub loop-asked-preserved : goal.loop-asked-preserved
-loop-asked-preserved c old is =
-    one_more old c.args.reports.now c.loop-asked.asked-index _ _ c.loop-asked-test.true
-    (with_job _ _ _ _ _ c.in_ok-grown.ensures (c.loop-asked.invariant old is) c.in_ok-report.ensures)
+pub loop-form-preserved : goal.loop-form-preserved
+loop-form-preserved c old is =
+    let before = c.loop-form.invariant old is in
+    elim c.match-asked_in.branch [
+      | in-Some+in_ok-report+in_ok-grown w ↦
+          one_more old c.args.forms.now c.loop-form.form-index _ (Some w.in-Some.asked) _ c.loop-form-test.true w.in-Some.ensures
+          (subst (IsReadAs _) (sym w.grown-is) (with_job _ _ _ _ _ w.in_ok-grown.ensures before w.in_ok-report.ensures))
+      | in_default w ↦
+          one_more old c.args.forms.now c.loop-form.form-index _ None _ c.loop-form-test.true w.in_default.ensures
+          (subst (IsReadAs _) (sym w.grown-is) before)
+    ]
 
 pub returns : goal.returns
 returns c old is =
-    subst (λ taken. IsReadAs (fold with_report old (map row_in taken)) c.loop-asked.grown)
-    (take_all c.loop-asked.asked-index c.args.reports.now c.loop-asked-test.false) (c.loop-asked.invariant old is)
+    subst (λ taken. IsReadAs (fold with_report old (rows_of taken)) c.loop-form.grown)
+    (take_all c.loop-form.form-index c.args.forms.now c.loop-form-test.false) (c.loop-form.invariant old is)
