@@ -60,6 +60,13 @@ class Help(InvocationCase):
         for name in HELP.keys() - {"slotplan"}:
             self.ends(Invocation(f"the help of {name}", written=HELP[name], words=(name, "--help")))
 
+    def test_told(self):
+        """Each help first tells in a line what its command does, and shows an example; so a report whose text was forgotten is seen."""
+        for name, text in HELP.items():
+            front, _, rest = text.decode().partition("\n\nUsage: slotplan")
+            self.see(f"the help of {name} tells what it does", True, bool(front.strip()))
+            self.see(f"the help of {name} shows an example", True, "\nExample:" in rest)
+
     @for_values("run", "serve")
     def test_other_words(self, name):
         for words in (name, "-h"), ("help", name):
