@@ -98,8 +98,8 @@ pub fn migrate<S: Start>(
 }
 
 /// The desk of the register in the file at a path, which stands for the book that the file holds, or that a crash left in
-/// it. It keeps pages of at most twice `kept` bytes beside the one in use. `start` says what the file held as it was opened.
-/// No clause reaches the path: where there is no file there is no register, and none is made.
+/// it. Beside the page in use it keeps pages on two shelves, each of at most `kept` bytes or one page. `start` says what the
+/// file held as it was opened. No clause reaches the path: where there is no file there is no register, and none is made.
 pub fn open<S: Start>(
     rt: &HostRuntime,
     path: &str,
