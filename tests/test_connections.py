@@ -29,8 +29,9 @@ REST_BYTES, MOST_SENT = 1_048_576, 33_554_432
 CONNECTIONS = 20_001
 FILE_READS = 100_000
 IMPORT_BYTES = 65_536
-# How many bytes the pages take at most that were used last, and as many those that were used before them, as docs/PROVED.md says.
-SHELF = 67_108_864
+# How many bytes of pages a server keeps at most beside the one in use, as docs/OPERATE.md says. By how many bytes its memory grows at most where it is
+# told to keep the fewest: by three pages, and by what is needed to read one.
+KEPT, FEW = 134_217_728, 16_777_216
 
 ADD = add_frame("f7")
 LONG_BODY = b"x" * 200_000
@@ -69,7 +70,7 @@ class Listening(PlannedCase):
 
 
 class Keeping(ConnectionCase):
-    """A server keeps pages of what it reads, on two shelves of 64 MiB at most, and its memory grows no more, however many it reads."""
+    """A server keeps pages of what it reads, of 128 MiB at most or as it is told, and its memory grows no more, however many it reads."""
 
     waits, seconds = False, 30
     keepers = [f"s{number}" for number in range(1, 4)]
@@ -90,18 +91,25 @@ class Keeping(ConnectionCase):
             file.executemany("INSERT INTO signals VALUES ('v1', ?, ?, ?, ?, ?, 0)", rows)
         self.variants = ["v1", *variants]
 
-    def test_memory(self):
+    def grown(self, *words):
+        """By how many bytes its memory has grown when all pages were read, and the first ones again."""
         wanted = text("".join(f"{8 * at:04} 08 little x{at} {name}\n" for name in self.keepers for at in range(scripts.SIGNALS)).encode())
-        with self.served("--count", str(2 + len(self.variants))) as (server, port):
+        with self.served("--count", str(3 + len(self.variants)), *words) as (server, port):
             self.see("before a page is read", NOTHING[1], sent(port, NOTHING[0]))
             before = memory_of(server)
-            for variant in self.variants:
+            for variant in (*self.variants, "v1"):
                 self.see(f"to one in {variant}", wanted, sent(port, head("GET", f"/v1/variants/{variant}/frames/f000/layout", "integrator1")))
             grown = memory_of(server) - before
-            self.see("by how many bytes its memory has grown", True, 0 < grown <= 2 * SHELF or grown)
             print(f"its memory has grown by {grown} bytes", flush=True)
             self.see("behind that", NOTHING[1], sent(port, NOTHING[0]))
             self.ends(server)
+        return grown
+
+    def test_memory(self):
+        grown = self.grown()
+        self.see("by how many bytes its memory has grown", True, 2 * FEW < grown <= KEPT or grown)
+        grown = self.grown("--memory", "1")
+        self.see("by how many bytes where it keeps the fewest", True, grown <= FEW or grown)
 
 
 class Reading(PlannedCase):

@@ -106,10 +106,19 @@ class Words(InvocationCase):
             self.no_job(usage(f"invalid value '{port}' for '<PORT>': {port} is not in 1..=65535"), "serve", "d", port, given=b"")
 
     def test_numbers(self):
-        for option, most in ("--count", 1_000_000), ("--seconds", 3_600):
+        for option, value, most in ("--count", "N", 1_000_000), ("--seconds", "N", 3_600), ("--memory", "MIB", 1_000_000):
             for number in "0", str(most + 1), "x":
                 why = f"{number} is not in 1..={most}" if number.isdigit() else "invalid digit found in string"
-                self.no_job(usage(f"invalid value '{number}' for '{option} <N>': {why}"), "serve", "d", "1", option, number, given=b"")
+                self.no_job(usage(f"invalid value '{number}' for '{option} <{value}>': {why}"), "serve", "d", "1", option, number, given=b"")
+
+    def test_options_of_a_server(self):
+        """Each has a value, and stands there once; then the register is opened."""
+        end = "Usage: slotplan serve [OPTIONS] <DB> <PORT>"
+        for option in "--count <N>", "--seconds <N>", "--memory <MIB>":
+            name = option.split()[0]
+            self.no_job(usage(f"a value is required for '{option}' but none was supplied"), "serve", "d", "1", name, given=b"")
+            self.no_job(usage(f"the argument '{option}' cannot be used multiple times", end, ""), "serve", "d", "1", *(name, "7") * 2, given=b"")
+            self.ends(Invocation(f"the word {name}", said=b"slotplan: NotARegister\n", status=1, words=("serve", "d", "1", name, "64")))
 
     def test_numbers_of_reports(self):
         for number, why in ("4294967296", "4294967296 is not in 0..=4294967295"), ("x", "invalid digit found in string"):

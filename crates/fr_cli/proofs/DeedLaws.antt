@@ -301,12 +301,12 @@ module _ {D R : Type 0} {g : Ghosts D} (desk : Desk.Ghosts R) (held : Image) (re
         let named : NamesFault told (fault_word fault) mid s.err.new = subst (λ (d : Result ⊤ Fault). Tells told mid s.err.new d) failed tells in
         not_opened fault (inr not) (ends ∙ ap status_of failed, silent, subst (λ old. NamesFault told (fault_word fault) old s.err.new) kept named) stayed
 
-    serve : (files : Handlings) (db : Bor (List ℕ)) (port count seconds : ℕ) → Serves desk held rest read files comings port count seconds s status → Leading (job.Serve db port count seconds)
+    serve : (files : Handlings) (db : Bor (List ℕ)) (port count seconds memory : ℕ) → Serves desk held rest read files comings port count seconds s status → Leading (job.Serve db port count seconds memory)
     unfolding IsServed
-    serve files db port count seconds (done, mid, ends, announced, inl (fault, failed, not, stayed, silent, kept), tells) =
+    serve files db port count seconds memory (done, mid, ends, announced, inl (fault, failed, not, stayed, silent, kept), tells) =
         inl (not_served done mid fault ends failed not stayed silent kept tells)
-    serve files db port count seconds (done, mid, ends, announced, inr (last, old, new, over, has), tells) =
-        led (job.Serve db port count seconds) (Visits has.visits) (has.came_in, all_served count has.visits done ends has.all) (visits_lead last over.left.0 has.visits has.served.0)
+    serve files db port count seconds memory (done, mid, ends, announced, inr (last, old, new, over, has), tells) =
+        led (job.Serve db port count seconds memory) (Visits has.visits) (has.came_in, all_served count has.visits done ends has.all) (visits_lead last over.left.0 has.visits has.served.0)
 
     -- so a job that asks the register of a file
     pub job_leads : (files : Handlings) (j : Job) → IsPerformed desk held rest read files comings j s status → AsksRegister j → Leading j
@@ -314,7 +314,7 @@ module _ {D R : Type 0} {g : Ghosts D} (desk : Desk.Ghosts R) (held : Image) (re
     job_leads files (job.Run numbered) did asks = absurd asks
     job_leads files (job.Create db config) did asks = absurd asks
     job_leads files (job.Migrate db) did asks = absurd asks
-    job_leads files (job.Serve db port count seconds) (did, none, kept, handled) asks = serve files db port count seconds did
+    job_leads files (job.Serve db port count seconds memory) (did, none, kept, handled) asks = serve files db port count seconds memory did
     job_leads files (job.Ask db numbered) (done, did, ends, none, quiet, handled) asks = ask db numbered done quiet did ends
     job_leads files (job.Report db query) (done, shown, says, none, quiet, handled) asks = report db query done quiet.1 shown says
     job_leads files (job.Picture db variant since supplier) (done, shown, says, none, quiet, handled) asks = picture db variant since supplier done quiet.1 shown says

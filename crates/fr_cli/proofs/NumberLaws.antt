@@ -57,12 +57,12 @@ no_number name least most rows None none lacks = lacks
 apart : {X : Type 0} (a b : Text) → bytes_eq a b ≡ false → a ≡ b → X
 apart a b differ same = let no : true ≡ false = sym ((bytes_eq-Decides a b).1 same) ∙ differ in cc
 
--- a server's words have three numbers
+-- a server's words have four numbers
 pub numbers_of : (rows : List Row) (job : Job) → IsJobOf job (codes "serve") rows
     → ((port : ℕ) × HasNumber (codes "PORT") 1 65535 rows port) × ((count : ℕ) × HasNumber (codes "count") 1 1000000 rows count)
-    × ((seconds : ℕ) × HasNumber (codes "seconds") 1 3600 rows seconds)
+    × ((seconds : ℕ) × HasNumber (codes "seconds") 1 3600 rows seconds) × ((memory : ℕ) × HasNumber (codes "memory") 1 1000000 rows memory)
 unfolding asked_with
-numbers_of rows (Serve db port count seconds) is = ((port, is.2), (count, is.3), (seconds, is.4))
+numbers_of rows (Serve db port count seconds memory) is = ((port, is.2), (count, is.3), (seconds, is.4), (memory, is.5))
 numbers_of rows (Run numbered) is = apart _ _ refl is.0
 numbers_of rows (Create db config) is = apart _ _ refl is.0
 numbers_of rows (Migrate db) is = apart _ _ refl is.0
@@ -81,9 +81,10 @@ numbers_of rows (Explain word) is = apart _ _ refl is.0
 -- without one of them no server is asked for
 pub no_server : (rows : List Row) (job : Option Job) → job ≡ None
     → ((number : ℕ) → HasNumber (codes "PORT") 1 65535 rows number → ⊥) ⊎ (((number : ℕ) → HasNumber (codes "count") 1 1000000 rows number → ⊥)
-    ⊎ ((number : ℕ) → HasNumber (codes "seconds") 1 3600 rows number → ⊥))
+    ⊎ (((number : ℕ) → HasNumber (codes "seconds") 1 3600 rows number → ⊥) ⊎ ((number : ℕ) → HasNumber (codes "memory") 1 1000000 rows number → ⊥)))
     → IsJobIn job (codes "serve") rows
 no_server rows (Some job) none lacks = cc
 no_server rows None none (inl lacks) = λ job is. let has = (numbers_of rows job is).0 in lacks has.0 has.1
 no_server rows None none (inr (inl lacks)) = λ job is. let has = (numbers_of rows job is).1 in lacks has.0 has.1
-no_server rows None none (inr (inr lacks)) = λ job is. let has = (numbers_of rows job is).2 in lacks has.0 has.1
+no_server rows None none (inr (inr (inl lacks))) = λ job is. let has = (numbers_of rows job is).2 in lacks has.0 has.1
+no_server rows None none (inr (inr (inr lacks))) = λ job is. let has = (numbers_of rows job is).3 in lacks has.0 has.1

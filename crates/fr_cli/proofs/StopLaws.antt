@@ -123,11 +123,11 @@ module _ {D K : Type 0} (g : Ghosts D) (desk : Desk.Ghosts K) (leaves : K → Le
         let (lines, answers, were, all) = answered_lines desk held rest read comings s status numbered asked (ends.0 ∙ ap status_of same) has in
         inr (last, Lines lines answers, were, old, new, over, lines_stop last old new over lines answers all.1)
 
-    serve : (files : Handlings) (db : Bor (List ℕ)) (port count seconds : ℕ) → Serves desk held rest read files comings port count seconds s status → Stopping (job.Serve db port count seconds)
+    serve : (files : Handlings) (db : Bor (List ℕ)) (port count seconds memory : ℕ) → Serves desk held rest read files comings port count seconds s status → Stopping (job.Serve db port count seconds memory)
     unfolding IsServed
-    serve files db port count seconds (done, mid, ends, announced, inl (fault, failed, not, stayed, silent, kept), tells) =
+    serve files db port count seconds memory (done, mid, ends, announced, inl (fault, failed, not, stayed, silent, kept), tells) =
         inl (not_served desk held rest read comings s status done mid fault ends failed not stayed silent kept tells)
-    serve files db port count seconds (done, mid, ends, announced, inr (last, old, new, over, has), tells) = inr (
+    serve files db port count seconds memory (done, mid, ends, announced, inr (last, old, new, over, has), tells) = inr (
       last,
       Visits has.visits,
       (has.came_in, all_served desk held rest read comings s status count has.visits done ends has.all),
@@ -142,7 +142,7 @@ module _ {D K : Type 0} (g : Ghosts D) (desk : Desk.Ghosts K) (leaves : K → Le
     job_stops files (job.Run numbered) did on = absurd on
     job_stops files (job.Create db config) did on = absurd on
     job_stops files (job.Migrate db) did on = absurd on
-    job_stops files (job.Serve db port count seconds) (did, none, kept, handled) on = serve files db port count seconds did
+    job_stops files (job.Serve db port count seconds memory) (did, none, kept, handled) on = serve files db port count seconds memory did
     job_stops files (job.Ask db numbered) (done, did, ends, none, quiet, handled) on = ask db numbered done quiet did ends
     job_stops files (job.Report db query) did on = absurd on
     job_stops files (job.Picture db variant since supplier) did on = absurd on

@@ -126,13 +126,15 @@ serve_job : (s : Shape) → s.args_override_self ≡ false → s.name ≡ codes 
     → has_word s.rules (codes "PORT") ≡ true
     → IsNumber s.rules (codes "PORT") 1 65535 → has_word s.rules (codes "count") ≡ true
     → IsNumber s.rules (codes "count") 1 1000000 → has_word s.rules (codes "seconds") ≡ true
-    → IsNumber s.rules (codes "seconds") 1 3600 → AlwaysHasJob s
-serve_job s once named db port ports many counts long seconds rest fine =
+    → IsNumber s.rules (codes "seconds") 1 3600 → has_word s.rules (codes "memory") ≡ true
+    → IsNumber s.rules (codes "memory") 1 1000000 → AlwaysHasJob s
+serve_job s once named db port ports many counts long seconds much memory rest fine =
     let at = there s once rest fine (codes "DB") db in
     let number = count s once rest fine (codes "PORT") 1 65535 port ports in
     let connections = count s once rest fine (codes "count") 1 1000000 many counts in
     let time = count s once rest fine (codes "seconds") 1 3600 long seconds in
-    (job.Serve (lent at.text) number.0 connections.0 time.0, (named, at.first, number.1, connections.1, time.1))
+    let pages = count s once rest fine (codes "memory") 1 1000000 much memory in
+    (job.Serve (lent at.text) number.0 connections.0 time.0 pages.0, (named, at.first, number.1, connections.1, time.1, pages.1))
 
 -- The subcommand asks for this report, and each of its words is there.
 abbrev AsksReport : Shape → Question → Type 0
@@ -237,7 +239,7 @@ all_ask =
     asks _ (run_job _ refl)
     and asks _ (create_job _ refl refl refl refl)
     and asks _ (migrate_job _ refl refl refl)
-    and asks _ (serve_job _ refl refl refl refl refl refl refl refl refl)
+    and asks _ (serve_job _ refl refl refl refl refl refl refl refl refl refl refl)
     and asks _ (ask_job _ refl refl refl)
     and each_report reports reports_ask (inr (export_job _ refl refl refl (λ header. (refl, (refl, refl))))
     and asks _ (picture_job _ refl refl refl refl)

@@ -35,6 +35,15 @@ seconds_are_ten : option_map (λ found. one_of (codes "seconds") found.1)
 unfolding clap_on_literals
 seconds_are_ten = refl
 
+memory_is_read : option_map (λ found. one_of (codes "memory") found.1)
+    (subcommand_of slotplan (codes "serve" ∷ codes "car.db" ∷ codes "8080" ∷ codes "--memory" ∷ codes "64" ∷ [])) ≡ Some (Some (codes "64"))
+unfolding clap_on_literals
+memory_is_read = refl
+
+no_memory : fault_of slotplan (codes "serve" ∷ codes "car.db" ∷ codes "8080" ∷ codes "--memory" ∷ codes "0" ∷ []) ≡ kinds.ValueValidation ∷ []
+unfolding clap_on_literals
+no_memory = refl
+
 port_too_great : fault_of slotplan (codes "serve" ∷ codes "car.db" ∷ codes "65536" ∷ []) ≡ kinds.ValueValidation ∷ []
 unfolding clap_on_literals
 port_too_great = refl

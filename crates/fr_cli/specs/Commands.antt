@@ -42,6 +42,16 @@ seconds = record (new_rule (codes "seconds")) {
   parser = Some (Signed (pos 1) (pos 3600));
 }
 
+-- how many mebibytes of pages are kept
+abbrev pub memory : Rule
+memory = record (new_rule (codes "memory")) {
+  long = Some (codes "memory");
+  action = Some Set;
+  value_names = 1;
+  defaults = codes "128" ∷ [];
+  parser = Some (Signed (pos 1) (pos 1000000));
+}
+
 -- a word that may stand at its place
 abbrev pub free_word : Text → Rule
 free_word name = record (new_rule name) { action = Some Set }
@@ -60,7 +70,7 @@ abbrev pub migrate : App
 migrate = with_rule (new_app (codes "migrate")) (word (codes "DB"))
 
 abbrev pub serve : App
-serve = with_rule (with_rule (with_rule (with_rule (new_app (codes "serve")) (word (codes "DB"))) port) count) seconds
+serve = with_rule (with_rule (with_rule (with_rule (with_rule (new_app (codes "serve")) (word (codes "DB"))) port) count) seconds) memory
 
 abbrev pub ask : App
 ask = with_rule (with_rule (new_app (codes "ask")) (word (codes "DB"))) (flag (codes "lines"))

@@ -114,7 +114,7 @@ IsAskedOf read delivery s asks = (body key : List ℕ) × read.front max_rows de
 -- The job did this, by what was read of text files, the connections that came in, its streams and its status.
 abbrev pub IsDeedOf : {O E : Type 0} {printed : SinkGhosts O} {told : SinkGhosts E} → Readings → Comings → Streams printed told → ℕ → Job → Deed → Type 0
 IsDeedOf read comings s status (job.Ask db numbered) (Lines lines answers) = WereLines numbered s status lines answers
-IsDeedOf read comings s status (job.Serve db port count seconds) (Visits visits) = comings.at port seconds visits × (status ≡ 0 → length visits ≡ count)
+IsDeedOf read comings s status (job.Serve db port count seconds memory) (Visits visits) = comings.at port seconds visits × (status ≡ 0 → length visits ≡ count)
 IsDeedOf read comings s status (job.Report db query) (Asked asks (Some answer)) = (asks ≡ query_of query) × IsShown s status (for_reader answer)
 IsDeedOf read comings s status (job.Report db query) (Asked asks None) = (asks ≡ query_of query) × LacksAnswer s status
 IsDeedOf read comings s status (job.Picture db variant since supplier) (Drawn reader of from (Some drawn)) =

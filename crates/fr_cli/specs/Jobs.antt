@@ -54,7 +54,7 @@ Shows done s status = IsTold s.out s.err done status
 abbrev pub path_of : Job → List ℕ
 path_of (job.Create db config) = db.now
 path_of (job.Migrate db) = db.now
-path_of (job.Serve db port count seconds) = db.now
+path_of (job.Serve db port count seconds memory) = db.now
 path_of (job.Ask db numbered) = db.now
 path_of (job.Report db query) = db.now
 path_of (job.Picture db variant since supplier) = db.now
@@ -93,7 +93,7 @@ module _ {D R O E : Type 0} {g : Ghosts D} {printed : SinkGhosts O} {told : Sink
       × Ends (of_script done) s status × read.none × comings.none × AreUntouched files rest
   IsPerformed (job.Create db config) s status = Creates config.now s status × Quiet s × IsMadeAt files rest read db.now config.now
   IsPerformed (job.Migrate db) s status = Migrates s status × read.none × Quiet s × files.migrated db.now
-  IsPerformed (job.Serve db port count seconds) s status = Serves port count seconds s status × read.none × Keeps s.input.old s.input.new × IsOpenedAt files rest db.now
+  IsPerformed (job.Serve db port count seconds memory) s status = Serves port count seconds s status × read.none × Keeps s.input.old s.input.new × IsOpenedAt files rest db.now
   IsPerformed (job.Ask db numbered) s status = (done : Result ⊤ Fault) × IsAsked numbered desk held rest s.input.old s.input.new s.out done
       × Ends done s status × read.none × comings.none × IsOpenedAt files rest db.now
   IsPerformed (job.Report db query) s status = (done : Result (Vec ℕ) Failure) × Shows done s status

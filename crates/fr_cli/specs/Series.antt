@@ -84,7 +84,7 @@ LeadsSomehow held turn last = (c : Cluster) (b : Book) → Held held c b → IsS
 
 -- The job opens a register's file, to ask the register.
 abbrev pub AsksRegister : Job → Type 0
-AsksRegister (job.Serve db port count seconds) = ⊤
+AsksRegister (job.Serve db port count seconds memory) = ⊤
 AsksRegister (job.Ask db numbered) = ⊤
 AsksRegister (job.Report db query) = ⊤
 AsksRegister (job.Picture db variant since supplier) = ⊤

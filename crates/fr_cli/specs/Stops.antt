@@ -40,7 +40,7 @@ IsJoined _ _ _ = ⊥
 
 -- The job answers lines, or serves connections.
 abbrev pub AnswersOn : Job → Type 0
-AnswersOn (job.Serve db port count seconds) = ⊤
+AnswersOn (job.Serve db port count seconds memory) = ⊤
 AnswersOn (job.Ask db numbered) = ⊤
 AnswersOn _ = ⊥
 

@@ -1,6 +1,6 @@
 -- Program's words: which job the words of the command line name, and which number a word is. When `clap` takes them; and
 -- why they are refused: they ask for help, have another fault, or name no job.
-use Rattle.std.specs.Prelude.{◌≡◌, ◌≢◌, ◌≤◌, ◌⊎◌, [], ℕ, Bool, true, false, if◌then◌else◌, List, None, Option, Some, codes, option_and_then, option_map, Result, Ok, MatchResult, ⊤}
+use Rattle.std.specs.Prelude.{◌*◌, ◌≡◌, ◌≢◌, ◌≤◌, ◌⊎◌, [], ℕ, Bool, true, false, if◌then◌else◌, List, None, Option, Some, codes, option_and_then, option_map, Result, Ok, MatchResult, ⊤}
 use Rattle.std.specs.Option.{option_map_or}
 use Rattle.std.specs.Str.{bytes_eq}
 use Rattle.std.specs.Borrow.{Bor}
@@ -19,6 +19,7 @@ use Rattle.fr_base.specs.declared.query.Query.{Query}
 use Rattle.fr_base.specs.declared.report.Report.TheVariants.{Export}
 use Rattle.fr_base.specs.declared.delivery.Manner.{Manner}
 use Rattle.fr_base.specs.declared.delivery.Manner.TheVariants.{Import, Replace}
+use Rattle.fr_office.specs.declared.page_bytes.TheConstants.{MAX_BYTES}
 use Rattle.fr_cli.specs.Commands.{slotplan}
 use Rattle.fr_cli.specs.Reports.{argument_name, asked_with}
 use Rattle.fr_cli.specs.declared.words.Job.{Job}
@@ -145,9 +146,9 @@ abbrev pub IsJobOf : Job → Text → List Row → Type 0
 IsJobOf (Run numbered) name rows = (name ≡ codes "run") × (numbered ≡ is_given (codes "lines") rows)
 IsJobOf (Create db config) name rows = (name ≡ codes "create") × Has (codes "DB") rows db.now × Has (codes "CONFIG") rows config.now
 IsJobOf (Migrate db) name rows = (name ≡ codes "migrate") × Has (codes "DB") rows db.now
-IsJobOf (Serve db port count seconds) name rows = (name ≡ codes "serve") × Has (codes "DB") rows db.now
+IsJobOf (Serve db port count seconds memory) name rows = (name ≡ codes "serve") × Has (codes "DB") rows db.now
     × HasNumber (codes "PORT") 1 65535 rows port × HasNumber (codes "count") 1 1000000 rows count
-    × HasNumber (codes "seconds") 1 3600 rows seconds
+    × HasNumber (codes "seconds") 1 3600 rows seconds × HasNumber (codes "memory") 1 1000000 rows memory
 IsJobOf (Ask db numbered) name rows = (name ≡ codes "ask") × Has (codes "DB") rows db.now × (numbered ≡ is_given (codes "lines") rows)
 IsJobOf (ReportOn db query) name rows = Has (codes "DB") rows db.now × IsAnswerable (asked_by name rows) rows query.query
     × IsOfSupplier query.supplier rows
@@ -156,6 +157,12 @@ IsJobOf (Picture db variant since supplier) name rows = (name ≡ codes "picture
 IsJobOf (Deliver db delivery) name rows = (name ≡ word_of_delivery delivery.how) × Has (codes "DB") rows db.now × IsDeliveryIn rows delivery
 IsJobOf (Check file) name rows = (name ≡ codes "check") × IsFileOf file rows
 IsJobOf (Explain word) name rows = (name ≡ codes "explain") × (option_map (λ w. w.now) word ≡ first_of (codes "WORD") rows)
+
+-- how many bytes of pages a job's register may keep on each of its two shelves: a server half of the mebibytes that it is told, each other
+-- job as much as where nothing is said
+abbrev pub kept_by : Job → ℕ
+kept_by (Serve db port count seconds memory) = memory * 524288
+kept_by _ = MAX_BYTES
 
 -- The job is that of the subcommand of this name with these words. Where none is given, the subcommand has none with them.
 abbrev pub IsJobIn : Option Job → Text → List Row → Type 0

@@ -70,6 +70,7 @@ pub fn perform<G: Registers, F: TextFiles, R: Read, O: Sink, E: Sink, L: Listene
             port,
             count,
             seconds,
+            ..
         } => {
             let service = Service {
                 port,

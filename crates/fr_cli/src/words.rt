@@ -2,7 +2,7 @@
 ghost use Rattle.std.specs.Prelude.{◌≡◌, ◌⊎◌, codes, map, option_map, string_bytes, IfErr, IfOk, OnOk};
 ghost use Rattle.clap.specs.Walk.{first_of, rows_of};
 ghost use Rattle.clap.specs.Words.{found_of, kind_of, subcommand_rows_of};
-ghost use Rattle.fr_cli.specs.Words.{AreTaken, AskFor, HasPurpose, IsFaultOf, IsFileIn, IsJobFound, IsJobIn, IsJobOf, IsNumberIn, IsOfKind, IsReportJobIn, LackAnObject, MayRefuse, asked_by, header_in, is_given, manner_in, records, word_of_delivery};
+ghost use Rattle.fr_cli.specs.Words.{AreTaken, AskFor, HasPurpose, IsFaultOf, IsFileIn, IsJobFound, IsJobIn, IsJobOf, IsNumberIn, IsOfKind, IsReportJobIn, LackAnObject, MayRefuse, asked_by, header_in, is_given, kept_by, manner_in, records, word_of_delivery};
 ghost use Rattle.fr_cli.specs.declared.words.WordFault.TheVariants.{NoMemory};
 
 pub(crate) mod check_subject;
@@ -12,13 +12,14 @@ pub(crate) mod inquiry;
 pub(crate) mod reports;
 
 use crate::words::check_subject::CheckSubject;
-use crate::words::commands::{MAX_CONNECTIONS, MAX_PORT, MAX_SECONDS, program};
+use crate::words::commands::{MAX_CONNECTIONS, MAX_MEMORY, MAX_PORT, MAX_SECONDS, program};
 use crate::words::delivery::Delivery;
 use crate::words::inquiry::Inquiry;
 use crate::words::reports::{argument_name, asked_with};
 use clap::error::ErrorKind;
 use clap::{ArgMatches, Error};
 use fr_base::{FieldName, Header, Manner, Purpose, Query, QueryReader, Question, Report};
+use fr_office::MAX_BYTES;
 use std::alloc::Global;
 
 /// What is said of words of `check` that name no job, though `clap` takes them.
@@ -30,6 +31,9 @@ const NO_ROWS: &str = "export takes ROWS that are frames, placements or signals"
 
 /// What is said of words of `try` that name no job, though `clap` takes them.
 const NO_REPLACEMENT: &str = "try takes --whole only with --replace";
+
+/// Half of a mebibyte, in bytes.
+const HALF_MEBIBYTE: usize = 524_288;
 
 /// What the program is to do.
 #[derive(Clone, Copy, PartialEq, Eq)]
@@ -49,12 +53,14 @@ pub enum Job<'a> {
         db: &'a str,
     },
     /// Serve a register file on this port, 1 to 65,535, for so many connections, 1 to 1,000,000, each of
-    /// which lasts so many seconds at most, 1 to 3,600.
+    /// which lasts so many seconds at most, 1 to 3,600. Pages of at most so many MiB are kept beside the one in use, 1 to
+    /// 1,000,000.
     Serve {
         db: &'a str,
         port: u16,
         count: u32,
         seconds: u32,
+        memory: u32,
     },
     /// Answer the requests on standard input over a register file; each answer with the number of its request's line in the
     /// input, where lines are numbered.
@@ -89,6 +95,19 @@ pub enum Job<'a> {
     Explain {
         word: Option<&'a str>,
     },
+}
+
+impl Job<'_> {
+    /// The most bytes of pages on each of the two shelves of the job's register. A server keeps half of what it is told on
+    /// each, and each other job as much as where nothing is said.
+    pub fn kept_bytes(&self) -> usize
+        ensures { result ≡ kept_by self.now }
+    {
+        match *self {
+            Job::Serve { memory, .. } => memory as usize * HALF_MEBIBYTE,
+            _ => MAX_BYTES,
+        }
+    }
 }
 
 /// Why words name no job.
@@ -205,6 +224,7 @@ fn serve_job<'a>(found: &ArgMatches<'a>) -> Option<Job<'a>>
         port: u16::try_from(number(found, "PORT", 1, MAX_PORT)?).ok()?,
         count: number(found, "count", 1, MAX_CONNECTIONS)?,
         seconds: number(found, "seconds", 1, MAX_SECONDS)?,
+        memory: number(found, "memory", 1, MAX_MEMORY)?,
     })
 }
 

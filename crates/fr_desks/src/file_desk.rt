@@ -98,12 +98,13 @@ pub fn migrate<S: Start>(
 }
 
 /// The desk of the register in the file at a path, which stands for the book that the file holds, or that a crash left in
-/// it. `start` says what the file held as it was opened. No clause reaches the path: where there is no file there is no
-/// register, and none is made.
+/// it. Beside the page in use it keeps pages on two shelves, each of at most `kept` bytes or one page. `start` says what the
+/// file held as it was opened. No clause reaches the path: where there is no file there is no register, and none is made.
 pub fn open<S: Start>(
     rt: &HostRuntime,
     path: &str,
     start: S,
+    kept: usize,
 ) -> Result<FileDesk<S>, FileFault<FileFrom<S>>>
     ensures found { let it = ⟦<FileDesk<S> as Desk>⟧ in IfOk result (λ desk.
         FindsHeld (image_at S.Start) (it.clean desk) (it.stands desk)) }
@@ -117,7 +118,7 @@ pub fn open<S: Start>(
         return Err((StoreFault::NotARegister, None));
     }
     match Store::open_at(rt, path, start) {
-        Ok(store) => Ok(Office::new(rt.alloc(), store, MAX_BYTES)),
+        Ok(store) => Ok(Office::new(rt.alloc(), store, kept)),
         Err(refused) => Err(refused),
     }
 }

@@ -61,7 +61,7 @@ impl<R: Records> Desk for Office<R> {
 
 impl<R: Records> Office<R> {
     /// The office of the register that has these records, with no page kept yet. Beside the page that was used last it will
-    /// keep others of at most twice so many bytes, by its own count.
+    /// keep others on two shelves, each of at most so many bytes, by its own count, or one page.
     pub fn new(alloc: Global, records: R, kept: usize) -> Office<R>
         ensures value { result ≡ record {
           records = records;

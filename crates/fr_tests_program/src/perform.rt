@@ -32,6 +32,7 @@ fn perform_from<S: Start>(
     let mut registers = LocalRegisters {
         rt,
         start: Some(start),
+        kept: job.kept_bytes(),
     };
     perform(
         rt.alloc(),
@@ -76,7 +77,7 @@ fn delivery_of<'a>(db: &'a str, how: Purpose<&'a str>, file: &'a str) -> Job<'a>
 
 // Opens a variant in the register file, adds a node and grants it a slot.
 fn granted(rt: &HostRuntime, db: &str) -> Result<(), Fail> {
-    let mut desk = file_desk::open(rt, db, Unknown).map_err(|(fault, _)| fault)?;
+    let mut desk = file_desk::open(rt, db, Unknown, 0).map_err(|(fault, _)| fault)?;
     carried_out(rt.alloc(), &mut desk, &PLAN[..3])?;
     drop(file_desk::close(desk));
     Ok(())
@@ -130,6 +131,7 @@ fn a_fault_is_told_by_its_word(rt: HostRuntime) -> Result<(), Fail> {
         port,
         count: 1,
         seconds: 10,
+        memory: 128,
     };
     assert!(rt; fails(&rt, &serve, "slotplan: CannotListen\n"));
     for path in [db, config, text] {

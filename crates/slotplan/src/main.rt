@@ -53,6 +53,7 @@ fn perform_from<S: Start, O: Sink, E: Sink, L: Listener>(
     let mut registers = LocalRegisters {
         rt,
         start: Some(start),
+        kept: job.kept_bytes(),
     };
     perform(
         rt.alloc(),

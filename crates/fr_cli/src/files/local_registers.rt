@@ -29,6 +29,8 @@ pub struct LocalRegisters<'a, S> {
     pub rt: &'a HostRuntime,
     /// Says what the file holds that is opened; none behind that.
     pub start: Option<S>,
+    /// The most bytes of pages on each of a register's two shelves.
+    pub kept: usize,
 }
 
 impl<'a, S: Start> Registers for LocalRegisters<'a, S> {
@@ -57,13 +59,13 @@ impl<'a, S: Start> Registers for LocalRegisters<'a, S> {
 
     fn open(&mut self, path: &str) -> Result<FileDesk<S>, FileFault<FileFrom<S>>> {
         match self.start.take() {
-            Some(start) => file_desk::open(self.rt, path, start),
+            Some(start) => file_desk::open(self.rt, path, start, self.kept),
             None => Err((StoreFault::Unavailable, None)),
         }
     }
 
     fn close(&mut self, records: Store<FileStore<FileFrom<S>>>) -> Leftover<FileFrom<S>> {
-        file_desk::close(Office::new(self.rt.alloc(), records))
+        file_desk::close(Office::new(self.rt.alloc(), records, self.kept))
     }
 
     // A file that is made for the register is read and written by its owner alone.

@@ -22,6 +22,9 @@ pub const MAX_CONNECTIONS: u32 = 1_000_000;
 /// The most seconds that a connection may last.
 pub const MAX_SECONDS: u32 = 3_600;
 
+/// The most mebibytes of pages that a server may be told to keep.
+pub const MAX_MEMORY: u32 = 1_000_000;
+
 /// The program's command line: a subcommand for each thing that it does.
 pub fn program<'a>(alloc: Global) -> Result<Command<'a>, AllocError>
     ensures { IfOk result (IsReadAs app.slotplan) }
@@ -101,7 +104,8 @@ fn serve<'a>(alloc: Global) -> Result<Command<'a>, AllocError>
         .arg(db(alloc))?
         .arg(port(alloc))?
         .arg(count(alloc))?
-        .arg(seconds(alloc))?;
+        .arg(seconds(alloc))?
+        .arg(memory(alloc))?;
     Ok(command)
 }
 
@@ -136,6 +140,19 @@ fn seconds<'a>(alloc: Global) -> Arg<'a>
         .action(ArgAction::Set)
         .default_value("10")
         .value_parser(value_parser!(u32).range(1..=3_600))
+}
+
+// How many mebibytes of pages are kept at most, 1 to [`MAX_MEMORY`].
+fn memory<'a>(alloc: Global) -> Arg<'a>
+    ensures { (rule_of result ≡ app.memory) × (result.global ≡ false) }
+{
+    Arg::new(alloc, "memory")
+        .long("memory")
+        .value_name("MIB")
+        .help("Keeps pages of at most so many MiB in memory")
+        .action(ArgAction::Set)
+        .default_value("128")
+        .value_parser(value_parser!(u32).range(1..=1_000_000))
 }
 
 fn ask<'a>(alloc: Global) -> Result<Command<'a>, AllocError>

@@ -9,4 +9,7 @@ pub returns-in_err-number-2 : goal.returns-in_err-number-2
 returns-in_err-number-2 c = no_server _ _ c.from_residual-in_err-number-2.ensures (inr (inl c.in_err-number-2.ensures))
 
 pub returns-in_err-number-3 : goal.returns-in_err-number-3
-returns-in_err-number-3 c = no_server _ _ c.from_residual-in_err-number-3.ensures (inr (inr c.in_err-number-3.ensures))
+returns-in_err-number-3 c = no_server _ _ c.from_residual-in_err-number-3.ensures (inr (inr (inl c.in_err-number-3.ensures)))
+
+pub returns-in_err-number-4 : goal.returns-in_err-number-4
+returns-in_err-number-4 c = no_server _ _ c.from_residual-in_err-number-4.ensures (inr (inr (inr c.in_err-number-4.ensures)))

@@ -8,6 +8,7 @@ pub returns : goal.returns
 returns c =
     let new : IsReadAs (new_app (codes "serve")) c.after_help.result = search rules in
     with_arg _ _ _ _ _ c.in_ok-command.ensures
+    (with_arg _ _ _ _ _ c.in_ok-arg-4.ensures
     (with_arg _ _ _ _ _ c.in_ok-arg-3.ensures
     (with_arg _ _ _ _ _ c.in_ok-arg-2.ensures
-    (with_arg _ _ _ _ _ c.in_ok-arg.ensures new c.db.ensures) c.port.ensures) c.count.ensures) c.seconds.ensures
+    (with_arg _ _ _ _ _ c.in_ok-arg.ensures new c.db.ensures) c.port.ensures) c.count.ensures) c.seconds.ensures) c.memory.ensures
