@@ -7,6 +7,7 @@ use Rattle.fr_base.specs.Book.{Book, Frame, Variant, is_of}
 use Rattle.fr_base.specs.Checks.{check, has_repetition, name, query}
 use Rattle.fr_base.specs.Cluster.{Cluster}
 use Rattle.fr_base.specs.Names.{is_name, same_text}
+use Rattle.fr_base.specs.QueryNames.{report_in}
 use Rattle.fr_base.specs.Queries.{found, frame_row, frames_of, reply, shown}
 use Rattle.fr_base.specs.Refusing.{◌>>=◌, ◌>>◌, ◌or◌, refuse◌when◌}
 use Rattle.fr_base.specs.Sound.{IsSound}
@@ -75,7 +76,7 @@ module _ (c : Cluster) (b : Book) (s : Name) where
 
   -- the lines of the step, by whether the supplier is known and the variant's name is one
   its_lines : (known named : Bool) (variant : List ℕ) → HasIts (outcome b ((refuse UnknownKey when not known)
-      >> (((refuse NotYours when false) >> (((if named then Ok variant else Err BadName) >>= λ v. report Frames >>= λ r. Ok (OfVariant v r))
+      >> (((refuse NotYours when false) >> (((if named then Ok variant else Err BadName) >>= λ v. report_in name Ok Frames >>= λ r. Ok (OfVariant v r))
       >>= λ q. (refuse BadCycles when not (has_repetition c.params q)) >> Ok (checked.Query q))) >>= λ valid. act c b (Supplier s) valid))).answer
   unfolding act reply found outcome ◌>>=◌ ◌>>◌ refuse◌when◌
   its_lines false named variant = tt

@@ -12,6 +12,7 @@ use Rattle.fr_base.specs.Checks.{check, has_repetition, is_integrator, name, que
 use Rattle.fr_base.specs.Cluster.{Cluster}
 use Rattle.fr_base.specs.Keys.{names}
 use Rattle.fr_base.specs.Names.{is_name, same_text}
+use Rattle.fr_base.specs.QueryNames.{report_in}
 use Rattle.fr_base.specs.Queries.{found, frame_row, frames_of, held, reply, shown, variant_row, variants_of}
 use Rattle.fr_base.specs.Refusing.{◌>>=◌, ◌>>◌, ◌or◌, refuse◌when◌}
 use Rattle.fr_base.specs.Step.{act, knows, outcome, step}
@@ -67,7 +68,7 @@ module _ (c : Cluster) (b : Book) (actor : Actor) (v : Name) (asked : Report (Li
       gives_when _ _ _ _ (λ _.
       gives_bind _ (λ q. (r : Report Name ℕ) × (q ≡ OfVariant v r)) _ _
       (gives_bind _ _ (name v) _ (name-is v) (λ w is.
-      gives_each _ (report asked) _ (λ r _. (r, ap (λ n. OfVariant n r) is)))) (λ q is.
+      gives_each _ (report_in name Ok asked) _ (λ r _. (r, ap (λ n. OfVariant n r) is)))) (λ q is.
       gives_unless _ _ (has_repetition c.params q) _ (λ _. (is.0, ap checked.Query is.1))))
 
   by_lines : (known : Bool) (r : Result Checked Refusal) (all : Bool) (told : ReportRows) → IfOk r (IsQuery v)
@@ -189,7 +190,7 @@ module _ (c : Cluster) (b : Book) (s : Name) where
 
   -- the lines of the step, by whether the supplier is known and the variant's name is one
   its_lines : (known named : Bool) (variant : List ℕ) → HasOf (Supplier s) (outcome b ((refuse UnknownKey when not known)
-      >> (((refuse NotYours when false) >> (((if named then Ok variant else Err BadName) >>= λ v. report Frames >>= λ r. Ok (OfVariant v r))
+      >> (((refuse NotYours when false) >> (((if named then Ok variant else Err BadName) >>= λ v. report_in name Ok Frames >>= λ r. Ok (OfVariant v r))
       >>= λ q. (refuse BadCycles when not (has_repetition c.params q)) >> Ok (checked.Query q))) >>= λ valid. act c b (Supplier s) valid))).answer
   unfolding act reply found outcome ◌>>=◌ ◌>>◌ refuse◌when◌
   its_lines false named variant = tt
