@@ -340,10 +340,11 @@ class OfSpreadsheets(FileCase):
         self.browser.click("#carry-out")
         self.says("2 rows of weeks.ods imported under the label weeks.")
         self.see("the register has them", True, "FRAME rain front_camera\nAT 0017 B 01 04\n" in self.frames())
-        self.file("twice.ods", open_workbook([*records, records[1]]))
+        self.file("twice.ods", open_workbook([*records, records[2]]))
         self.browser.press("Take the sheet", "#view-files")
         fates = self.fates(3)
         self.see("a row that stands there twice is two", [True] * 3, ["CellTaken (25)" in fate for fate in fates])
+        self.tells("many.ods", open_workbook(records[:2] + records[2:] * 1001), "It cannot be read: It is too large.")
 
     def test_columns(self):
         """Columns in another order, or beside others, are taken by their names where these can mean one thing alone."""

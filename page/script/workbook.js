@@ -38,7 +38,7 @@ function openSheets(xml) {
 
 // What is read of elements, each as often as it stands there, up to the last that has something in it.
 function unrolled(found, what, read) {
-  const runs = found.map(one => [read(one), Number(one.fields[`table:number-${what}-repeated`] ?? 1)]);
+  const runs = found.map(one => [read(one), (one.fields[`table:number-${what}-repeated`] ?? 1) >>> 0]);
   const kept = runs.slice(0, runs.findLastIndex(([value]) => value.length) + 1);
   if (kept.some(([, times]) => times > 1000)) throw new NoWorkbook("It is too large.");
   return kept.flatMap(([value, times]) => Array(times).fill(value));
