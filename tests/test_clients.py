@@ -2,12 +2,14 @@
 
 What is wanted was typed by hand."""
 import os
+import ssl
 import subprocess
 import sys
 from contextlib import contextmanager
 from dataclasses import replace
 from http.server import BaseHTTPRequestHandler, HTTPServer
 from threading import Thread
+from unittest.mock import patch
 
 from clients import archive
 from clients.slotplan_plans.comparing import differences
@@ -160,9 +162,13 @@ class Pages(BaseHTTPRequestHandler):
 
 
 @contextmanager
-def pages():
-    """The port of such a server."""
+def pages(certificate=None):
+    """The port of such a server, by TLS where it has a certificate."""
     with HTTPServer(("127.0.0.1", 0), Pages) as server:
+        if certificate:
+            context = ssl.SSLContext(ssl.PROTOCOL_TLS_SERVER)
+            context.load_cert_chain(certificate)
+            server.socket = context.wrap_socket(server.socket, server_side=True)
         thread = Thread(target=server.serve_forever, kwargs={"poll_interval": 0.01})
         thread.start()
         try:
@@ -207,6 +213,18 @@ class Ends(ClientCase):
         self.stops(no_report, "table", "car.db", "v1", "nodes", "--program", "./greets", program=False)
         self.stops("http://[::1: Invalid IPv6 URL", "table", "http://[::1", "v1", "nodes", "--key", "integrator.key")
         self.see("no script", False, (self.folder / "a.script").exists())
+
+    def test_certificate(self):
+        """Whose certificate nobody knows is not shown the key, but where SSL_CERT_FILE names that certificate."""
+        self.has("integrator.key", "integrator1\n")
+        words = "req -x509 -newkey rsa:2048 -nodes -days 2 -subj /CN=own -addext subjectAltName=IP:127.0.0.1 -keyout own.pem -out own.pem"
+        subprocess.run(["openssl", *words.split()], cwd=self.folder, check=True, capture_output=True)
+        with pages(self.folder / "own.pem") as port:
+            asked = "table", f"https://127.0.0.1:{port}", "v1", "nodes", "--key", "integrator.key"
+            _, _, said = self.client(*asked)
+            self.see(f"{said!r} tells why", True, "certificate verify failed" in said)
+            with patch.dict(os.environ, SSL_CERT_FILE=str(self.folder / "own.pem")):
+                self.stops("what SOURCE tells is no report of a register", *asked)
 
     def test_keys(self):
         """Of a server."""
