@@ -132,9 +132,9 @@ none-among k None = refl
 none-among k (Some h) = refl
 
 -- the grants of no supplier
-pub lanes-none : (es : List (ChannelSlot × LaneHolder)) → es ≡ [] → (grants : Table channel_slots book.Holder) → grants_in_lanes es ≡ grants_among [] grants
+pub lanes_none : (es : List (ChannelSlot × LaneHolder)) → es ≡ [] → (grants : Table channel_slots book.Holder) → grants_in_lanes es ≡ grants_among [] grants
 unfolding table_of from_rows
-lanes-none es e grants =
+lanes_none es e grants =
     ap grants_in_lanes e ∙ same_table _ _ (λ k. get-empty channel_slots k ∙ none-among k (get grants k) ∙ sym (get-only channel_slots (λ _ h. list_any (same_text h.supplier) []) grants k))
 
 -- the grants of some suppliers, with those of one more

@@ -17,6 +17,7 @@ use std::alloc::Global;
 use std::collections::BTreeMap;
 
 /// The rows of these suppliers in the variant, by kind, then key.
+#[tactic(auto, using(crate::proofs::GrantLaws::lanes_none))]
 pub(crate) fn gather_rows<R: Lender>(
     alloc: Global,
     records: &mut R,

@@ -4,11 +4,11 @@ use Rattle.fr_office.specs.Shared.{grants_among}
 use Rattle.fr_office.proofs.GatherLaws.{gathers-then}
 use Rattle.fr_world.specs.Loads.{grants_in_lanes}
 use Rattle.fr_world.proofs.ReadLaws.{reads_then}
-use Rattle.fr_office.proofs.GrantLaws.{lanes-none}
+use Rattle.fr_office.proofs.GrantLaws.{lanes_none}
 use Rattle.fr_office.proofs.queries.grants.gather_grants.Goals as goal
 
 pub gather-requires : goal.gather-requires
-gather-requires g c = λ p x. lanes-none c.new.result.entries c.new.ensures.empty x.grants
+gather-requires g c = λ p x. lanes_none c.new.result.entries c.new.ensures.empty x.grants
 
 pub returns : goal.returns
 returns g c = record {

@@ -1,13 +1,13 @@
 use Rattle.std.proofs.Common.{rules, ◌≡◌, ◌∙◌}
 use Rattle.fr_office.specs.Shared.{grants_among, placements_among}
 use Rattle.fr_office.proofs.GatherLaws.{gathers-both}
-use Rattle.fr_office.proofs.GrantLaws.{lanes-none}
+use Rattle.fr_office.proofs.GrantLaws.{lanes_none}
 use Rattle.fr_world.specs.Loads.{filled_load, grants_in_lanes}
 use Rattle.fr_world.proofs.ReadLaws.{reads_then}
 use Rattle.fr_office.proofs.queries.load.gather_load.Goals as goal
 
 pub gather-requires : goal.gather-requires
-gather-requires g c = λ p x. (lanes-none c.new.result.entries c.new.ensures.empty x.grants, c.new-2.ensures)
+gather-requires g c = λ p x. (lanes_none c.new.result.entries c.new.ensures.empty x.grants, c.new-2.ensures)
 
 pub returns : goal.returns
 returns g c = record {
