@@ -35,6 +35,7 @@ pub(crate) fn show_grants<R: Lender>(
 }
 
 // Which of these suppliers holds which slot and channel in the variant, by slot and channel.
+#[tactic(auto, using(crate::proofs::GrantLaws::lanes_none))]
 fn gather_grants<R: Lender>(
     alloc: Global,
     records: &mut R,

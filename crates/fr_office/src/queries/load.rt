@@ -35,6 +35,7 @@ pub(crate) fn show_load<R: Lender>(
 
 // How full each lane of the cluster is in the variant, by the frames of these suppliers, and which
 // of them holds it.
+#[tactic(auto, using(crate::proofs::GrantLaws::lanes_none))]
 fn gather_load<R: Lender>(
     alloc: Global,
     records: &mut R,
