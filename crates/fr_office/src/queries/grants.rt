@@ -19,7 +19,6 @@ use std::alloc::Global;
 use std::collections::BTreeMap;
 
 /// The grants that the actor sees in the variant, by slot and channel.
-#[tactic(auto, using(crate::proofs::ShownReplies::shows_grants))]
 pub(crate) fn show_grants<R: Lender>(
     alloc: Global,
     records: &mut R,

@@ -17,7 +17,6 @@ use std::alloc::Global;
 use std::collections::BTreeMap;
 
 /// How full the lanes that the actor sees are in the variant.
-#[tactic(auto, using(crate::proofs::ShownReplies::shows_load))]
 pub(crate) fn show_load<R: Lender>(
     alloc: Global,
     records: &mut R,

@@ -17,7 +17,6 @@ use fr_world::{Page, Triggerings};
 use std::alloc::Global;
 
 /// The schedule that the actor sees in the variant, by cycle, slot and channel.
-#[tactic(auto, using(crate::proofs::ShownReplies::shows_schedule))]
 pub(crate) fn show_schedule<R: Lender>(
     alloc: Global,
     records: &mut R,
