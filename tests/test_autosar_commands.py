@@ -150,6 +150,8 @@ class Import(CommandCase):
         self.see("nodes", [("enginetec", "engine_control"), ("oilco", "gear_control")], nodes)
         note = "left out,/Suppliers/enginetec/Ecus/exhaust_sensors,the table of suppliers gives it none\n"
         self.see("a note on the ECU", True, note in self.text("tabled/notes.csv"))
+        kinds = [line.partition(",")[0] for line in self.text("tabled/notes.csv").splitlines()]
+        self.see("what needs a look stands first", ["kind", "left out", "changed", "not kept"], list(dict.fromkeys(kinds)))
 
     def test_refused(self):
         self.has("foreign.arxml", arxml.foreign())

@@ -1,7 +1,7 @@
 """Files and differences in the planners' page, in a browser: files as spreadsheets write them, files of many rows, exports, and what differs."""
 from tests.drivers.planner import PlannerCase
 from tests.models.demo_plan import BOSS, CAMERA, CHANGED, CLUSTER, REQUESTS
-from tests.models.workbook import workbook
+from tests.models.workbook import open_workbook, workbook
 
 HEADER = "frame,node,slot,channels,base,repetition\n"
 SIGNALS = "frame,signal,start,length,order\n"
@@ -313,7 +313,7 @@ class OfSpreadsheets(FileCase):
         self.tells("semicolons.csv", text.replace(",", ";"), "separated by semicolons", mend="Turn")
         self.tells("tabs.txt", text.replace(",", "\t"), "separated by tabs", mend="Turn")
         self.tells("capitals.csv", text.replace("frame,node", "Frame, Node"), "no capitals, no spaces", mend="Mend")
-        self.tells("book.xlsx", b"PK\x03\x04\x14\x00\x06\x00rest", "workbook (.xlsx)")
+        self.tells("book.xlsx", b"PK\x03\x04\x14\x00\x06\x00rest", "This is a workbook, not a CSV file. It cannot be read")
         self.tells("other.csv", "id;name\n1;2\n", "no header that the register knows")
         self.tells("empty.csv", "", "The file is empty.")
         self.tells("latin.csv", HEADER.encode() + b"b\xe4r,front_camera,17,A,1,4\n", "not UTF-8")
@@ -331,6 +331,42 @@ class OfSpreadsheets(FileCase):
         self.browser.click("#carry-out")
         self.says("2 rows of weeks.xlsx imported under the label weeks.")
         self.see("the register has them", True, "FRAME rain front_camera\nAT 0017 B 01 04\n" in self.frames())
+
+    def test_of_libreoffice(self):
+        """A workbook has a cell or a row once that stands there several times in turn, and a remark on a cell within it."""
+        self.tells("old.xls", b"\xd0\xcf\x11\xe0\xa1\xb1\x1a\xe1" + bytes(504), "of an older form (.xls). Save its sheet as CSV")
+        records = [line.split(",") for line in (HEADER + ROWS).splitlines()]
+        self.tells("weeks.ods", open_workbook(records), "Its sheet slots & cycles has rows", mend="Take the sheet")
+        self.browser.click("#carry-out")
+        self.says("2 rows of weeks.ods imported under the label weeks.")
+        self.see("the register has them", True, "FRAME rain front_camera\nAT 0017 B 01 04\n" in self.frames())
+        self.file("twice.ods", open_workbook([*records, records[2]]))
+        self.browser.press("Take the sheet", "#view-files")
+        fates = self.fates(3)
+        self.see("a row that stands there twice is two", [True] * 3, ["CellTaken (25)" in fate for fate in fates])
+        self.tells("many.ods", open_workbook(records[:2] + records[2:] * 1001), "It cannot be read: It is too large.")
+
+    def test_columns(self):
+        """Columns in another order, or beside others, are taken by their names where these can mean one thing alone."""
+        order = "Slot;Remark;Node;Frame;Channels;Base;Repetition\n17;\"left; right\";front_camera;glare;A;1;4\n17;;front_camera;rain;B;1;4\n"
+        self.tells("order.csv", order, "in another order, or beside others", mend="Turn")
+        self.see("each in its place", ["2", *ROWS.split("\n")[0].split(",")], self.table("#view-files")[0][:7])
+        for name, text in {
+            "a slip": (HEADER + ROWS).replace("channels", "channel"),
+            "twice": HEADER.replace("\n", ",Base\n") + ROWS.replace("\n", ",2\n"),
+            "too long": HEADER.replace("\n", ",remark\n") + ROWS.replace("\n", ",left, right\n"),
+            "frames": "frame,node,remark\nglare,front_camera,\n",
+        }.items():
+            self.tells(f"{name}.csv", text, "no header that the register knows")
+        self.tells("all.csv", HEADER.replace("\n", ",supplier\n") + ROWS.replace("\n", ",camtech\n"), "a file of the integrator's")
+
+    def test_slips(self):
+        """Of a row that no register takes the field is told."""
+        rows = {"low-beam,front_camera,17,A,1,4": 'frame is "low-beam".', "glare,front_camera,17.0,A,1,4": 'slot is "17.0".',
+                "glare,front_camera,17,A,,4": 'base is "".', "glare,front_camera,17,A,1": "5 fields, in the header 6."}
+        self.file("slips.csv", HEADER + "\n".join(rows))
+        for fate, words in zip(self.fates(4), rows.values()):
+            self.see(f"{fate!r} says {words}", True, fate.endswith(words))
 
 
 class ManyRows(FileCase):

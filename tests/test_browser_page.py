@@ -95,6 +95,12 @@ class Key(PlannerCase):
         self.see("a key's form", True, "8 to 64" in browser.text("#login-fault"))
         self.see("what was sent for it", [], browser.requests())
 
+    def test_spaces(self):
+        """Those that a paste brings round a key are none of it."""
+        self.open()
+        self.show_key(f" {CAMERA} ")
+        self.is_in()
+
     def test_a_new_key(self):
         """A key that the integrator changed under an open page shows nothing any more."""
         browser = self.enter(CAMERA)

@@ -131,6 +131,8 @@ class Shown(PlannerCase):
         browser.type("#macrotick", "1.5")
         self.see("in milliseconds", True, "greatest gap30 ms" in self.seen("#detail"))
         self.see("the cycle too", True, "64 cycles of 7.5 ms" in self.seen("#figures"))
+        browser.type("#macrotick", "1,25")
+        self.see("a decimal comma is one", True, "64 cycles of 6.25 ms" in self.seen("#figures"))
 
     def test_released(self):
         """A variant that is released is shown, and offers nothing that would change it."""
@@ -268,6 +270,9 @@ class Placing(PlannerCase):
         self.see("bits that clash", True, browser.run("return document.querySelectorAll('.bits td.clash').length") > 0)
         browser.press("Add it", "#detail")
         self.see("why not", True, "Bit 4 is used by the signal brightness" in self.says("BitTaken (27)"))
+        browser.run("document.getElementById('signal-start').value = ''")
+        browser.press("Add it", "#detail")
+        self.says("Start bit and bits are whole numbers.")
         self.see("the register is as it was", layout, self.api.get(CAMERA, "variants/my29/frames/night_view/layout"))
 
 

@@ -219,13 +219,16 @@ class Ends(ClientCase):
             self.writes("slot,channel,supplier,node\n1,A,s1,n1\n", *asked(url, "--key", "s1.key"))
             self.writes("slot,channel,supplier,node\n1,A,s1,n1\n", *asked(url, "--key", "-"), given="integrator1")
             self.stops(f'{url}: 401 Unauthorized {{"no":2,"refused":"UnknownKey"}}', *asked(url, "--key", "wrong.key"))
-            self.stops("none.key: No such file or directory", *asked(url, "--key", "none.key"))
+            self.stops("--key names a file, whose first line is the key; there is no such file", *asked(url, "--key", "integrator1"))
+            for wrong in f"{url}/v1", f"{url}/car/":
+                self.stops(f"{wrong}: there is no register; SOURCE is the address of its page, without /v1", *asked(wrong, "--key", "s1.key"))
             self.stops("standard input: the first line is no key, which is 8 to 64 letters and digits", *asked(url, "--key", "-"))
             needed = "a server is asked with --key, and without --supplier: it tells what the key's owner sees"
             self.stops(needed, *asked(url))
             self.stops(needed, *asked(url, "--key", "s1.key", "--supplier", "s1"))
         self.stops(f"{url}: [Errno 111] Connection refused", *asked(url, "--key", "s1.key"))
-        self.stops("a file is read without --key", "table", "car.db", "v1", "nodes", "--key", "s1.key")
+        without = "a file is read without --key; the address of a server begins with http:// or https://"
+        self.stops(without, "table", "car.db", "v1", "nodes", "--key", "s1.key")
 
     def test_reader_that_stops(self):
         """Whoever reads may end first; then nothing is said."""

@@ -252,8 +252,8 @@ class Proxied(RegisterCase):
                 self.skipTest(f"there is no {name}")
         self.plan()
         words = re.search(r"A certificate for a try-out:\n\n```\n(.*?)```", PAGE, re.DOTALL)[1]
-        subprocess.run(["sh", "-c", words], cwd=self.folder, check=True, stderr=subprocess.DEVNULL)
-        self.trusting = ssl.create_default_context(cafile=self.folder / "cert.pem")
+        subprocess.run(["sh", "-c", words.replace("/etc/ssl/", f"{self.folder}/")], check=True, stderr=subprocess.DEVNULL)
+        self.trusting = ssl.create_default_context(cafile=self.folder / "slotplan/cert.pem")
         (self.folder / "owners").write_text(OWNERS)
         self.log, self.port = self.folder / "slotplan.log", free_port()
         self.server, _, self.behind = self.enterContext(started(self.folder))
@@ -263,7 +263,7 @@ class Proxied(RegisterCase):
         for old, new in (
             ("listen 443 ssl;", f"listen {HERE}:{self.port} ssl;"),
             ("/etc/nginx/slotplan.owners", f"{self.folder}/owners"),
-            ("/etc/ssl/slotplan/", f"{self.folder}/"),
+            ("/etc/ssl/", f"{self.folder}/"),
             ("/var/log/nginx/slotplan.log", str(self.log)),
             ("http://127.0.0.1:8080", f"http://{HERE}:{self.behind}"),
         ):

@@ -16,6 +16,7 @@ from tests.test_migrating import FORMS, HEADER, PLANNED
 
 VARIANTS = "v1", "v2", "v3"
 REPORTS = "schedule", "gaps"
+MAKES_NONE = b"slotplan: the database is damaged, or its tables and rows make no register\n"
 INDEX = "CREATE INDEX grants_by_supplier ON grants (variant, supplier)"
 
 
@@ -40,10 +41,11 @@ def dumped(path):
         return "\n".join(lines + [f"{sql};" for kind, _, sql in made if kind == "index"])
 
 
-def read_back(path):
+def read_back(path, first="PRAGMA encoding"):
     text = dumped(path)
     path.unlink()
     with closing(sqlite3.connect(path)) as file:
+        file.execute(first)
         file.executescript(text)
 
 
@@ -120,6 +122,33 @@ class WorkedOn(WorkedOnCase):
         work(self.path)
         self.says(before, "that")
         self.goes_on()
+
+
+class MadeElsewhere(WorkedOnCase):
+    """A register that another SQLite makes anew, whatever it says first of the file."""
+
+    def setUp(self):
+        super().setUp()
+        self.create()
+        self.ask(PLANNED.encode(), b'{"ok":"done"}\n' * 6 + b'{"ok":"imported","rows":0}\n' + b'{"ok":"done"}\n' * 8)
+
+    def test_opened(self):
+        before = self.told()
+        for first in "page_size = 512", "page_size = 65536", "journal_mode = WAL", "user_version = 7":
+            read_back(self.path, f"PRAGMA {first}")
+            self.says(before, first)
+
+    def test_not_opened(self):
+        for first in "encoding = 'UTF-16'", "auto_vacuum = FULL", "auto_vacuum = INCREMENTAL":
+            read_back(self.path, f"PRAGMA {first}")
+            self.tell(["check", "--register", "car.db"], said=MAKES_NONE, status=1)
+            read_back(self.path)
+
+    def test_row_without_its_form(self):
+        """The report that meets it is refused, and no check tells."""
+        carried_out(self.path, "UPDATE placements SET repetition = 3")
+        self.tell(["check", "--register", "car.db"])
+        self.turned_down(["schedule", "car.db", "v1"], b'{"no":28,"refused":"Unavailable"}')
 
 
 @for_each((f"{form}_{name}", rows, work) for form, rows in FORMS.items() for name, work in WORK.items())

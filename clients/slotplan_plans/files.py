@@ -14,6 +14,9 @@ def key_in(path):
     """The key in the first line of a file, or of standard input where its name is `-`. The line may be a field for curl, as `X-Office-Key: KEY`."""
     try:
         text = sys.stdin.readline() if path == "-" else Path(path).read_text(errors="replace")
+    except FileNotFoundError:
+        # (the word may be the key itself, which nothing shows)
+        raise Fault("--key names a file, whose first line is the key; there is no such file") from None
     except OSError as fault:
         raise Fault(f"{path}: {fault.strerror}") from fault
     key = text.partition("\n")[0].rpartition(":")[2].strip()

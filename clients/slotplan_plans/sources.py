@@ -135,6 +135,8 @@ class Server(Source):
                 connection.close()
 
     def fault(self, status, reason, text):
+        if status == 404 and not text.startswith("{"):
+            return Fault(f"{self.url}: there is no register; SOURCE is the address of its page, without /v1")
         return Fault(" ".join(f"{self.url}: {status} {reason} {text:.200}".split()))
 
     def lines(self, *path):

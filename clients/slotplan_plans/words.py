@@ -20,7 +20,7 @@ def source_of(given, asked=False):
     supplier = getattr(given, "supplier", None)
     if not is_server(given.source):
         if given.key and not asked:
-            raise Fault("a file is read without --key")
+            raise Fault("a file is read without --key; the address of a server begins with http:// or https://")
         return RegisterFile(given.source, given.program, supplier, key_in(given.key) if given.key else None)
     if supplier or not given.key:
         raise Fault("a server is asked with --key, and without --supplier: it tells what the key's owner sees")

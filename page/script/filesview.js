@@ -6,9 +6,10 @@ import {mended, takeSheet} from "./looking.js";
 import {attempt} from "./messages.js";
 import {explained} from "./refusals.js";
 import {exported} from "./reading.js";
+import {isDigits, isName} from "./reports.js";
 import {carryOut, takeFile, takeLooked, tryFile, WAYS, waysOf} from "./sending.js";
 import {done} from "./steps.js";
-import {grouped, plural} from "./words.js";
+import {grouped, plural, short} from "./words.js";
 
 export function filesView(desk) {
   desk.on("plan file view", () => { if (desk.hasView("files")) showFiles(desk); });
@@ -32,10 +33,10 @@ function showFiles(desk) {
 
 function dropZone(desk) {
   const take = ({target}) => { if (target.files[0]) takeFile(desk, target.files[0]); };
-  const pick = make("input", {type: "file", accept: ".csv,.txt,.xlsx,text/csv", id: "pick", onchange: take});
+  const pick = make("input", {type: "file", accept: ".csv,.txt,.xlsx,.ods,text/csv", id: "pick", onchange: take});
   const zone = make("div", {class: "drop"},
     make("p", {}, make("strong", {}, "Drop a CSV file here"), " or ", make("label", {for: "pick"}, "choose one: "), pick),
-    note("With one of these headers: ", Object.keys(HEADERS).join("  |  "), ". A workbook (.xlsx) with such a sheet does too."));
+    note("With one of these headers: ", Object.keys(HEADERS).join("  |  "), ". A workbook (.xlsx, .ods) with such a sheet does too."));
   zone.addEventListener("dragover", () => zone.classList.add("over"));
   zone.addEventListener("dragleave", () => zone.classList.remove("over"));
   return zone;
@@ -103,10 +104,19 @@ function goneBox(file) {
     : "Nothing would be gone.");
 }
 
+// Which field of a row no register takes.
+function slip(heads, record) {
+  if (record.length !== heads.length) return ` Here are ${plural(record.length, "field")}, in the header ${heads.length}.`;
+  const isFit = (head, text) => /^[fn]|signal/.test(head) ? isName(text) : /^[co]/.test(head) || isDigits(text);
+  const at = heads.findIndex((head, at) => !isFit(head, record[at]));
+  return at < 0 ? "" : ` Here ${heads[at]} is "${short(record[at])}".`;
+}
+
 function fateRow(desk, file, fate) {
   const [heads, record] = [file.shown[0], file.shown[fate.record - 1] ?? []];
   const show = () => { desk.reveal(Number(record[2]), fate.channel, fate.cycle); byId("grid").focus(); };
   return tableRow([[fate.record, "num"], ...heads.map((_, at) => [record[at] ?? "", "code"]),
-    [make("span", {}, fate.no ? explained(fate) : "would be carried out", " ", fate.no === 25 ? button("Show the cell", show) : ""), "words"]],
+    [make("span", {}, fate.no ? explained(fate) + slip(heads, record) : "would be carried out", " ",
+      fate.no === 25 ? button("Show the cell", show) : ""), "words"]],
   fate.no ? "bad" : "");
 }

@@ -12,7 +12,7 @@ const STORED = "slotplan key " + location.pathname;
 export function login(desk) {
   listen("login-form", "submit", event => {
     event.preventDefault();
-    const key = byId("key").value;
+    const key = byId("key").value.trim();
     byId("key").value = "";
     if (/^[A-Za-z0-9]{8,64}$/.test(key)) begin(desk, key, byId("keep").checked);
     else byId("login-fault").textContent = "A key has 8 to 64 letters and digits.";

@@ -1,7 +1,7 @@
 // What can be said of a file before the register sees it: how spreadsheets write files that it does not read, and what is sure to mend that.
 import {fileOf, HEADERS, recordsOf} from "./csv.js";
 import {plural, short} from "./words.js";
-import {canUnpack, isWorkbook, NoWorkbook, sheetsOf} from "./workbook.js";
+import {canUnpack, isOldWorkbook, isWorkbook, NoWorkbook, sheetsOf} from "./workbook.js";
 
 const tidied = record => record.map(field => field.trim());
 const headerOf = record => tidied(record ?? []).map(field => field.toLowerCase());
@@ -12,6 +12,7 @@ const kindOf = record => HEADERS[headerOf(record).join(",").replace(/,+$/, "")];
 export async function looked(name, bytes) {
   const file = {name, bytes, records: [], kind: null, fault: "", mend: null, notes: [], sheets: null};
   if (isWorkbook(bytes)) await lookIntoWorkbook(file);
+  else if (isOldWorkbook(bytes)) file.fault = "This is a workbook of an older form (.xls)." + BY_HAND;
   else lookIntoText(file);
   return file;
 }
@@ -23,16 +24,18 @@ export function mended({name, mend}) {
     notes: ["Changed here, not on your disk."], sheets: null};
 }
 
+const WORKBOOK = "This is a workbook, not a CSV file.";
+const BY_HAND = " Save its sheet as CSV UTF-8 (comma delimited), or in LibreOffice as Text CSV.";
+
 async function lookIntoWorkbook(file) {
-  file.fault = "This is a workbook (.xlsx), not a CSV file.";
-  const byHand = " In the spreadsheet choose Save as, then CSV UTF-8 (comma delimited).";
-  if (!canUnpack()) { file.fault += " This browser cannot read it." + byHand; return; }
+  file.fault = WORKBOOK;
+  if (!canUnpack()) { file.fault += " This browser cannot read it." + BY_HAND; return; }
   try { file.sheets = await sheetsOf(file.bytes); } catch (fault) {
     if (!(fault instanceof NoWorkbook)) throw fault;
-    file.fault += ` It cannot be read: ${fault.message}${byHand}`;
+    file.fault += ` It cannot be read: ${fault.message}${BY_HAND}`;
     return;
   }
-  const known = file.sheets.filter(({records}) => kindOf(withoutHint(records.filter(isFilled))[0]));
+  const known = file.sheets.filter(({records}) => picked(withoutHint(records.filter(isFilled))));
   if (known.length) takeSheet(file, known[0]);
   else file.fault += ` No sheet of it begins with a header that the register knows. ${unknown(file.sheets[0].records.filter(isFilled))}`;
 }
@@ -40,8 +43,9 @@ async function lookIntoWorkbook(file) {
 // Takes a sheet of a workbook as the file's rows.
 export function takeSheet(file, sheet) {
   file.sheet = sheet;
-  const {records, changes} = cleaned(withoutHint(sheet.records.filter(record => record.length)));
-  file.fault = `This is a workbook (.xlsx), not a CSV file. Its sheet ${short(sheet.name)} has rows that the register reads.`
+  const own = withoutHint(sheet.records.filter(record => record.length)), taken = picked(own) ?? own, {records, changes} = cleaned(taken);
+  if (taken !== own) changes.unshift(BY_NAMES);
+  file.fault = `${WORKBOOK} Its sheet ${short(sheet.name)} has rows that the register reads.`
     + (changes.length ? ` ${changes.join(" ")}` : "");
   file.mend = kindOf(records[0]) ? {text: `Take the sheet ${short(sheet.name)}`, records} : null;
 }
@@ -49,12 +53,13 @@ export function takeSheet(file, sheet) {
 function lookIntoText(file) {
   const coding = encodingOf(file.bytes), text = decoded(file, coding);
   file.records = recordsOf(text);
-  const comma = [",", ";", "\t"].find(one => kindOf(withoutHint(recordsOf(text, one))[0])) ?? "";
+  const comma = [",", ";", "\t"].find(one => picked(withoutHint(recordsOf(text, one)))) ?? "";
   if (!comma) {
     file.fault = unknown(file.records) + (coding ? " " + UTF_16 : "");
     return;
   }
-  const {records, changes} = cleaned(withoutHint(recordsOf(text, comma)));
+  const own = withoutHint(recordsOf(text, comma)), taken = picked(own), {records, changes} = cleaned(taken);
+  if (taken !== own) changes.unshift(BY_NAMES);
   const faults = [coding && UTF_16, SEPARATED[comma], isNumbered(recordsOf(text, comma)[0]) && NUMBERED, ...changes].filter(Boolean);
   file.kind = HEADERS[file.records[0]?.join(",")] ?? null;
   if (!faults.length && file.kind) return;
@@ -69,6 +74,17 @@ function unknown([header]) {
     : `The first line is no header that the register knows: ${short(header.join(","))}`;
 }
 
+// The records with the columns of a header alone, in its order, where the first line names each of them once; else nothing. Of `frame` and `node`
+// that is not sure where more columns stand: they are in another header too, be there a slip in it.
+function picked(records) {
+  if (kindOf(records[0])) return records;
+  const names = headerOf(records[0]), isOnce = name => names.filter(other => other === name).length === 1;
+  const found = Object.keys(HEADERS).map(header => header.split(",")).filter(header => header.every(isOnce) && (header.length > 2 || !names[2]));
+  if (found.length !== 1 || names.includes("supplier") || records.some(record => record.length > names.length)) return null;
+  return records.map(record => found[0].map(name => record[names.indexOf(name)] ?? ""));
+}
+
+const BY_NAMES = "Columns stand in another order, or beside others. Those of the header are taken.";
 const UTF_16 = "This is text in UTF-16, which spreadsheets call Unicode text. The register reads UTF-8.";
 const NUMBERED = "A line of numbered names stands above the header, as Excel writes it where a file was loaded without its data types.";
 const SEPARATED = {

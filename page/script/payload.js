@@ -1,9 +1,10 @@
 // The payload of a frame bit by bit, and the signals in it.
 import {bitCount, bitsOf, usedBits} from "./bits.js";
 import {button, make, note, options, table, tableRow, textField} from "./dom.js";
-import {confirmed} from "./messages.js";
+import {confirmed, say} from "./messages.js";
 import {colourOf, softened} from "./palette.js";
 import {keyOf} from "./plan.js";
+import {isDigits} from "./reports.js";
 import {addSignal, dropSignal} from "./steps.js";
 import {bitsText, grouped, plural} from "./words.js";
 
@@ -38,8 +39,13 @@ function signalForm(desk, frame, signals, matrix) {
   const draw = () => matrix.replaceChildren(bitTable(desk.cluster, signals, isWhole() ? wanted() : null, pick));
   const keep = () => { desk.draft = {key, name: name.value, start: start.value, length: length.value, order: order.value}; };
   for (const input of [name, start, length, order]) input.addEventListener("input", () => { keep(); draw(); });
+  const add = event => {
+    event.preventDefault();
+    if (isDigits(start.value) && isDigits(length.value)) addSignal(desk, frame, wanted());
+    else say("bad", "Start bit and bits are whole numbers.");
+  };
   draw();
-  return make("form", {class: "form", novalidate: "", onsubmit: event => { event.preventDefault(); addSignal(desk, frame, wanted()); }},
+  return make("form", {class: "form", novalidate: "", onsubmit: add},
     make("strong", {class: "wide"}, "New signal"),
     make("label", {for: "signal-name"}, "Name"), name, make("label", {for: "signal-start"}, "Start bit"), start,
     make("label", {for: "signal-length"}, "Bits"), length, make("label", {for: "signal-order"}, "Order"), order,

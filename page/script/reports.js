@@ -39,6 +39,8 @@ const LEAST_AND_MOST = {
   idle_macroticks: [1, 16000], macroticks_per_cycle: [1, 16000], payload_words: [0, 127], cycles: [8, 64],
 };
 
+// A number as a request or a file has it.
+export const isDigits = text => /^\d{1,10}$/.test(text);
 export const isName = text => new RegExp(`^${NAME}$`).test(text);
 
 function linesOf(text) {

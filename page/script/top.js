@@ -41,7 +41,7 @@ async function show(desk, variant) {
 
 function listenToTimes(desk) {
   const take = () => {
-    const isLong = byId("times").value === "ms", microseconds = Number(byId("macrotick").value);
+    const isLong = byId("times").value === "ms", microseconds = Number(byId("macrotick").value.replace(",", "."));
     byId("macrotick-label").hidden = !isLong;
     desk.times.microseconds = isLong && microseconds > 0 && microseconds <= 1000 ? microseconds : 0;
     desk.tell("look", "choice");

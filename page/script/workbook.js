@@ -1,8 +1,9 @@
-// Reads a workbook (.xlsx): the texts of its sheets' cells, as records.
+// Reads a workbook of Excel (.xlsx) or LibreOffice (.ods): the texts of its sheets' cells, as records.
 
 export class NoWorkbook extends Error {}
 
 export const isWorkbook = ([p, k, three, four]) => p === 0x50 && k === 0x4b && three === 3 && four === 4;
+export const isOldWorkbook = ([first, second]) => first === 0xd0 && second === 0xcf;
 export const canUnpack = () => {
   try { return Boolean(new DecompressionStream("deflate-raw")); } catch { return false; }
 };
@@ -12,6 +13,12 @@ const MOST_LETTERS = 32_000_000;
 // Its sheets in their order: name and records.
 export async function sheetsOf(bytes) {
   const entries = entriesOf(bytes), part = async path => entries.has(path) ? textOf(bytes, entries.get(path)) : "";
+  const sheets = entries.has("content.xml") ? openSheets(await part("content.xml")) : await officeSheets(part);
+  if (!sheets.length) throw new NoWorkbook("It has no sheet that can be read.");
+  return sheets;
+}
+
+async function officeSheets(part) {
   const targets = new Map(elements(await part("xl/_rels/workbook.xml.rels"), "Relationship").map(({fields}) => [fields.Id, fields.Target]));
   const strings = elements(await part("xl/sharedStrings.xml"), "si").map(({inner}) => textIn(inner)), sheets = [];
   for (const {fields} of elements(await part("xl/workbook.xml"), "sheet")) {
@@ -19,8 +26,28 @@ export async function sheetsOf(bytes) {
     const records = recordsIn(await part(target.startsWith("/") ? target.slice(1) : "xl/" + target), strings);
     sheets.push({name: fields.name ?? "", records});
   }
-  if (!sheets.length) throw new NoWorkbook("It has no sheet that can be read.");
   return sheets;
+}
+
+// As OpenDocument has them: a cell, or a row, that stands several times in turn is written once, with their number.
+function openSheets(xml) {
+  const record = row => unrolled(elements(row.inner, "(?:covered-)?table-cell"), "columns", openText);
+  return elements(xml, "table").map(({fields, inner}) =>
+    ({name: fields["table:name"] ?? "", records: unrolled(elements(inner, "table-row"), "rows", record)}));
+}
+
+// What is read of elements, each as often as it stands there, up to the last that has something in it.
+function unrolled(found, what, read) {
+  const runs = found.map(one => [read(one), (one.fields[`table:number-${what}-repeated`] ?? 1) >>> 0]);
+  const kept = runs.slice(0, runs.findLastIndex(([value]) => value.length) + 1);
+  if (kept.some(([, times]) => times > 1000)) throw new NoWorkbook("It is too large.");
+  return kept.flatMap(([value, times]) => Array(times).fill(value));
+}
+
+function openText({fields, inner}) {
+  if (fields["office:value-type"] === "float") return numberText(fields["office:value"] ?? "");
+  const lines = elements(inner.replace(/<office:annotation[^]*?<\/office:annotation>/g, ""), "p");
+  return lines.map(line => unescaped(line.inner.replace(/<text:s\b[^>]*>/g, " ").replace(/<[^>]*>/g, ""))).join("\n");
 }
 
 // The places of a zip's entries, by their paths, as its directory at the end has them.
@@ -72,7 +99,7 @@ function elements(xml, name) {
   const found = [];
   for (const [, head, isEmpty, inner] of xml.matchAll(new RegExp(`<(?:\\w+:)?${name}(\\s[^>]*?)?(?:(/)>|>([^]*?)</(?:\\w+:)?${name}>)`, "g"))) {
     const fields = {};
-    for (const [, key, value] of (head ?? "").matchAll(/([\w:]+)="([^"]*)"/g)) fields[key] = unescaped(value);
+    for (const [, key, value] of (head ?? "").matchAll(/([\w:-]+)="([^"]*)"/g)) fields[key] = unescaped(value);
     found.push({fields, inner: isEmpty ? "" : inner});
   }
   return found;
@@ -105,5 +132,7 @@ function cellText({fields, inner}, strings) {
   if (fields.t === "inlineStr") return textIn(inner);
   const value = unescaped(elements(inner, "v")[0]?.inner ?? "");
   if (fields.t === "s") return strings[Number(value)] ?? "";
-  return !fields.t && value !== "" && Number.isFinite(Number(value)) ? String(Number(value)) : value;
+  return fields.t ? value : numberText(value);
 }
+
+const numberText = value => value !== "" && Number.isFinite(Number(value)) ? String(Number(value)) : value;

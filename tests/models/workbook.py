@@ -1,6 +1,7 @@
-"""Workbooks as spreadsheets write them, by ECMA-376 (Office Open XML): parts of XML in a packed archive."""
+"""Workbooks as spreadsheets write them, by ECMA-376 (Office Open XML) and OASIS OpenDocument 1.2: parts of XML in a packed archive."""
 import io
 import zipfile
+from itertools import groupby
 
 KINDS = "http://schemas.openxmlformats.org"
 SHEETS = f'xmlns="{KINDS}/spreadsheetml/2006/main"'
@@ -41,8 +42,47 @@ def workbook(records):
         "xl/worksheets/sheet2.xml": sheet("".join(rows)),
         "xl/sharedStrings.xml": f'<sst {SHEETS}>{"".join(f"<si><t>{text}</t></si>" for text in texts)}</sst>',
     }
+    return packed(parts)
+
+
+def packed(parts):
     made = io.BytesIO()
-    with zipfile.ZipFile(made, "w", zipfile.ZIP_DEFLATED) as packed:
+    with zipfile.ZipFile(made, "w", zipfile.ZIP_DEFLATED) as archive:
         for name, text in parts.items():
-            packed.writestr(name, text)
+            archive.writestr(name, text)
     return made.getvalue()
+
+
+# ---- OpenDocument
+
+OASIS = "urn:oasis:names:tc:opendocument:xmlns"
+SPACES = " ".join(f'xmlns:{name}="{OASIS}:{name}:1.0"' for name in ("office", "table", "text"))
+CALC = "application/vnd.oasis.opendocument.spreadsheet"
+REMARK = "<office:annotation><text:p>ask again</text:p></office:annotation>"
+BLANKS = '<table:table-cell table:number-columns-repeated="16378"/>'
+EMPTY_ROWS = f'<table:table-row table:number-rows-repeated="1048000">{BLANKS}</table:table-row>'
+
+
+def times(what, count):
+    return f' table:number-{what}-repeated="{count}"' if count > 1 else ""
+
+
+def open_cell(field, count):
+    """So many cells in turn. A number is shown as its reader wants it, and is no text."""
+    many = times("columns", count)
+    if field.isdecimal():
+        return f'<table:table-cell{many} office:value-type="float" office:value="{field}"><text:p>{field},00</text:p></table:table-cell>'
+    return f'<table:table-cell{many} office:value-type="string">{REMARK}<text:p><text:span>{field}</text:span></text:p></table:table-cell>'
+
+
+def open_row(record, count):
+    cells = "".join(open_cell(field, len(list(alike))) for field, alike in groupby(record))
+    return f"<table:table-row{times('rows', count)}>{cells}{BLANKS}</table:table-row>"
+
+
+def open_workbook(records):
+    """As `workbook`, of OpenDocument: what stands several times in turn is written once."""
+    rows = "".join(open_row(record, len(list(alike))) for record, alike in groupby(records))
+    sheets = f'<table:table table:name="notes">{EMPTY_ROWS}</table:table><table:table table:name="slots &amp; cycles">{rows}{EMPTY_ROWS}</table:table>'
+    body = f"<office:body><office:spreadsheet>{sheets}</office:spreadsheet></office:body>"
+    return packed({"mimetype": CALC, "content.xml": f"<office:document-content {SPACES}>{body}</office:document-content>"})

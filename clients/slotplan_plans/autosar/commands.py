@@ -11,6 +11,7 @@ from ..reading import read
 from ..tables import rows_of
 from ..words import add_source, source_of
 from . import beside, folder, reading, writing
+from .found import KINDS
 from .proposal import Proposal
 
 SHORT_NAME = re.compile("[A-Za-z][A-Za-z0-9_]{0,127}")
@@ -119,7 +120,7 @@ def import_files(given):
 def told(notes):
     """How many notes of each kind there are."""
     counted = Counter(note.kind for note in notes)
-    return {kind: counted[kind] for kind in ("left out", "changed", "not kept")}
+    return {kind: counted[kind] for kind in KINDS}
 
 
 def compare(given):

@@ -8,7 +8,7 @@ from ..faults import Fault
 from ..files import written
 from ..keys import Keys, made_up
 from ..plan import FIGURES
-from .found import Note
+from .found import KINDS, Note
 
 # How many rows a file may have.
 ROWS = 512
@@ -36,7 +36,7 @@ def write(folder, plan, notes, comment):
             with written(folder / supplier / name) as file:
                 file.write(text)
     with written(folder / "notes.csv") as file:
-        csv.writer(file, lineterminator="\n").writerows([Note._fields, *notes])
+        csv.writer(file, lineterminator="\n").writerows([Note._fields, *sorted(notes, key=lambda note: KINDS.index(note.kind))])
 
 
 def made(folder):

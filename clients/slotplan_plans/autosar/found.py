@@ -2,6 +2,9 @@
 from dataclasses import dataclass, field
 from typing import NamedTuple
 
+# What may have become of a thing. What needs a look stands first.
+KINDS = ("left out", "changed", "not kept")
+
 
 class Note(NamedTuple):
     """What became of a thing: `left out` is a row that the register does not have, `changed` one that it has in another form, `not kept` all else."""
