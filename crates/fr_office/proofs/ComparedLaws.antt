@@ -14,7 +14,7 @@ use Rattle.fr_office.specs.Shown.{FindsPage, Gathers}
 use Rattle.fr_office.specs.declared.queries.compared.ComparedRows.{ComparedRows}
 use Rattle.fr_office.specs.Kinds.{ByKind, with_more}
 use Rattle.fr_office.proofs.GatherLaws.{page-rows}
-use Rattle.fr_office.proofs.GrantLaws.{lanes-more, lanes-none}
+use Rattle.fr_office.proofs.GrantLaws.{lanes-more, lanes_none}
 use Rattle.fr_world.specs.Held.{Standing}
 use Rattle.fr_world.specs.Loads.{grants_in_lanes}
 use Rattle.fr_world.specs.Pages.{PageData, own_rows_of}
@@ -52,7 +52,7 @@ module _ (old : Standing) (v w : Name) where
   pub compared-none : (olds news : List (ChannelSlot × LaneHolder)) (told : ByKind DifferenceRow) → olds ≡ [] → news ≡ [] →
       told ≡ record { frames = []; placements = []; signals = []; gaps = [] } → GatheredSoFar old old v w [] olds news told
   compared-none olds news told none no_news nothing c b stood =
-      (stood, λ new before is was. record { old_grants = lanes-none olds none before.grants; new_grants = lanes-none news no_news new.grants; frames = nothing })
+      (stood, λ new before is was. record { old_grants = lanes_none olds none before.grants; new_grants = lanes_none news no_news new.grants; frames = nothing })
 
   told-more : (p : Params) (s : Name) (ss : List Name) (before new : Variant) →
       with_more (suppliers_told p ss before new) (supplier_told p before new s) ≡ suppliers_told p (ss ++ s ∷ []) before new

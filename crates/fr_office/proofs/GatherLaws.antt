@@ -80,13 +80,6 @@ gathers-then old new v says tells found made gathers so c b stood =
     let told = gathers c b stood in
     (told.0, λ x there. so c.params x (told.1 x there))
 
--- what is made of both, where two were gathered
-pub gathers-both : {A B Y : Type 0} (old new : Standing) (v : Name) (says : Params → Variant → A → Type 0) (adds : Params → Variant → B → Type 0) (tells : Params → Variant → Y → Type 0) (one : A) (other : B) (made : Y) →
-    Gathers {X = A × B} v (λ p x both. says p x both.0 × adds p x both.1) old new (Ok (one, other)) → ((p : Params) (x : Variant) → says p x one → adds p x other → tells p x made) → Gathers v tells old new (Ok made)
-gathers-both old new v says adds tells one other made gathers so c b stood =
-    let told = gathers c b stood in
-    (told.0, λ x there. so c.params x (told.1 x there).0 (told.1 x there).1)
-
 -- ---- rows behind those of the suppliers before
 
 -- what is made of the suppliers' frames, one supplier after another

@@ -120,7 +120,7 @@ module _ (s : Name) (ss : List Name) (grants : Table channel_slots book.Holder) 
 
   -- with those of one supplier more
   grants-more : with_rows (grants_among ss grants) (own_grants s grants).rows ≡ grants_among (ss ++ s ∷ []) grants
-  unfolding get
+  unfolding get grants_among
   grants-more = same_table _ _ (λ k.
       get-with_rows channel_slots (grants_among ss grants) (own_grants s grants).rows k (own_grants s grants).sorted
       ∙ (λ i. or_else (get-only channel_slots (λ _ h. held_by s (Some h)) grants k i) (get-only channel_slots (λ _ h. list_any (same_text h.supplier) ss) grants k i))
@@ -132,9 +132,9 @@ none-among k None = refl
 none-among k (Some h) = refl
 
 -- the grants of no supplier
-pub lanes-none : (es : List (ChannelSlot × LaneHolder)) → es ≡ [] → (grants : Table channel_slots book.Holder) → grants_in_lanes es ≡ grants_among [] grants
-unfolding table_of from_rows
-lanes-none es e grants =
+pub lanes_none : (es : List (ChannelSlot × LaneHolder)) → es ≡ [] → (grants : Table channel_slots book.Holder) → grants_in_lanes es ≡ grants_among [] grants
+unfolding table_of from_rows grants_among
+lanes_none es e grants =
     ap grants_in_lanes e ∙ same_table _ _ (λ k. get-empty channel_slots k ∙ none-among k (get grants k) ∙ sym (get-only channel_slots (λ _ h. list_any (same_text h.supplier) []) grants k))
 
 -- the grants of some suppliers, with those of one more
@@ -162,6 +162,7 @@ In-any n (s ∷ ss) (inr i) = ap (λ b. same_text n s || b) (In-any n ss i) ∙ 
 
 -- in a sound book all grants are of suppliers that are there
 pub grants-all : (c : Cluster) (b : Book) (v : Name) (x : Variant) → IsSound c b → get b.variants v ≡ Some x → grants_among (supplier_names b) x.grants ≡ x.grants
+unfolding grants_among
 grants-all c b v x sound there = same_table _ _ (λ k. get-only channel_slots (λ _ h. list_any (same_text h.supplier) (supplier_names b)) x.grants k ∙ all_kept k (get x.grants k) refl)
   where
     all_kept : (k : ℕ × Channel) (o : Option book.Holder) → get x.grants k ≡ o → kept (λ _ h. list_any (same_text h.supplier) (supplier_names b)) k o ≡ o

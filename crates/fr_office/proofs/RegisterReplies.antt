@@ -138,6 +138,7 @@ nodes-split c b sound =
 
 -- those of the suppliers whom the actor sees are what it sees
 nodes-seen : (c : Cluster) (b : Book) → IsSound c b → (actor : Actor) → flat_map (λ s. nodes_of (own s b.nodes)) (seen_names actor b) ≡ nodes_of (seen_nodes actor b.nodes)
+unfolding seen_names
 nodes-seen c b sound Integrator = nodes-split c b sound
 nodes-seen c b sound (Supplier s) = append-nil (nodes_of (own s b.nodes))
 

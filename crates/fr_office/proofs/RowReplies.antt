@@ -14,7 +14,6 @@ use Rattle.fr_base.specs.Tables.{each, get}
 use Rattle.fr_base.specs.declared.actor.Actor.{Actor}
 use Rattle.fr_base.specs.declared.answer.SeenRow.{SeenRow}
 use Rattle.fr_base.specs.declared.name.Name.{Name}
-use Rattle.fr_base.specs.declared.params.Params.{Params}
 use Rattle.fr_office.specs.Compared.{compared_rows, frame_told, gap_told, grant_told, kinds_told, placement_told, seen_among, signal_told, suppliers_rows}
 use Rattle.fr_office.specs.Kinds.{ByKind, with_more}
 use Rattle.fr_office.specs.Shown.{seen_names}
@@ -25,7 +24,6 @@ use Rattle.fr_office.proofs.SeenRows.{frames-seen, grants-seen}
 use Rattle.fr_world.specs.KeyedRows.{frame_entry, gap_entry, grant_entry, placement_entry, signal_entry}
 use Rattle.fr_world.specs.Pages.{PageData, own_rows_of}
 use Rattle.fr_office.specs.Gathered.{Takes}
-use Rattle.fr_office.specs.Shared.{grants_among}
 use Rattle.fr_office.proofs.GatherLaws.{flat-more}
 
 -- ---- of the suppliers so far
@@ -49,11 +47,6 @@ takes-kinds page old new pushed first ss x has is =
       signals = told_more signal_told (λ s. (made s).signals) i;
       gaps = told_more gap_told (λ s. (made s).gaps) i;
     }
-
--- after the last, kind after kind
-pub rows-told : (p : Params) (ss : List Name) (x : Variant) (told : ByKind SeenRow) (grants all : List SeenRow) → grants ≡ map grant_told (grants_of (grants_among ss x.grants)) →
-    told ≡ kinds_told (suppliers_rows p ss x) → all ≡ grants ++ told.frames ++ told.placements ++ told.signals ++ told.gaps → all ≡ seen_among p ss x
-rows-told p ss x told grants all listed is joined = joined ∙ (λ j. listed j ++ (is j).frames ++ (is j).placements ++ (is j).signals ++ (is j).gaps)
 
 -- the rows of one list, which others were put behind, and which was then turned to stand behind these, with more behind
 pub joined : {A : Type 0} (most a b c d one two three round all : List A) (n : ℕ) → n ≡ length most → one ≡ most ++ a → two ≡ one ++ b → three ≡ two ++ c → round ≡ drop n three ++ take n three → all ≡ round ++ d →

@@ -63,16 +63,19 @@ or_none true = refl
 or_none false = refl
 
 own-among : (s : Name) (grants : Table channel_slots book.Holder) → grants_among (s ∷ []) grants ≡ own_grants s grants
+unfolding grants_among
 own-among s grants = ap (λ test. only test grants) (λ i k h. or_none (same_text h.supplier s) i)
 
 -- ---- all rows of a variant that the actor sees
 
 module _ (c : Cluster) (b : Book) (v : Name) (x : Variant) (sound : IsSound c b) (there : get b.variants v ≡ Some x) where
   pub grants-seen : (actor : Actor) → grants_among (seen_names actor b) x.grants ≡ seen_grants actor x.grants
+  unfolding seen_names
   grants-seen Integrator = grants-all c b v x sound there
   grants-seen (Supplier s) = own-among s x.grants
 
   pub rows-seen : (actor : Actor) → flat_map (λ s. (own s x.frames).rows) (seen_names actor b) ≡ (seen_frames actor x.frames).rows
+  unfolding seen_names
   rows-seen Integrator = frames-split c b v x sound there x.frames (λ e i. i)
   rows-seen (Supplier s) = append-nil (own s x.frames).rows
 
@@ -93,7 +96,7 @@ module _ (c : Cluster) (b : Book) (v : Name) (x : Variant) (sound : IsSound c b)
   placements-seen actor = frames-seen actor (λ row. filled_by row.0 row.1)
 
   pub named-seen : (actor : Actor) (f : Name) → frames_named f (seen_names actor b) x ≡ (named f (seen_frames actor x.frames)).rows
-  unfolding named only
+  unfolding named only seen_names
   named-seen Integrator f =
       same-flat (λ s. (named f (own s x.frames)).rows) (λ s. (own s (named f x.frames)).rows) (seen_names Integrator b) (λ s. filter-swap (λ e. same_text e.0.1 f) (λ e. is_of s e.0) x.frames.rows)
       ∙ frames-split c b v x sound there (named f x.frames) (λ e i. In-filter (λ e. same_text e.0.1 f) (λ _. true) e x.frames.rows i)

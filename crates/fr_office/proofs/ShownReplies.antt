@@ -6,6 +6,7 @@ use Rattle.std.proofs.lemmas.Bool.{ne_eqb}
 use Rattle.fr_base.specs.Book.{Book, Frame, Variant, own, own_grants, placements_of}
 use Rattle.fr_base.specs.Cells.{cluster_cells}
 use Rattle.fr_base.specs.Cluster.{Cluster}
+use Rattle.fr_base.specs.Differences.{seen_rows}
 use Rattle.fr_base.specs.Exports.{exported}
 use Rattle.fr_base.specs.Load.{load_of}
 use Rattle.fr_base.specs.Refusing.{◌>>=◌, ◌>>◌, ◌or◌, refuse◌when◌}
@@ -39,7 +40,7 @@ use Rattle.fr_base.proofs.SoundTables.{same_some, value_of}
 use Rattle.fr_office.specs.Carried.{Replies}
 use Rattle.fr_office.specs.Compared.{seen_among}
 use Rattle.fr_office.specs.Shared.{grants_among, placements_among}
-use Rattle.fr_office.specs.Shown.{AreSignals, FindsPage, Gathers, Shows, frames_named, lanes_told, seen_names}
+use Rattle.fr_office.specs.Shown.{FindsPage, Shows, frames_named, lanes_told, seen_names}
 use Rattle.fr_office.proofs.ExportLaws.{frames_among}
 use Rattle.fr_office.proofs.PageRows.{sendings-sent}
 use Rattle.fr_office.proofs.RowReplies.{rows-among}
@@ -56,95 +57,64 @@ use Rattle.fr_world.proofs.PageLaws.{rows-registers}
 abbrev Said : Result ReportRows Refusal → Result ReportRows Refusal → Type 0
 Said r t = MatchResult r (λ answer. t ≡ Ok answer) (λ e. (e ≡ Unavailable) ⊎ (t ≡ Err e))
 
--- ---- what is gathered
+-- ---- what is gathered of those whom the actor sees
 
-module _ (old new : Standing) (actor : Actor) (v : Name) (suppliers : List Name) (known : (c : Cluster) (b : Book) → old c b → suppliers ≡ seen_names actor b)
-    (asked : Report Name ℕ) where
-  -- what was gathered of a variant that is there is what is shown of it
-  of-gathered : {X : Type 0} (report : Report Name ℕ) (says : Params → Variant → X → Type 0) (gathered : X) (r : Result ReportRows Refusal) → asked ≡ report →
-      Gathers v says old new (Ok gathered) →
-      ((c : Cluster) (b : Book) (x : Variant) → IsSound c b → get b.variants v ≡ Some x → old c b → says c.params x gathered → Said r (shown c.params actor x report)) →
-      Shows actor v asked old new r
-  of-gathered report says gathered r is gathers so = subst (λ q. Shows actor v q old new r) (sym is) (λ c b stood sound.
-      let told = gathers c b stood in
-      (told.0, λ x there. so c b x sound there stood (told.1 x there)))
-
-  pub shows-grants : (rows : List GrantRow) → asked ≡ Grants → Gathers v (λ p x rows. rows ≡ grants_of (grants_among suppliers x.grants)) old new (Ok rows) → Shows actor v asked old new (Ok (shows.Grants rows))
+module _ (p : Params) (c : Cluster) (b : Book) (v : Name) (x : Variant) (actor : Actor) (sound : IsSound c b) (there : get b.variants v ≡ Some x) where
+  pub shows_grants : (rows : List GrantRow) → rows ≡ grants_of (grants_among (seen_names actor b) x.grants) → shown p actor x Grants ≡ Ok (shows.Grants rows)
   unfolding shown
-  shows-grants rows is gathers = of-gathered Grants (λ p x rows. rows ≡ grants_of (grants_among suppliers x.grants)) rows (Ok (shows.Grants rows)) is gathers (λ c b x sound there stood e.
-      ap (λ rs. Ok (shows.Grants rs)) (sym (e ∙ ap grants_of (ap (λ ss. grants_among ss x.grants) (known c b stood) ∙ grants-seen c b v x sound there actor))))
+  shows_grants rows e = ap (λ rs. Ok (shows.Grants rs)) (sym (e ∙ ap grants_of (grants-seen c b v x sound there actor)))
 
-  pub shows-frames : (rows : List FrameRow) → asked ≡ Frames → Gathers v (λ p x rows. rows ≡ flat_map (λ s. frames_of (own s x.frames)) suppliers) old new (Ok rows) → Shows actor v asked old new (Ok (shows.Frames rows))
+  pub shows_frames : (rows : List FrameRow) → rows ≡ flat_map (λ s. frames_of (own s x.frames)) (seen_names actor b) → shown p actor x Frames ≡ Ok (shows.Frames rows)
   unfolding shown
-  shows-frames rows is gathers = of-gathered Frames (λ p x rows. rows ≡ flat_map (λ s. frames_of (own s x.frames)) suppliers) rows (Ok (shows.Frames rows)) is gathers (λ c b x sound there stood e.
-      ap (λ rs. Ok (shows.Frames rs)) (sym (e ∙ ap (flat_map (λ s. frames_of (own s x.frames))) (known c b stood) ∙ listed-seen c b v x sound there actor)))
+  shows_frames rows e = ap (λ rs. Ok (shows.Frames rs)) (sym (e ∙ listed-seen c b v x sound there actor))
 
-  pub shows-gaps : (rows : List GapRow) → asked ≡ Gaps → Gathers v (λ p x rows. rows ≡ flat_map (λ s. gaps_of p (own s x.frames)) suppliers) old new (Ok rows) → Shows actor v asked old new (Ok (shows.Gaps rows))
+  pub shows_schedule : (rows : List Sending) → rows ≡ sent_in (placements_among (seen_names actor b) x) (cluster_cells p) → shown p actor x Schedule ≡ Ok (shows.Schedule rows)
   unfolding shown
-  shows-gaps rows is gathers = of-gathered Gaps (λ p x rows. rows ≡ flat_map (λ s. gaps_of p (own s x.frames)) suppliers) rows (Ok (shows.Gaps rows)) is gathers (λ c b x sound there stood e.
-      ap (λ rs. Ok (shows.Gaps rs)) (sym (e ∙ ap (flat_map (λ s. gaps_of c.params (own s x.frames))) (known c b stood) ∙ gaps-seen c b v x sound there actor c.params)))
+  shows_schedule rows e =
+      ap (λ rs. Ok (shows.Schedule rs)) (sym (e ∙ sendings-sent p (seen_frames actor x.frames) (placements_among (seen_names actor b) x) (placements-seen c b v x sound there actor)))
 
-  pub shows-schedule : (p : Params) (rows : List Sending) → asked ≡ Schedule → ((c : Cluster) (b : Book) → old c b → p ≡ c.params) →
-      Gathers v (λ _ x rows. rows ≡ sent_in (placements_among suppliers x) (cluster_cells p)) old new (Ok rows) → Shows actor v asked old new (Ok (shows.Schedule rows))
+  pub shows_gaps : (rows : List GapRow) → rows ≡ flat_map (λ s. gaps_of p (own s x.frames)) (seen_names actor b) → shown p actor x Gaps ≡ Ok (shows.Gaps rows)
   unfolding shown
-  shows-schedule p rows is of_p gathers = of-gathered Schedule (λ _ x rows. rows ≡ sent_in (placements_among suppliers x) (cluster_cells p)) rows (Ok (shows.Schedule rows)) is gathers (λ c b x sound there stood e.
-      ap (λ rs. Ok (shows.Schedule rs))
-      (sym (e ∙ ap (λ p. sent_in (placements_among suppliers x) (cluster_cells p)) (of_p c b stood)
-      ∙ sendings-sent c.params (seen_frames actor x.frames) (placements_among suppliers x) (ap (λ ss. placements_among ss x) (known c b stood) ∙ placements-seen c b v x sound there actor))))
+  shows_gaps rows e = ap (λ rs. Ok (shows.Gaps rs)) (sym (e ∙ gaps-seen c b v x sound there actor p))
 
-  pub shows-load : (p : Params) (lanes rows : List LoadRow) → asked ≡ Load → ((c : Cluster) (b : Book) → old c b → p ≡ c.params) → rows ≡ lanes_told actor lanes →
-      Gathers v (λ _ x rows. rows ≡ filled_load p (grants_among suppliers x.grants) (placements_among suppliers x)) old new (Ok lanes) → Shows actor v asked old new (Ok (shows.Load rows))
-  unfolding shown
-  shows-load p lanes rows is of_p seen gathers = of-gathered Load (λ _ x rows. rows ≡ filled_load p (grants_among suppliers x.grants) (placements_among suppliers x)) lanes (Ok (shows.Load rows)) is gathers (λ c b x sound there stood e.
-      let grants = ap (λ ss. grants_among ss x.grants) (known c b stood) ∙ grants-seen c b v x sound there actor in
-      let placed = ap (λ ss. placements_among ss x) (known c b stood) ∙ placements-seen c b v x sound there actor in
-      ap (λ rs. Ok (shows.Load rs))
-      (sym (seen ∙ ap (lanes_told actor) (e ∙ (λ i. filled_load (of_p c b stood i) (grants i) (placed i))) ∙ loads actor c.params x)))
-    where
-      loads : (actor : Actor) (p : Params) (x : Variant) →
-          lanes_told actor (filled_load p (seen_grants actor x.grants) (placements_of (seen_frames actor x.frames))) ≡ load_of p actor (seen_grants actor x.grants) (seen_frames actor x.frames)
-      loads Integrator p x = load-all p x.grants x.frames
-      loads (Supplier s) p x = load-own p s (own_grants s x.grants) (own s x.frames)
-
-  pub shows-rows : (rows : List SeenRow) → asked ≡ Rows → Gathers v (λ p x rows. rows ≡ seen_among p suppliers x) old new (Ok rows) → Shows actor v asked old new (Ok (shows.Seen rows))
-  unfolding shown
-  shows-rows rows is gathers = of-gathered Rows (λ p x rows. rows ≡ seen_among p suppliers x) rows (Ok (shows.Seen rows)) is gathers (λ c b x sound there stood e.
-      ap (λ rs. Ok (shows.Seen rs)) (sym (e ∙ ap (λ ss. seen_among c.params ss x) (known c b stood) ∙ rows-among c b v x actor sound there)))
-
-  pub shows-export : (header : Header) (number : ℕ) (r : Result ReportRows Refusal) → asked ≡ Export header number →
-      Gathers v (λ p x rows. rows ≡ exported header number (frames_among suppliers x)) old new r → Shows actor v asked old new r
-  unfolding shown
-  shows-export header number (Ok rows) is gathers = of-gathered (Export header number) (λ p x rows. rows ≡ exported header number (frames_among suppliers x)) rows (Ok rows) is gathers (λ c b x sound there stood e.
-      ap Ok (sym (e ∙ ap (λ ss. exported header number (frames_among ss x)) (known c b stood) ∙ ap (exported header number) (rows-seen c b v x sound there actor))))
-  shows-export header number (Err e) is gathers = (λ c b stood sound.
-      let told = gathers c b stood in (
-        told.0,
-        λ x there. elim told.1 [
-          | inl lacks ↦ inl lacks
-          | inr none ↦ let no : Some x ≡ None = sym there ∙ none.1 in cc
-        ],
-      ))
-
-  named-known : (f : Name) (c : Cluster) (b : Book) (x : Variant) → old c b → IsSound c b → get b.variants v ≡ Some x → frames_named f suppliers x ≡ (named f (seen_frames actor x.frames)).rows
-  named-known f c b x stood sound there = ap (λ ss. frames_named f ss x) (known c b stood) ∙ named-seen c b v x sound there actor f
-
-  pub shows-layout : (f : Name) (rows : List SignalRow) → asked ≡ Layout f →
-      Gathers v (λ p x found. AreSignals f suppliers x found) old new (Ok (Some rows)) → Shows actor v asked old new (Ok (shows.Layout rows))
+  pub shows_layout : (f : Name) (rows : List SignalRow) → 0 < length (frames_named f (seen_names actor b) x) → rows ≡ flat_map signal_rows (frames_named f (seen_names actor b) x) →
+      shown p actor x (Layout f) ≡ Ok (shows.Layout rows)
   unfolding shown signals_of len ◌>>◌ refuse◌when◌
-  shows-layout f rows is gathers = of-gathered (Layout f) (λ p x found. AreSignals f suppliers x found) (Some rows) (Ok (shows.Layout rows)) is gathers (λ c b x sound there stood told.
+  shows_layout f rows found e =
       let t = named f (seen_frames actor x.frames) in
-      let all = named-known f c b x stood sound there in
-      let some : 0 < length t.rows = subst (λ (rs : List ((Name × Name) × Frame)). 0 < length rs) all told.0 in
+      let all = named-seen c b v x sound there actor f in
+      let some : 0 < length t.rows = subst (λ (rs : List ((Name × Name) × Frame)). 0 < length rs) all found in
       ap (λ none. (refuse NoFrame when none) >> Ok (shows.Layout (signals_of t))) (ne_eqb (length t.rows) 0 (λ h. omega (arith, h, some)))
-      ∙ ap (λ rs. Ok (shows.Layout rs)) (sym (told.1 ∙ ap (flat_map signal_rows) all)))
+      ∙ ap (λ rs. Ok (shows.Layout rs)) (sym (e ∙ ap (flat_map signal_rows) all))
 
-  pub shows-no_frame : (f : Name) → asked ≡ Layout f →
-      Gathers {X = Option (List SignalRow)} v (λ p x found. AreSignals f suppliers x found) old new (Ok None) → Shows actor v asked old new (Err NoFrame)
+  pub shows_no_frame : (f : Name) → frames_named f (seen_names actor b) x ≡ [] → shown p actor x (Layout f) ≡ Err NoFrame
   unfolding shown len ◌>>◌ refuse◌when◌
-  shows-no_frame f is gathers = of-gathered {X = Option (List SignalRow)} (Layout f) (λ p x found. AreSignals f suppliers x found) None (Err NoFrame) is gathers (λ c b x sound there stood told.
+  shows_no_frame f none =
       let t = named f (seen_frames actor x.frames) in
-      let none : t.rows ≡ [] = sym (named-known f c b x stood sound there) ∙ told in
-      inr (ap (λ none. (refuse NoFrame when none) >> Ok (shows.Layout (signals_of t))) (ap (λ (rs : List ((Name × Name) × Frame)). length rs == 0) none)))
+      let no_rows : t.rows ≡ [] = sym (named-seen c b v x sound there actor f) ∙ none in
+      ap (λ none. (refuse NoFrame when none) >> Ok (shows.Layout (signals_of t))) (ap (λ (rs : List ((Name × Name) × Frame)). length rs == 0) no_rows)
+
+  pub shows_load : (rows : List LoadRow) → rows ≡ lanes_told actor (filled_load p (grants_among (seen_names actor b) x.grants) (placements_among (seen_names actor b) x)) →
+      shown p actor x Load ≡ Ok (shows.Load rows)
+  unfolding shown lanes_told
+  shows_load rows e =
+      ap (λ rs. Ok (shows.Load rs))
+      (sym (e ∙ (λ i. lanes_told actor (filled_load p (grants-seen c b v x sound there actor i) (placements-seen c b v x sound there actor i))) ∙ loads actor x))
+    where
+      loads : (actor : Actor) (x : Variant) →
+          lanes_told actor (filled_load p (seen_grants actor x.grants) (placements_of (seen_frames actor x.frames))) ≡ load_of p actor (seen_grants actor x.grants) (seen_frames actor x.frames)
+      loads Integrator x = load-all p x.grants x.frames
+      loads (Supplier s) x = load-own p s (own_grants s x.grants) (own s x.frames)
+
+  pub shows_rows : (rows : List SeenRow) → p ≡ c.params → rows ≡ seen_among p (seen_names actor b) x → shown p actor x Rows ≡ Ok (shows.Seen rows)
+  unfolding shown
+  shows_rows rows of_p e =
+      ap (λ rs. Ok (shows.Seen rs))
+      (sym (e ∙ ap (λ p. seen_among p (seen_names actor b) x) of_p ∙ rows-among c b v x actor sound there ∙ ap (λ p. seen_rows p actor x) (sym of_p)))
+
+  pub shows_export : (header : Header) (number : ℕ) (rows : ReportRows) → rows ≡ exported header number (frames_among (seen_names actor b) x) → shown p actor x (Export header number) ≡ Ok rows
+  unfolding shown
+  shows_export header number rows e = ap Ok (sym (e ∙ ap (exported header number) (rows-seen c b v x sound there actor)))
 
 -- ---- the room for a frame
 

@@ -52,6 +52,7 @@ module _ {X K V : Type 0} (o : Order K) (same : V → V → Bool) (told : K × V
   kind-told : (b : Book) (before new : Variant) (actor : Actor) →
       flat_map (λ s. kind_told o same told entry (rows_in rows before s) (rows_in rows new s)) (seen_names actor b)
       ≡ kind_told o same told entry (flat_map (rows_in rows before) (seen_names actor b)) (flat_map (rows_in rows new) (seen_names actor b))
+  unfolding seen_names
   kind-told b before new Integrator =
       flat-map (λ s. kind_told o same told entry (rows_in rows before s) (rows_in rows new s)) (λ (e : Name × Key). e.0) b.suppliers.rows
       ∙ merge-suppliers (by_key o entry) (same_at same entry) (λ r. told (entry r)) of below above

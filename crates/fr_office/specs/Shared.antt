@@ -10,7 +10,7 @@ use Rattle.fr_base.specs.declared.name.Name.{Name}
 use Rattle.fr_base.specs.declared.placement.Placement.{Placement}
 
 -- the grants that these suppliers hold
-abbrev pub grants_among : List Name → Table channel_slots book.Holder → Table channel_slots book.Holder
+unfoldable pub grants_among : List Name → Table channel_slots book.Holder → Table channel_slots book.Holder
 grants_among ss grants = only (λ _ h. list_any (same_text h.supplier) ss) grants
 
 -- the placements of these suppliers' frames in the variant, each with its sender, supplier after

@@ -26,7 +26,7 @@ use Rattle.fr_world.specs.Held.{Standing}
 use Rattle.fr_world.specs.Pages.{PageData, page_in}
 
 -- the suppliers whose rows the actor sees, by name
-abbrev pub seen_names : Actor → Book → List Name
+unfoldable pub seen_names : Actor → Book → List Name
 seen_names Integrator b = map (λ e. e.0) b.suppliers.rows
 seen_names (Supplier s) b = s ∷ []
 
@@ -75,7 +75,7 @@ Shows actor v report old new r = (c : Cluster) (b : Book) → old c b → IsSoun
 
 -- of the rows of all lanes those that the actor is shown: a supplier those of lanes that are held, the
 -- integrator all
-abbrev pub lanes_told : Actor → List LoadRow → List LoadRow
+unfoldable pub lanes_told : Actor → List LoadRow → List LoadRow
 lanes_told Integrator lanes = lanes
 lanes_told (Supplier s) lanes = filter (λ lane. is_some lane.holder) lanes
 

@@ -31,16 +31,16 @@ mod suppliers;
 use crate::lender::Lender;
 use crate::queries::cluster::cluster_rows;
 use crate::queries::differences::differences;
-use crate::queries::exports::gather_export;
-use crate::queries::gathered::gather;
-use crate::queries::grants::gather_grants;
-use crate::queries::layout::gather_signals;
-use crate::queries::load::{gather_load, seen_lanes};
+use crate::queries::exports::show_export;
+use crate::queries::frames::show_frames;
+use crate::queries::gaps::show_gaps;
+use crate::queries::grants::show_grants;
+use crate::queries::layout::show_layout;
+use crate::queries::load::show_load;
 use crate::queries::nodes::node_rows;
 use crate::queries::room::find_room;
-use crate::queries::rows::gather_rows;
-use crate::queries::schedule::gather_schedule;
-use crate::queries::suppliers::seen_suppliers;
+use crate::queries::rows::show_rows;
+use crate::queries::schedule::show_schedule;
 use fr_base::{Actor, Answer, Inventory, Name, Query, Refusal, Report, ReportRows, Rows};
 use std::alloc::Global;
 
@@ -164,44 +164,19 @@ fn show<R: Lender>(
     ensures { OnlyReads R.Records (Shows actor.now variant report.now)
         records.old records.new result }
 {
-    let params = records.config().params();
-    let suppliers = seen_suppliers(alloc, records, actor)?;
     match report {
-        Report::Grants => {
-            let rows = gather_grants(alloc, records, &suppliers, variant)?;
-            Ok(ReportRows::Grants(rows))
-        }
-        Report::Frames => {
-            let rows = gather(alloc, records, &suppliers, variant, Rows::new(alloc))?;
-            Ok(ReportRows::Frames(rows))
-        }
-        Report::Schedule => {
-            let rows = gather_schedule(alloc, records, &params, &suppliers, variant)?;
-            Ok(ReportRows::Schedule(rows))
-        }
-        Report::Gaps => {
-            let rows = gather(alloc, records, &suppliers, variant, Rows::new(alloc))?;
-            Ok(ReportRows::Gaps(rows))
-        }
-        Report::Layout { frame } => {
-            match gather_signals(alloc, records, &suppliers, variant, *frame)? {
-                Some(rows) => Ok(ReportRows::Layout(rows)),
-                None => Err(Refusal::NoFrame),
-            }
-        }
-        Report::Load => {
-            let lanes = gather_load(alloc, records, &params, &suppliers, variant)?;
-            Ok(ReportRows::Load(seen_lanes(alloc, lanes, actor)?))
-        }
-        Report::Rows => {
-            let rows = gather_rows(alloc, records, &suppliers, variant)?;
-            Ok(ReportRows::Seen(rows))
-        }
+        Report::Grants => show_grants(alloc, records, actor, variant),
+        Report::Frames => show_frames(alloc, records, actor, variant),
+        Report::Schedule => show_schedule(alloc, records, actor, variant),
+        Report::Gaps => show_gaps(alloc, records, actor, variant),
+        Report::Layout { frame } => show_layout(alloc, records, actor, variant, *frame),
+        Report::Load => show_load(alloc, records, actor, variant),
+        Report::Rows => show_rows(alloc, records, actor, variant),
         Report::Room { frame, repetition } => {
             find_room(alloc, records, actor, variant, *frame, *repetition)
         }
         Report::Export { header, part } => {
-            gather_export(alloc, records, &suppliers, variant, *header, *part)
+            show_export(alloc, records, actor, variant, *header, *part)
         }
     }
 }

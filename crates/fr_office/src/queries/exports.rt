@@ -5,20 +5,39 @@ ghost use Rattle.std.specs.Prelude.{◌≡◌, ◌++◌, List, map, OnOk};
 ghost use Rattle.std.specs.List.{flat_map};
 ghost use Rattle.fr_base.specs.Book.{own};
 ghost use Rattle.fr_base.specs.Exports.{exported, part_of};
+ghost use Rattle.fr_base.specs.declared.report.Report.TheVariants.{Export};
 ghost use Rattle.fr_office.specs.Carried.{OnlyReads};
-ghost use Rattle.fr_office.specs.Shown.{Gathers};
+ghost use Rattle.fr_office.specs.Shown.{Gathers, Shows};
 ghost use Rattle.fr_world.specs.Pages.{own_rows_of};
 ghost use Rattle.fr_world.specs.Parts.{in_part};
 
 use crate::lender::Lender;
 use crate::queries::gathered::{Gathered, gather};
-use fr_base::{Header, Name, NoMemory, Refusal, ReportRows, Rows};
+use crate::queries::suppliers::seen_suppliers;
+use fr_base::{Actor, Header, Name, NoMemory, Refusal, ReportRows, Rows};
 use fr_world::{FileRecord, Page, Part};
 use std::alloc::Global;
 
-/// The records below the header of these suppliers' frames in the variant, supplier after supplier:
-/// the part of this number.
-pub(crate) fn gather_export<R: Lender>(
+/// The records below the header of the frames that the actor sees in the variant: the part of this number.
+#[tactic(auto, using(crate::proofs::ShownReplies::shows_export))]
+pub(crate) fn show_export<R: Lender>(
+    alloc: Global,
+    records: &mut R,
+    actor: &Actor,
+    variant: Name,
+    header: Header,
+    number: u32,
+) -> Result<ReportRows, Refusal>
+    ensures { OnlyReads R.Records (Shows actor.now variant (Export header number))
+        records.old records.new result }
+{
+    let suppliers = seen_suppliers(alloc, records, actor)?;
+    gather_export(alloc, records, &suppliers, variant, header, number)
+}
+
+// The records below the header of these suppliers' frames in the variant, supplier after supplier:
+// the part of this number.
+fn gather_export<R: Lender>(
     alloc: Global,
     records: &mut R,
     suppliers: &[Name],

@@ -1,8 +1,30 @@
 //! The frames that a query shows.
-use crate::queries::gathered::Gathered;
-use fr_base::{FrameRow, NoMemory, Rows};
+ghost use Rattle.fr_base.specs.declared.report.Report.TheVariants.{Frames};
+ghost use Rattle.fr_office.specs.Carried.{OnlyReads};
+ghost use Rattle.fr_office.specs.Shown.{Shows};
+
+use crate::lender::Lender;
+use crate::queries::gathered::{Gathered, gather};
+use crate::queries::suppliers::seen_suppliers;
+use fr_base::{Actor, FrameRow, Name, NoMemory, Refusal, ReportRows, Rows};
 use fr_world::{Page, frame_row};
 use std::alloc::Global;
+
+/// The frames that the actor sees in the variant, by supplier and name.
+#[tactic(auto, using(crate::proofs::ShownReplies::shows_frames))]
+pub(crate) fn show_frames<R: Lender>(
+    alloc: Global,
+    records: &mut R,
+    actor: &Actor,
+    variant: Name,
+) -> Result<ReportRows, Refusal>
+    ensures { OnlyReads R.Records (Shows actor.now variant Frames)
+        records.old records.new result }
+{
+    let suppliers = seen_suppliers(alloc, records, actor)?;
+    let rows = gather(alloc, records, &suppliers, variant, Rows::new(alloc))?;
+    Ok(ReportRows::Frames(rows))
+}
 
 // The frames of a page, by name, with their nodes and placements, come behind those of the pages before.
 impl Gathered for Rows<FrameRow> {

@@ -1,12 +1,33 @@
 //! The greatest gaps that a query shows.
 ghost use Rattle.std.specs.Prelude.{◌≡◌, ◌++◌, OnOk};
 ghost use Rattle.fr_base.specs.Queries.{gaps_of};
+ghost use Rattle.fr_base.specs.declared.report.Report.TheVariants.{Gaps};
+ghost use Rattle.fr_office.specs.Carried.{OnlyReads};
+ghost use Rattle.fr_office.specs.Shown.{Shows};
 ghost use Rattle.fr_world.specs.Pages.{own_rows_of};
 
-use crate::queries::gathered::Gathered;
-use fr_base::{GapRow, NoMemory, Rows};
+use crate::lender::Lender;
+use crate::queries::gathered::{Gathered, gather};
+use crate::queries::suppliers::seen_suppliers;
+use fr_base::{Actor, GapRow, Name, NoMemory, Refusal, ReportRows, Rows};
 use fr_world::{Page, gap_row};
 use std::alloc::Global;
+
+/// The greatest gaps of the frames that the actor sees in the variant, by supplier and name.
+#[tactic(auto, using(crate::proofs::ShownReplies::shows_gaps))]
+pub(crate) fn show_gaps<R: Lender>(
+    alloc: Global,
+    records: &mut R,
+    actor: &Actor,
+    variant: Name,
+) -> Result<ReportRows, Refusal>
+    ensures { OnlyReads R.Records (Shows actor.now variant Gaps)
+        records.old records.new result }
+{
+    let suppliers = seen_suppliers(alloc, records, actor)?;
+    let rows = gather(alloc, records, &suppliers, variant, Rows::new(alloc))?;
+    Ok(ReportRows::Gaps(rows))
+}
 
 /// Appends the greatest gaps of the page's frames, by name. Where memory is refused, some of them may
 /// have been appended.

@@ -3,21 +3,39 @@
 
 ghost use Rattle.std.specs.Prelude.{◌≡◌, IfOk, OnOk};
 ghost use Rattle.fr_base.specs.Queries.{grants_of};
+ghost use Rattle.fr_base.specs.declared.report.Report.TheVariants.{Grants};
 ghost use Rattle.fr_office.specs.Carried.{OnlyReads};
 ghost use Rattle.fr_office.specs.Shared.{grants_among, with_rows};
-ghost use Rattle.fr_office.specs.Shown.{Gathers};
+ghost use Rattle.fr_office.specs.Shown.{Gathers, Shows};
 ghost use Rattle.fr_world.specs.Pages.{own_rows_of};
 ghost use Rattle.fr_world.specs.Loads.{grants_in_lanes};
 
 use crate::lender::Lender;
 use crate::queries::gathered::{Gathered, gather};
-use fr_base::{GrantRow, LaneHolder, Name, NoMemory, Refusal, Rows};
+use crate::queries::suppliers::seen_suppliers;
+use fr_base::{Actor, GrantRow, LaneHolder, Name, NoMemory, Refusal, ReportRows, Rows};
 use fr_world::{ChannelSlot, Page};
 use std::alloc::Global;
 use std::collections::BTreeMap;
 
-/// Which of these suppliers holds which slot and channel in the variant, by slot and channel.
-pub(crate) fn gather_grants<R: Lender>(
+/// The grants that the actor sees in the variant, by slot and channel.
+pub(crate) fn show_grants<R: Lender>(
+    alloc: Global,
+    records: &mut R,
+    actor: &Actor,
+    variant: Name,
+) -> Result<ReportRows, Refusal>
+    ensures { OnlyReads R.Records (Shows actor.now variant Grants)
+        records.old records.new result }
+{
+    let suppliers = seen_suppliers(alloc, records, actor)?;
+    let rows = gather_grants(alloc, records, &suppliers, variant)?;
+    Ok(ReportRows::Grants(rows))
+}
+
+// Which of these suppliers holds which slot and channel in the variant, by slot and channel.
+#[tactic(auto, using(crate::proofs::GrantLaws::lanes_none))]
+fn gather_grants<R: Lender>(
     alloc: Global,
     records: &mut R,
     suppliers: &[Name],

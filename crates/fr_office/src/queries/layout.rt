@@ -4,19 +4,40 @@
 ghost use Rattle.std.specs.Prelude.{◌≡◌, ◌==◌, ◌++◌, not, IfOk, OnOk};
 ghost use Rattle.fr_base.specs.Queries.{named, signals_of};
 ghost use Rattle.fr_base.specs.Tables.{len};
+ghost use Rattle.fr_base.specs.declared.report.Report.TheVariants.{Layout};
 ghost use Rattle.fr_office.specs.Carried.{OnlyReads};
-ghost use Rattle.fr_office.specs.Shown.{AreSignals, Gathers};
+ghost use Rattle.fr_office.specs.Shown.{AreSignals, Gathers, Shows};
 ghost use Rattle.fr_world.specs.Pages.{own_rows_of};
 
 use crate::lender::Lender;
 use crate::queries::gathered::{Gathered, gather};
-use fr_base::{Name, NoMemory, Refusal, Rows, SignalRow};
+use crate::queries::suppliers::seen_suppliers;
+use fr_base::{Actor, Name, NoMemory, Refusal, ReportRows, Rows, SignalRow};
 use fr_world::{Page, push_signal_rows};
 use std::alloc::Global;
 
-/// The signals of the frames of this name in the variant, of these suppliers, supplier after supplier.
-/// `None` where none of them has such a frame.
-pub(crate) fn gather_signals<R: Lender>(
+/// The signals of the frames of this name that the actor sees in the variant. `NoFrame` where it sees none.
+#[tactic(auto, using(crate::proofs::ShownReplies::shows_layout, crate::proofs::ShownReplies::shows_no_frame))]
+pub(crate) fn show_layout<R: Lender>(
+    alloc: Global,
+    records: &mut R,
+    actor: &Actor,
+    variant: Name,
+    frame: Name,
+) -> Result<ReportRows, Refusal>
+    ensures { OnlyReads R.Records (Shows actor.now variant (Layout frame))
+        records.old records.new result }
+{
+    let suppliers = seen_suppliers(alloc, records, actor)?;
+    match gather_signals(alloc, records, &suppliers, variant, frame)? {
+        Some(rows) => Ok(ReportRows::Layout(rows)),
+        None => Err(Refusal::NoFrame),
+    }
+}
+
+// The signals of the frames of this name in the variant, of these suppliers, supplier after supplier.
+// `None` where none of them has such a frame.
+fn gather_signals<R: Lender>(
     alloc: Global,
     records: &mut R,
     suppliers: &[Name],

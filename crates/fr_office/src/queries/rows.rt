@@ -2,22 +2,41 @@
 #![tactic(auto, using(fr_world::proofs::ReadLaws::reads_none, fr_world::proofs::ReadLaws::reads_then))]
 
 ghost use Rattle.std.specs.Prelude.{◌≡◌, ◌++◌, map, OnOk, IfOk};
+ghost use Rattle.fr_base.specs.declared.report.Report.TheVariants.{Rows as AllRows};
 ghost use Rattle.fr_office.specs.Carried.{OnlyReads};
 ghost use Rattle.fr_office.specs.Compared.{grant_told, seen_among};
-ghost use Rattle.fr_office.specs.Shown.{Gathers};
+ghost use Rattle.fr_office.specs.Shown.{Gathers, Shows};
 
 use crate::lender::Lender;
 use crate::queries::compared::ComparedRows;
 use crate::queries::gathered::{Gathered, gather};
 use crate::queries::grants::grant_rows;
 use crate::queries::kind_rows::KindRows;
-use fr_base::{GrantRow, Name, NoMemory, Refusal, Rows, SeenRow};
+use crate::queries::suppliers::seen_suppliers;
+use fr_base::{Actor, GrantRow, Name, NoMemory, Refusal, ReportRows, Rows, SeenRow};
 use fr_world::{KeyedRow, Page};
 use std::alloc::Global;
 use std::collections::BTreeMap;
 
-/// The rows of these suppliers in the variant, by kind, then key.
-pub(crate) fn gather_rows<R: Lender>(
+/// The rows that the actor sees in the variant, by kind, then key.
+#[tactic(auto, using(crate::proofs::ShownReplies::shows_rows))]
+pub(crate) fn show_rows<R: Lender>(
+    alloc: Global,
+    records: &mut R,
+    actor: &Actor,
+    variant: Name,
+) -> Result<ReportRows, Refusal>
+    ensures { OnlyReads R.Records (Shows actor.now variant AllRows)
+        records.old records.new result }
+{
+    let suppliers = seen_suppliers(alloc, records, actor)?;
+    let rows = gather_rows(alloc, records, &suppliers, variant)?;
+    Ok(ReportRows::Seen(rows))
+}
+
+// The rows of these suppliers in the variant, by kind, then key.
+#[tactic(auto, using(crate::proofs::GrantLaws::lanes_none))]
+fn gather_rows<R: Lender>(
     alloc: Global,
     records: &mut R,
     suppliers: &[Name],

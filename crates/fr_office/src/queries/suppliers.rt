@@ -9,6 +9,7 @@ use fr_world::Records;
 use std::alloc::Global;
 
 /// The names of the suppliers whose rows the actor sees, in byte order: a supplier its own, the integrator those of all.
+#[tactic(auto, unfolding(crate::specs::Shown::seen_names))]
 pub(crate) fn seen_suppliers<R: Records>(
     alloc: Global,
     records: &R,

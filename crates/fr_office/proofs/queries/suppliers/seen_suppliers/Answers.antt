@@ -6,6 +6,7 @@ use Rattle.fr_office.proofs.SplitLaws.{names-listed}
 use Rattle.fr_office.proofs.queries.suppliers.seen_suppliers.Goals as goal
 
 pub returns-in_ok-names-in-Integrator : goal.returns-in_ok-names-in-Integrator
+unfolding seen_names
 returns-in_ok-names-in-Integrator g c k b stood =
     c.in_ok-names-in-Integrator.ensures
     ∙ ap (λ (f : ClusterFile). map (λ s. s.name) f.suppliers) (c.config.ensures.config k b stood)
