@@ -91,7 +91,7 @@ function fateBox(desk, file) {
   const choose = ({target}) => { file.onlyRefused = target.checked; desk.tell("file"); };
   const only = make("input", {type: "checkbox", id: "only-bad", checked: file.onlyRefused, onchange: choose});
   const all = refused.length ? `${plural(refused.length, "row")} of ${grouped(fates.length)} would be refused, so none is carried out.`
-    : `All ${rows} would be carried out.`;
+    : `${fates.length > 1 ? "All " : ""}${rows} would be carried out.`;
   return [row(make("strong", {class: refused.length ? "fault" : ""}, all)),
     WAYS[file.way].replaces ? goneBox(file) : "",
     row(file.way === "import" ? [make("label", {for: "label"}, "Label"), label] : "", go),
