@@ -29,7 +29,7 @@
 #               supplier's rows and beside others', what reports and files of rows cost beside one another, the speed of texts alone, how many
 #               requests a server answers, and how each report and change grows with a plan, which fails where one grows too fast; no test
 # make bench-all prints these figures, and those of instructions by valgrind, of a migration, of imports read, of
-#               placements decided, of registers in files and of variants that keep their differences; an hour or so
+#               placements decided, of registers in files, of their openings and of variants that keep their differences; an hour or so
 
 SCRIPT ?= examples/first.script
 CRATES ?=
@@ -148,6 +148,7 @@ bench-all: bench $(addprefix out/programs/,measure_store measure_decisions measu
 	@python3 bench/imports.py
 	@python3 bench/decisions.py
 	@python3 bench/store.py
+	@python3 bench/opening.py
 	@python3 bench/levels.py
 
 # `rt run` proves what has changed, compiles it, and runs the program once on its stored script. What

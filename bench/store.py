@@ -2,12 +2,11 @@
 """Prints how long a register in a file takes, beside python3's `sqlite3` on the same file: store.py [--runs N]
 
 Pages are loaded, of 4, 64 and 256 frames, each of 8 placements and 15 signals; a placement is put and ended, each in a
-transaction of its own; so are 512 of them in one; and a register of about 100,000 rows is opened and closed. Then the same page
-and the same edits in a register of 1 and of 64 suppliers, of 16 frames each: in instructions, which valgrind counts.
+transaction of its own; so are 512 of them in one. Then the same page and the same edits in a register of 1 and of 64 suppliers,
+of 16 frames each: in instructions, which valgrind counts.
 
 `sqlite3` runs the statements of `fr_tables`, in as many transactions, over files of its own making, with a log. Where a page is
-loaded it makes tuples of the rows, and no page. Where a file is opened it does what comes nearest: PRAGMA integrity_check and
-foreign_key_check. One program does our part, out/programs/measure_store.
+loaded it makes tuples of the rows, and no page. One program does our part, out/programs/measure_store.
 
 Figures are of processor time, the least of some runs, less that of a run that does it once, in which starting, opening and closing
 count too: what a disk takes is not in them. The ratios hold for their machine: they promise nothing."""
@@ -41,7 +40,7 @@ PUT, END = in_table("placements", "INSERT INTO placements (variant, supplier, fr
 
 
 def register(path, owners, frames):
-    """A register of so many suppliers with so many frames each in `v1`; in `v2` the first has 64 without a placement. Gives how many rows it has."""
+    """A register of so many suppliers with so many frames each in `v1`; in `v2` the first has 64 without a placement."""
     slots = max(1, frames // 8)
     rows = {table: [] for table in ("nodes", "variants", "grants", "frames", "placements", "signals")}
     rows["variants"] = [("v1", None, 1, 0, 0), ("v2", None, 1, 0, 0)]
@@ -62,7 +61,6 @@ def register(path, owners, frames):
         for table, made in rows.items():
             conn.executemany(f"INSERT INTO {table} VALUES ({','.join('?' * len(made[0]))})", made)
         conn.execute("COMMIT")
-        return sum(conn.execute(f"SELECT count(*) FROM {table}").fetchone()[0] for table, in conn.execute("SELECT name FROM sqlite_schema WHERE type = 'table'").fetchall())
 
 
 def load(conn, times):
@@ -99,15 +97,6 @@ def by_sqlite(path, do, times):
         start = time.process_time()
         given = do(conn, times)
         return time.process_time() - start, given
-
-
-def opened_by_sqlite(path, times):
-    start = time.process_time()
-    for _ in range(times):
-        with closing(connected(path)) as conn:
-            for pragma in "integrity_check", "foreign_key_check":
-                conn.execute(f"PRAGMA {pragma}").fetchall()
-    return time.process_time() - start, 0
 
 
 def measured(program, what, path, times, runs, theirs):
@@ -154,7 +143,8 @@ def main():
     with tempfile.TemporaryDirectory(dir=TOP / "out") as room:
         room = Path(room)
         program = built("measure_store")
-        counts = {(owners, frames): register(room / f"{owners}_{frames}.db", owners, frames) for owners, frames in ((1, 4), (1, 16), (1, 64), (1, 256), (64, 16), (64, 64))}
+        for owners, frames in (1, 4), (1, 16), (1, 64), (1, 256), (64, 16):
+            register(room / f"{owners}_{frames}.db", owners, frames)
         print(f"{'':34} {'us':>12} {'sqlite3, us':>12} {'time':>7}")
 
         def pages(owners, frames, times):
@@ -170,7 +160,6 @@ def main():
         show("page of 256 frames", *pages(1, 256, 150))
         show("placement put, and ended", *edits(1, 64, "edit", 1, 4_000))
         show("512 placements put, and ended", *edits(1, 64, "batch", BATCH, 20))
-        show(f"opening {counts[64, 64]:,} rows", *measured(program, "open", room / "64_64.db", 3, runs, opened_by_sqlite))
         print("\nwith 64 suppliers, as part of that with 1, in instructions:")
         for name, what, times in ("page of 16 frames", "page", 101), ("placement put, and ended", "edit", 101), ("512 put, and ended", "batch", 3):
             many, one = (instructions(program, what, room / f"{owners}_16.db", times) for owners in (64, 1))
