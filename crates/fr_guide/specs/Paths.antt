@@ -5,8 +5,11 @@ use Rattle.std.specs.Prelude.{ℕ, Bool, true, false, ◌==◌, ◌&&◌, ◌||�
 use Rattle.std.specs.List.{list_all, slice_split, zip}
 use Rattle.std.specs.Result.{is_ok}
 use Rattle.std.specs.Str.{bytes_eq}
+use Rattle.fr_base.specs.Forms.{FormData, form_of}
 use Rattle.fr_base.specs.ImportRows.{number}
 use Rattle.fr_base.specs.Names.{is_name}
+use Rattle.fr_base.specs.QueryNames.{Question}
+use Rattle.fr_base.specs.declared.query.Query.TheVariants.{Variant as OfVariant}
 use Rattle.fr_guide.specs.RefusalNumbers.{meant_word}
 use Rattle.fr_guide.specs.Topics.{is_explained}
 
@@ -18,7 +21,7 @@ parts_of path = slice_split (λ b. b == 47) path
 abbrev pub of_variant : List (List ℕ) → List (List ℕ)
 of_variant form = codes "" ∷ codes "v1" ∷ codes "variants" ∷ codes "{variant}" ∷ form
 
--- the forms of paths, each by its parts: a word stands for itself, and in braces is what a name or a number is of
+-- the forms of paths, each by its parts: a word stands for itself, and in braces is what a name, a number or a word is of
 unfoldable pub forms : List (List (List ℕ))
 forms =
     (codes "" ∷ codes "" ∷ [])
@@ -32,17 +35,12 @@ forms =
     ∷ (codes "" ∷ codes "v1" ∷ codes "nodes" ∷ [])
     ∷ of_variant (codes "imports" ∷ codes "{label}" ∷ [])
     ∷ of_variant (codes "since" ∷ codes "{from}" ∷ [])
-    ∷ of_variant (codes "grants" ∷ [])
-    ∷ of_variant (codes "frames" ∷ [])
-    ∷ of_variant (codes "schedule" ∷ [])
-    ∷ of_variant (codes "gaps" ∷ [])
+    ∷ of_variant (codes "{report}" ∷ [])
     ∷ of_variant (codes "frames" ∷ codes "{frame}" ∷ codes "layout" ∷ [])
-    ∷ of_variant (codes "load" ∷ [])
     ∷ of_variant (codes "frames" ∷ codes "{frame}" ∷ codes "room" ∷ codes "{repetition}" ∷ [])
     ∷ of_variant (codes "exports" ∷ codes "frames" ∷ codes "{part}" ∷ [])
     ∷ of_variant (codes "exports" ∷ codes "placements" ∷ codes "{part}" ∷ [])
     ∷ of_variant (codes "exports" ∷ codes "signals" ∷ codes "{part}" ∷ [])
-    ∷ of_variant (codes "rows" ∷ [])
     ∷ of_variant (codes "rows" ∷ codes "whole" ∷ [])
     ∷ of_variant (codes "tries" ∷ [])
     ∷ of_variant (codes "tries" ∷ codes "whole" ∷ [])
@@ -63,9 +61,19 @@ is_number part = bytes_eq part (codes "{repetition}") || bytes_eq part (codes "{
 abbrev pub is_word : List ℕ → Bool
 is_word part = bytes_eq part (codes "{word}")
 
--- whether a text may stand for a part of a form, whatever name or number it is
+-- whether a report of a variant is asked for
+abbrev pub is_of_variant : Option Question → Bool
+is_of_variant (Some (OfVariant _ _)) = true
+is_of_variant _ = false
+
+-- whether a request of this form asks for a report of a variant, and names nothing else
+abbrev pub asks_report : Option FormData → Bool
+asks_report (Some form) = is_of_variant form.asks && (length form.fields == 1)
+asks_report None = false
+
+-- whether a text may stand for a part of a form, whatever name or number it is; for the word of a report only such a word may
 abbrev pub stands : List ℕ × List ℕ → Bool
-stands both = is_hole both.0 || bytes_eq both.0 both.1
+stands both = if bytes_eq both.0 (codes "{report}") then asks_report (form_of both.1) else is_hole both.0 || bytes_eq both.0 both.1
 
 -- whether the path with these parts has this form
 abbrev pub has_form : List (List ℕ) → List (List ℕ) → Bool

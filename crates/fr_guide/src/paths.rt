@@ -2,18 +2,19 @@
 //! a part of it that must be a name, a number or a word is none.
 ghost use Rattle.std.specs.Prelude.{◌≡◌, find, IfOk, false, map};
 ghost use Rattle.std.specs.List.{list_all, zip};
+ghost use Rattle.fr_base.specs.Forms.{form_of};
 ghost use Rattle.fr_guide.specs.Faults.{are_none};
-ghost use Rattle.fr_guide.specs.Paths.{forms, has_form, is_fine_part, is_fine_path, is_hole, is_number, is_word, parts_of, stands};
+ghost use Rattle.fr_guide.specs.Paths.{asks_report, forms, has_form, is_fine_part, is_fine_path, is_hole, is_number, is_word, parts_of, stands};
 
 use crate::explain::explains;
 use crate::line_faults::one_fault;
 use crate::refusal_numbers::meant_word;
 use crate::shown::shown;
-use fr_base::{Name, NoMemory};
+use fr_base::{Name, NoMemory, Query, form_of};
 use fr_text::read_number;
 use std::alloc::Global;
 
-/// The form of a path, by its parts. What stands in braces says of what a name or a number is.
+/// The form of a path, by its parts. What stands in braces says of what a name, a number or a word is.
 type PathForm = &'static [&'static str];
 
 /// What is wrong with a path: it has no form, or one of its names, numbers or words is none. Which form it has, and which words say
@@ -22,7 +23,7 @@ pub fn path_faults(alloc: Global, path: &str) -> Result<Vec<String>, NoMemory>
     ensures { IfOk result (λ faults. are_none faults.items ≡ is_fine_path path.now) }
 {
     let texts = parts(alloc, path)?;
-    match form_of(&path_forms(), &texts) {
+    match fitting(&path_forms(), &texts) {
         Some(form) => part_faults(alloc, form, &texts),
         None => no_form(alloc, path),
     }
@@ -37,7 +38,7 @@ fn parts<'a>(alloc: Global, path: &'a str) -> Result<Vec<&'a str>, NoMemory>
 }
 
 // The first of these forms that the path with these parts has.
-fn form_of(forms: &[PathForm], texts: &[&str]) -> Option<PathForm>
+fn fitting(forms: &[PathForm], texts: &[&str]) -> Option<PathForm>
     ensures { result ≡ find (λ form. has_form (map (λ text. text.now) texts.now)
         (map (λ part. part.now) form.now)) forms.now }
 {
@@ -63,11 +64,25 @@ fn all_stand(form: &[&str], texts: &[&str]) -> bool
         .all(|(part, text)| stands(part, text))
 }
 
-// Whether a text may stand for a part of a form, whatever name or number it is.
+// Whether a text may stand for a part of a form, whatever name or number it is. For the word of a report only such a word may.
 fn stands(part: &str, text: &str) -> bool
     ensures { result ≡ stands (part.now, text.now) }
 {
-    is_hole(part) || part == text
+    if part == "{report}" {
+        asks_report(text)
+    } else {
+        is_hole(part) || part == text
+    }
+}
+
+// Whether a text is the word of a request for a report of a variant, which names nothing else.
+fn asks_report(text: &str) -> bool
+    ensures { result ≡ asks_report (form_of text.now) }
+{
+    match form_of(text) {
+        Some(form) => matches!(form.asks, Some(Query::Variant { .. })) && form.fields.len() == 1,
+        None => false,
+    }
 }
 
 // Whether a part of a form is in braces.
@@ -175,7 +190,7 @@ fn no_form(alloc: Global, path: &str) -> Result<Vec<String>, NoMemory>
 
 // The forms that paths have.
 #[tactic(auto, unfolding(crate::specs::Paths::forms))]
-fn path_forms() -> [PathForm; 27]
+fn path_forms() -> [PathForm; 22]
     ensures { map (λ form. map (λ part. part.now) form.now) result ≡ forms }
 {
     [
@@ -190,10 +205,7 @@ fn path_forms() -> [PathForm; 27]
         &["", "v1", "nodes"],
         &["", "v1", "variants", "{variant}", "imports", "{label}"],
         &["", "v1", "variants", "{variant}", "since", "{from}"],
-        &["", "v1", "variants", "{variant}", "grants"],
-        &["", "v1", "variants", "{variant}", "frames"],
-        &["", "v1", "variants", "{variant}", "schedule"],
-        &["", "v1", "variants", "{variant}", "gaps"],
+        &["", "v1", "variants", "{variant}", "{report}"],
         &[
             "",
             "v1",
@@ -203,7 +215,6 @@ fn path_forms() -> [PathForm; 27]
             "{frame}",
             "layout",
         ],
-        &["", "v1", "variants", "{variant}", "load"],
         &[
             "",
             "v1",
@@ -241,7 +252,6 @@ fn path_forms() -> [PathForm; 27]
             "signals",
             "{part}",
         ],
-        &["", "v1", "variants", "{variant}", "rows"],
         &["", "v1", "variants", "{variant}", "rows", "whole"],
         &["", "v1", "variants", "{variant}", "tries"],
         &["", "v1", "variants", "{variant}", "tries", "whole"],

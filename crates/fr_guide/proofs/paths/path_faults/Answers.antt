@@ -10,9 +10,9 @@ returns-in-Some c =
     let parts : map (λ text. text.now) c.deref.result.now ≡ parts_of c.args.path.now = ap (λ texts. map (λ text. text.now) texts) c.deref.ensures.value ∙ c.in_ok-texts.ensures in
     let same : c.deref-in-Some.result.now ≡ c.deref.result.now = c.deref-in-Some.ensures.value ∙ sym c.deref.ensures.value in
     told_as _ _ _ c.part_faults.ensures
-    (sym (ap (λ texts. list_all is_fine_part (zip (map (λ part. part.now) c.in-Some.form.now) (map (λ text. text.now) texts))) same ∙ with_form c.args.path.now (map (λ text. text.now) c.deref.result.now) c.path_forms.result c.form_of.result c.in-Some.form parts c.path_forms.ensures c.form_of.ensures c.in-Some.is))
+    (sym (ap (λ texts. list_all is_fine_part (zip (map (λ part. part.now) c.in-Some.form.now) (map (λ text. text.now) texts))) same ∙ with_form c.args.path.now (map (λ text. text.now) c.deref.result.now) c.path_forms.result c.fitting.result c.in-Some.form parts c.path_forms.ensures c.fitting.ensures c.in-Some.is))
 
 pub returns : goal.returns
 returns c =
     let parts : map (λ text. text.now) c.deref.result.now ≡ parts_of c.args.path.now = ap (λ texts. map (λ text. text.now) texts) c.deref.ensures.value ∙ c.in_ok-texts.ensures in
-    told_as _ _ _ c.no_form.ensures (sym (without_form c.args.path.now (map (λ text. text.now) c.deref.result.now) c.path_forms.result c.form_of.result parts c.path_forms.ensures c.form_of.ensures c.in-None.is))
+    told_as _ _ _ c.no_form.ensures (sym (without_form c.args.path.now (map (λ text. text.now) c.deref.result.now) c.path_forms.result c.fitting.result parts c.path_forms.ensures c.fitting.ensures c.in-None.is))
