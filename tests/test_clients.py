@@ -2,6 +2,7 @@
 
 What is wanted was typed by hand."""
 import os
+import shutil
 import ssl
 import subprocess
 import sys
@@ -214,18 +215,6 @@ class Ends(ClientCase):
         self.stops("http://[::1: Invalid IPv6 URL", "table", "http://[::1", "v1", "nodes", "--key", "integrator.key")
         self.see("no script", False, (self.folder / "a.script").exists())
 
-    def test_certificate(self):
-        """Whose certificate nobody knows is not shown the key, but where SSL_CERT_FILE names that certificate."""
-        self.has("integrator.key", "integrator1\n")
-        words = "req -x509 -newkey rsa:2048 -nodes -days 2 -subj /CN=own -addext subjectAltName=IP:127.0.0.1 -keyout own.pem -out own.pem"
-        subprocess.run(["openssl", *words.split()], cwd=self.folder, check=True, capture_output=True)
-        with pages(self.folder / "own.pem") as port:
-            asked = "table", f"https://127.0.0.1:{port}", "v1", "nodes", "--key", "integrator.key"
-            _, _, said = self.client(*asked)
-            self.see(f"{said!r} tells why", True, "certificate verify failed" in said)
-            with patch.dict(os.environ, SSL_CERT_FILE=str(self.folder / "own.pem")):
-                self.stops("what SOURCE tells is no report of a register", *asked)
-
     def test_keys(self):
         """Of a server."""
         self.has("s1.key", "X-Office-Key: supplier01\r\n")
@@ -254,6 +243,29 @@ class Ends(ClientCase):
         env = {**os.environ, "PYTHONPATH": str(TOP)}
         got = subprocess.run(["bash", "-c", line, "bash", self.program], cwd=self.folder, env=env, capture_output=True)
         self.see("nothing is said", b"", got.stderr)
+
+
+class Certificates(ClientCase):
+    """A server that is asked by TLS."""
+
+    may_be_skipped = True
+
+    def setUp(self):
+        super().setUp()
+        if not shutil.which("openssl"):
+            self.skipTest("there is no openssl")
+
+    def test_certificate(self):
+        """Whose certificate nobody knows is not shown the key, but where SSL_CERT_FILE names that certificate."""
+        self.has("integrator.key", "integrator1\n")
+        words = "req -x509 -newkey rsa:2048 -nodes -days 2 -subj /CN=own -addext subjectAltName=IP:127.0.0.1 -keyout own.pem -out own.pem"
+        subprocess.run(["openssl", *words.split()], cwd=self.folder, check=True, capture_output=True)
+        with pages(self.folder / "own.pem") as port:
+            asked = "table", f"https://127.0.0.1:{port}", "v1", "nodes", "--key", "integrator.key"
+            _, _, said = self.client(*asked)
+            self.see(f"{said!r} tells why", True, "certificate verify failed" in said)
+            with patch.dict(os.environ, SSL_CERT_FILE=str(self.folder / "own.pem")):
+                self.stops("what SOURCE tells is no report of a register", *asked)
 
 
 class Tables(ClientCase):
