@@ -58,9 +58,14 @@ def written(path, mode=0o600):
 
 def made(folder):
     """Makes a folder that only its owner may read, where nothing is."""
+    absent(folder)
     try:
         os.mkdir(folder, 0o700)
-    except FileExistsError:
-        raise Fault(f"{folder} is there already; name another folder, or move it away") from None
     except OSError as fault:
         raise Fault(f"{folder}: {fault.strerror}") from fault
+
+
+def absent(path):
+    """Nothing, where nothing is."""
+    if os.path.lexists(path):
+        raise Fault(f"{path} is there already; name another folder, or move it away")
