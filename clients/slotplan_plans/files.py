@@ -54,3 +54,13 @@ def written(path, mode=0o600):
     finally:
         with suppress(OSError):
             new.unlink()
+
+
+def made(folder):
+    """Makes a folder that only its owner may read, where nothing is."""
+    try:
+        os.mkdir(folder, 0o700)
+    except FileExistsError:
+        raise Fault(f"{folder} is there already; name another folder, or move it away") from None
+    except OSError as fault:
+        raise Fault(f"{folder}: {fault.strerror}") from fault

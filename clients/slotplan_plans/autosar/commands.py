@@ -3,13 +3,12 @@ import csv
 import re
 import sys
 from collections import Counter
-from decimal import Decimal, InvalidOperation
 
 from ..faults import Fault
 from ..files import written
 from ..reading import read
 from ..tables import rows_of
-from ..words import add_source, source_of
+from ..words import add_source, microseconds, source_of
 from . import beside, folder, reading, writing
 from .found import KINDS
 from .proposal import Proposal
@@ -65,19 +64,6 @@ def short_name(text):
     if not SHORT_NAME.fullmatch(text):
         raise Fault(f"--cluster: {text!a:.60} is no short name of AUTOSAR")
     return text
-
-
-def microseconds(text):
-    """The length of a macrotick as a decimal number, or none."""
-    if text is None:
-        return None
-    try:
-        number = Decimal(text)
-    except InvalidOperation:
-        number = Decimal(0)
-    if not number.is_finite() or not Decimal("0.001") <= number <= 1000:
-        raise Fault(f"--macrotick: {text!a:.60} is no number of microseconds from 0.001 to 1000")
-    return number
 
 
 def counts(plan):

@@ -1,11 +1,9 @@
 """A proposal as a folder: the cluster file, the integrator's requests, each supplier's key and files of rows, and the notes."""
 import csv
 import json
-import os
 from pathlib import Path
 
-from ..faults import Fault
-from ..files import written
+from ..files import made, written
 from ..keys import Keys, made_up
 from ..plan import FIGURES
 from .found import KINDS, Note
@@ -37,15 +35,6 @@ def write(folder, plan, notes, comment):
                 file.write(text)
     with written(folder / "notes.csv") as file:
         csv.writer(file, lineterminator="\n").writerows([Note._fields, *sorted(notes, key=lambda note: KINDS.index(note.kind))])
-
-
-def made(folder):
-    try:
-        os.mkdir(folder, 0o700)
-    except FileExistsError:
-        raise Fault(f"{folder} is there already; name another folder, or move it away") from None
-    except OSError as fault:
-        raise Fault(f"{folder}: {fault.strerror}") from fault
 
 
 def cluster_file(cluster, keys, comment):
