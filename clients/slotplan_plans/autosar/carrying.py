@@ -8,31 +8,26 @@ from .telling import tell
 
 
 class Carrying:
-    """What is to change of what was found, whose proposal is no longer the plan. `gone` are the paths of the frames that the plan has no more, and
-    `left` tells what cannot be carried back."""
+    """What is to change of what was found, whose proposal is no longer the plan. `left` tells what cannot be carried back."""
 
-    def __init__(self, proposal, plan, remove=False):
+    def __init__(self, proposal, plan):
         self.proposal, self.plan, self.found = proposal, plan, proposal.found
         self.source, self.left = self.found.source, []
         self.tree = self.source.tree
         self.ecus = {node: path for path, node in proposal.nodes.items()}
         self.changes = Changes(self.tree)
         self.crossing = Crossing(self)
-        frames = {frame.key for frame in plan.frames}
-        self.gone = {path: key for key, path in sorted(proposal.paths.items()) if key not in frames}
-        self.carry(remove)
+        self.carry()
 
-    def carry(self, remove):
-        before = {frame.key: frame for frame in self.proposal.plan.frames}
-        new = [frame for frame in self.plan.frames if frame.key not in before]
-        for frame in self.plan.frames:
-            if frame.key in before and (frame.placements, frame.node) != (before[frame.key].placements, before[frame.key].node):
-                Resent(self, self.proposal.paths[frame.key], before[frame.key], frame).carry()
-        if new:
+    def carry(self):
+        before, after = ({frame.key: frame for frame in plan.frames} for plan in (self.proposal.plan, self.plan))
+        for key in sorted(before.keys() & after.keys()):
+            if (before[key].placements, before[key].node) != (after[key].placements, after[key].node):
+                Resent(self, self.proposal.paths[key], before[key], after[key]).carry()
+        if new := [frame for key, frame in after.items() if key not in before]:
             Adding(self).add(new)
-        if remove:
-            for path, key in self.gone.items():
-                self.remove(path, key)
+        for key in sorted(before.keys() - after.keys()):
+            self.remove(self.proposal.paths[key], key)
         if self.found.variant is not None:
             self.tell_plan()
 

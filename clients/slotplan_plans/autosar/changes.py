@@ -39,11 +39,11 @@ class Moved(NamedTuple):
 
 
 class Edit(NamedTuple):
-    """A part of a text, from one place to another, and what comes there."""
+    """A part of a text, from one place to another, and what comes there. Of several at one place the turn tells which stands first."""
 
     first: int
     end: int
-    number: int
+    turn: tuple
     new: bytes
 
 
@@ -137,19 +137,14 @@ class Rendering:
             self.edit(self.places[leaf].file, *self.written(leaf, text))
         for element in changes.gone:
             self.cut(element)
-        later = []
-        for place, pieces in changes.put.items():
-            if any(isinstance(piece, Moved) for piece in pieces):
-                later.append((place, [self.taken(piece) for piece in pieces]))
-            else:
-                self.insert(*place, pieces)
-        for place, pieces in later:
-            self.insert(*place, pieces)
+        moving = {place for place, pieces in changes.put.items() if any(isinstance(piece, Moved) for piece in pieces)}
+        for place in sorted(changes.put, key=lambda place: place in moving):
+            self.insert(*place, [self.taken(piece) for piece in changes.put[place]])
         return {file.path: file.encoded(applied(file.utf8, 0, len(file.utf8), edits)) for file, edits in self.edits.items()}
 
-    def edit(self, file, first, end, new):
+    def edit(self, file, first, end, new, rank=0):
         edits = self.edits.setdefault(file, [])
-        edits.append(Edit(first, end, len(edits), new))
+        edits.append(Edit(first, end, (rank, len(edits)), new))
 
     def written(self, leaf, text):
         """Where a leaf's text stands, and what comes there. White space around it stays."""
@@ -175,16 +170,17 @@ class Rendering:
             return piece
         file, span = self.places[piece.element]
         edits = self.edits.get(file, [])
-        inside = [it for it in edits if span.first <= it.first and it.end <= span.end]
-        self.edits[file] = [it for it in edits if not (span.first <= it.first and it.end <= span.end)]
+        # (what is put at its begin or its end comes beside it)
+        inside = [it for it in edits if span.first < it.first and it.end < span.end]
+        self.edits[file] = [it for it in edits if not (span.first < it.first and it.end < span.end)]
         if piece.element not in self.changes.covered:
             self.cut(piece.element)
         return applied(file.utf8, span.first, span.end, inside)
 
     def copied(self, piece):
         file, span = self.places[piece.element]
-        edits = [Edit(first, end, 0, new) for first, end, new in (self.written(*it) for it in piece.texts.items())]
-        edits += (Edit(span.first + it.start(), span.first + it.end(), 0, b"") for it in UUID.finditer(file.utf8[span.first : span.end]))
+        edits = [Edit(first, end, (), new) for first, end, new in (self.written(*it) for it in piece.texts.items())]
+        edits += (Edit(span.first + it.start(), span.first + it.end(), (), b"") for it in UUID.finditer(file.utf8[span.first : span.end]))
         return applied(file.utf8, span.first, span.end, edits)
 
     def insert(self, parent, missing, pieces):
@@ -198,7 +194,7 @@ class Rendering:
         new = lines.wrapped(missing, [piece if isinstance(piece, bytes) else self.copied(piece) if isinstance(piece, Copied) else piece for piece in pieces])
         if len(beside) == 2:
             end = self.places[beside[0]].span.end
-            self.edit(file, end, end, new)
+            self.edit(file, end, end, new, len(BEFORE.get(missing[0], ())) if missing else 0)
         elif not span.is_closed:
             self.edit(file, span.inner, span.inner if beside else span.last, new if beside else new + outer)
         else:

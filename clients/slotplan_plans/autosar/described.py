@@ -1,5 +1,5 @@
 """The words by which commands read descriptions, and what is proposed of them."""
-from dataclasses import dataclass, field
+from dataclasses import dataclass, field, replace
 
 from ..faults import Fault
 from ..tables import rows_of
@@ -33,11 +33,14 @@ class Described:
         """What is found in files, or in these texts of them."""
         return reading.read(files, self.cluster, texts, self.senders, self.labels)
 
-    def proposed(self, files, variant=None, texts=None, without=()):
-        """What is proposed of files, without the frames of some paths."""
-        found = self.found(files, texts)
-        found.frames = {path: frame for path, frame in found.frames.items() if path not in without}
-        return Proposal(found, self.suppliers, variant, self.names)
+    def proposal(self, found, variant=None, without=()):
+        """What is proposed of what was found, without the frames of some paths."""
+        kept = replace(found, frames={path: frame for path, frame in found.frames.items() if path not in without})
+        return Proposal(kept, self.suppliers, variant, self.names)
+
+    def proposed(self, files, variant=None):
+        """What is proposed of files."""
+        return self.proposal(self.found(files), variant)
 
 
 def described(given):

@@ -1,6 +1,5 @@
 """The command `update`: a description with a plan's timings in it, and every other byte as it was."""
 from contextlib import ExitStack
-from dataclasses import replace
 from pathlib import Path
 
 from ..comparing import differences
@@ -11,6 +10,9 @@ from ..words import add_source, source_of
 from . import beside
 from .carrying import Carrying
 from .described import add_reading, described
+
+# How often a plan is carried back at most: each time some that were left out may have room.
+ROUNDS = 8
 
 
 def add_commands(commands):
@@ -32,36 +34,65 @@ def update(given):
         raise Fault("each file needs another name to be written by")
     for new in files.values():
         replaceable(new)
-    plan, words = read(source_of(given), given.variant), described(given)
+    plan = read(source_of(given), given.variant)
     if plan.reader:
         raise Fault(f"the key is of {plan.reader}: a description is the integrator's")
-    before = words.proposed(files, given.variant)
-    carrying = Carrying(before, plan, given.remove)
-    texts = carrying.changes.made()
-    after = words.proposed(files, given.variant, texts, () if given.remove else carrying.gone)
-    left = [*carrying.left, *beside.compared(plan, after)]
-    tell(before, carrying, after, left, given)
-    if left and not given.leave:
-        return 1
-    with ExitStack() as stack:
-        for old, new in files.items():
-            stack.enter_context(written(new, 0o666, "wb")).write(texts[old] if old in texts else Path(old).read_bytes())
-    return 0
+    updated = Updated(described(given), list(files), plan, given.remove)
+    kept = bool(updated.left) and not given.leave
+    print("".join(f"{line}\n" for line in updated.told()), end="")
+    print(f"{updated.counts()}{'; nothing was written: --leave writes the rest' if kept else ''}")
+    if not kept:
+        with ExitStack() as stack:
+            for old, new in files.items():
+                stack.enter_context(written(new, 0o666, "wb")).write(updated.texts[old] if old in updated.texts else Path(old).read_bytes())
+    return 1 if kept else 0
 
 
-def tell(before, carrying, after, left, given):
-    """Prints what is carried back, in the lines of `slotplan diff`: `-` is what the file had, `+` what it has. Then comes what is not."""
-    gone = {key for key in carrying.gone.values()} if not given.remove else ()
-    lines = [line for line in differences(without(before.plan, gone), after.plan) if before.found.variant is not None or " GRANT " not in f" {line}"]
-    print("".join(f"{line}\n" for line in lines), end="")
-    for supplier, name in gone:
-        print(f"gone: FRAME {name} {supplier}: the variant has it no more; --remove takes it out of the file")
-    for line in left:
-        print(f"left: {line}")
-    counts = f"rows out: {sum(line[0] == '-' for line in lines)}, rows in: {sum(line[0] == '+' for line in lines)}, gone: {len(gone)}, left: {len(left)}"
-    print(f"{counts}; nothing was written: --leave writes the rest" if left and not given.leave else counts)
+class Updated:
+    """A description with a plan in it. `texts` has the bytes of the files that change, `lines` are the rows that go and come, in the lines of
+    `slotplan diff`; `gone` are the frames that the plan has no more and that stay, and `left` is what cannot be carried back."""
 
+    def __init__(self, words, files, plan, remove=False):
+        self.words, self.files, self.plan, self.remove = words, files, plan, remove
+        self.texts, self.lines, self.gone, self.left = {}, {}, {}, []
+        self.carry()
 
-def without(plan, keys):
-    """A plan without the frames of these keys."""
-    return replace(plan, frames=tuple(frame for frame in plan.frames if frame.key not in keys))
+    def read(self):
+        """What is proposed of the files as they are now. Frames that are gone and stay take no room there."""
+        found, keys = self.words.found(self.files, self.texts), {frame.key for frame in self.plan.frames}
+        while True:
+            proposal = self.words.proposal(found, self.plan.variant.name, self.gone)
+            gone = {path: key for key, path in sorted(proposal.paths.items()) if key not in keys}
+            if self.remove or not gone:
+                return proposal
+            self.gone |= gone
+
+    def carry(self):
+        """Carries the plan back until the files have it: what was left out of the first proposal may come into the next, where it has room now."""
+        proposal = self.read()
+        for _ in range(ROUNDS):
+            carrying = Carrying(proposal, self.plan)
+            made = carrying.changes.made()
+            if not made:
+                break
+            self.texts |= made
+            before, proposal = proposal, self.read()
+            self.note(before, proposal)
+        self.left = [*carrying.left, *beside.compared(self.plan, proposal)]
+
+    def note(self, before, after):
+        """Keeps which rows go and come. One that came only since it has room now was in the file before."""
+        for line in differences(before.plan, after.plan):
+            if before.found.variant is not None or not line[2:].startswith("GRANT"):
+                self.lines[line[2:]] = line[0]
+
+    def told(self):
+        """What is done: `-` is what the file had, `+` what it has; then what is not."""
+        yield from (f"{sign} {line}" for line, sign in self.lines.items())
+        for supplier, name in self.gone.values():
+            yield f"gone: FRAME {name} {supplier}: the variant has it no more; --remove takes it out of the file"
+        yield from (f"left: {line}" for line in self.left)
+
+    def counts(self):
+        signs = list(self.lines.values())
+        return f"rows out: {signs.count('-')}, rows in: {signs.count('+')}, gone: {len(self.gone)}, left: {len(self.left)}"
