@@ -6,7 +6,10 @@ from pathlib import Path
 from ..files import made, written
 from ..keys import Keys, made_up
 from ..plan import FIGURES
+from ..tables import GRANTS, NODES
 from .found import KINDS, Note
+from .known import KINDS as ROW_KINDS
+from .known import Row
 
 # How many rows a file may have.
 ROWS = 512
@@ -17,13 +20,13 @@ HEADERS = {
 }
 
 
-def write(folder, plan, notes, comment):
+def write(folder, proposal):
     """Makes the folder, which only its owner may read: it has keys."""
-    folder, suppliers = Path(folder), plan.cluster.suppliers
+    folder, plan, suppliers = Path(folder), proposal.plan, proposal.plan.cluster.suppliers
     made(folder)
     keys = Keys(made_up(), {name: made_up() for name in suppliers})
     with written(folder / "cluster.toml") as file:
-        file.write(cluster_file(plan.cluster, keys, comment))
+        file.write(cluster_file(plan.cluster, keys, proposal.found.comment))
     with written(folder / "requests.txt") as file:
         file.writelines(f"{keys.integrator} {json.dumps(it, separators=(',', ':'))}\n" for it in requests(plan))
     for supplier in suppliers:
@@ -33,8 +36,15 @@ def write(folder, plan, notes, comment):
         for name, text in files(plan, supplier):
             with written(folder / supplier / name) as file:
                 file.write(text)
-    with written(folder / "notes.csv") as file:
-        csv.writer(file, lineterminator="\n").writerows([Note._fields, *sorted(notes, key=lambda note: KINDS.index(note.kind))])
+    tables = {
+        "notes.csv": [Note._fields, *sorted(proposal.notes, key=lambda note: KINDS.index(note.kind))],
+        "names.csv": [Row._fields, *sorted(proposal.rows, key=lambda row: (ROW_KINDS.index(row.kind), row.supplier, row.frame, row.name))],
+        "nodes.csv": [NODES, *((it.supplier, it.name) for it in plan.nodes)],
+        "grants.csv": [GRANTS, *((it.slot, it.channel, it.supplier, it.node) for it in plan.grants)],
+    }
+    for name, rows in tables.items():
+        with written(folder / name) as file:
+            csv.writer(file, lineterminator="\n").writerows(rows)
 
 
 def cluster_file(cluster, keys, comment):

@@ -1,9 +1,12 @@
 """Reads the FlexRay cluster of a system description: its figures, its channels, its ECUs, and each frame that it sends."""
+from collections import defaultdict
+
 from ..faults import Fault
 from .found import Ecu, Found, FoundFrame, Note
 from .payloads import Payloads
 from .sending import Sending
 from .tree import Tree, whole
+from .variation import Variation
 
 # The register's figures but `dynamic_macroticks` and `cycles`, and the elements that have them.
 FIGURES = {
@@ -17,32 +20,37 @@ RANGES = {
 }
 
 
-def read(paths, cluster=None):
-    """What the files tell of their FlexRay cluster; of that with this name or path, where there are several."""
-    return Reader(Tree(paths)).found(cluster)
+def read(paths, cluster=None, texts=None, senders=None, labels=()):
+    """What the files tell of their FlexRay cluster; of that with this name or path, where there are several. `texts` has the bytes of files that
+    are not written yet. `senders` has the ECU of triggerings of which the files do not tell it; `labels` are the variation points that hold."""
+    tree = Tree(paths, texts)
+    return Reader(tree, Variation(tree, labels).notes(), senders).found(cluster)
 
 
 class Reader:
-    """Reads a tree. What is not read of it is noted in the end."""
+    """Reads a tree. What is not read of it is noted in the end. `channels` has the elements of the channels by letter, `connectors` the paths of
+    an ECU's connectors by the ECU and letter, and `triggerings` those of a frame by its path and letter."""
 
-    def __init__(self, tree):
-        self.tree, self.notes, self.ecus, self.frames = tree, [], {}, {}
+    def __init__(self, tree, notes=(), senders=None):
+        self.tree, self.notes, self.ecus, self.frames = tree, list(notes), {}, {}
+        self.channels, self.connectors, self.triggerings, self.senders = {}, {}, defaultdict(list), senders or {}
 
     def note(self, kind, what, why):
         self.notes.append(Note(kind, what, why))
 
     def found(self, wanted):
         tree = self.tree
-        cluster = self.cluster(wanted)
+        self.of = cluster = self.cluster(wanted)
         conditional = self.conditional(cluster)
         figures = self.figures(conditional)
         told = tree.told(cluster, "variant", "supplier")
-        channels = self.channels(conditional)
+        self.channels = channels = self.channels_of(conditional)
         self.connected(channels)
-        sending = Sending(self, figures)
+        sending = Sending(self, figures, self.senders)
         for letter in sorted(channels):
             for triggering in channels[letter].iter("FLEXRAY-FRAME-TRIGGERING"):
                 sending.triggering(letter, triggering)
+        sending.rest()
         self.unplaced()
         payloads = Payloads(self, figures)
         for path, frame in self.frames.items():
@@ -51,7 +59,7 @@ class Reader:
         self.rest()
         variant = next((value for key, value in told if key == "variant"), None)
         suppliers = [value for key, value in told if key == "supplier"]
-        return Found("".join(sorted(channels)), figures, variant, suppliers, self.ecus, self.frames, self.notes, comment)
+        return Found("".join(sorted(channels)), figures, variant, suppliers, self.ecus, self.frames, self.notes, comment, self)
 
     def cluster(self, wanted):
         clusters = [(self.tree.path_of[it], it) for it in self.tree.of_kind("FLEXRAY-CLUSTER") if it in self.tree.path_of]
@@ -95,7 +103,7 @@ class Reader:
         if count or length:
             self.note("not kept", "minislots", f"{count} of {length} macroticks; the register has the length of the dynamic segment alone")
 
-    def channels(self, conditional):
+    def channels_of(self, conditional):
         """The channels by letter."""
         found = {}
         for channel in conditional.iterfind("PHYSICAL-CHANNELS/FLEXRAY-PHYSICAL-CHANNEL"):
@@ -120,6 +128,7 @@ class Reader:
                     self.note("left out", path, f"a connector of channel {letter} that belongs to no ECU of this file")
                 else:
                     self.ecu(ecu)
+                    self.connectors.setdefault((ecu, letter), path)
 
     def ecu(self, path):
         """The ECU of this path, which is read the first time."""

@@ -1,6 +1,7 @@
 """AUTOSAR files as one tree: its elements by path, its references, and which of its leaves were read."""
+import io
 import xml.etree.ElementTree as ET
-from collections import Counter
+from collections import Counter, defaultdict
 from decimal import Decimal, InvalidOperation
 
 from ..faults import Fault
@@ -39,10 +40,11 @@ def plain(text):
 class Tree:
     """The elements of AUTOSAR files. A description may be parted into several; a path is the short names from a file's top down."""
 
-    def __init__(self, paths):
+    def __init__(self, paths, texts=None):
+        self.paths, self.texts = list(map(str, paths)), texts or {}
         self.read, self.by_path, self.path_of, self.followed = set(), {}, {}, set()
         self.doubles, self.passed = [], Counter()
-        self.roots = [self.parsed(path) for path in paths]
+        self.roots = [self.parsed(path) for path in self.paths]
         for root in self.roots:
             self.walk(root)
 
@@ -50,7 +52,7 @@ class Tree:
         """A file's top. Tags lose their name space, and elements the white space between them: it would take half the memory."""
         bare = {}
         try:
-            for _, element in ET.iterparse(path):
+            for _, element in ET.iterparse(io.BytesIO(self.texts[path]) if path in self.texts else path):
                 tag = element.tag
                 element.tag = bare.get(tag) or bare.setdefault(tag, tag.rpartition("}")[2])
                 if len(element):
@@ -147,6 +149,16 @@ class Tree:
             return []
         groups = (group for group in data.iterfind("SDGS/SDG") if group.get("GID") == "slotplan")
         return [(row.get("GID"), self.own(row)) for group in groups for row in group.findall("SD") if row.get("GID") in keys]
+
+    def referring(self):
+        """The leaves that refer to each path, each with the element in which it stands."""
+        found = defaultdict(list)
+        for root in self.roots:
+            for element in root.iter():
+                for child in element:
+                    if not len(child) and (text := plain(child.text)).startswith("/"):
+                        found[text].append((child, element))
+        return found
 
     def unread(self):
         """How many leaves of each kind were not read, by the kind of the nearest named element and their own. A name by which a reference led, be it
