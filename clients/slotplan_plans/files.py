@@ -55,3 +55,18 @@ def written(path, mode=0o600, kind="w"):
     finally:
         with suppress(OSError):
             new.unlink()
+
+
+def made(folder):
+    """Makes a folder that only its owner may read, where nothing is."""
+    absent(folder)
+    try:
+        os.mkdir(folder, 0o700)
+    except OSError as fault:
+        raise Fault(f"{folder}: {fault.strerror}") from fault
+
+
+def absent(path):
+    """Nothing, where nothing is."""
+    if os.path.lexists(path):
+        raise Fault(f"{path} is there already; name another folder, or move it away")

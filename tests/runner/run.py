@@ -13,8 +13,8 @@ from tests import TOP
 from .case import Case
 from .steps import SideBySide, Step
 
-# What is tried of the clients, which are python3, and of the planners' page in a browser, which is the same whoever made the program.
-AROUND = "test_autosar", "test_browser", "test_clients", "test_demo", "test_page_built", "test_wireshark"
+# What is tried of the clients, which are python3, and of packages and the planners' page in a browser, which are the same whoever made the program.
+AROUND = "test_autosar", "test_browser", "test_clients", "test_demo", "test_package", "test_page_built", "test_wireshark"
 
 
 class Result(unittest.TestResult):

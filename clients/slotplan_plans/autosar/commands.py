@@ -1,14 +1,14 @@
-"""The commands for AUTOSAR system descriptions: `export`, `import`, `compare` and `ecus`."""
+"""The commands for AUTOSAR system descriptions, and for FIBEX: `export`, `import`, `compare` and `ecus`."""
 import csv
 import re
 import sys
 from collections import Counter
-from decimal import Decimal, InvalidOperation
 
 from ..faults import Fault
+from ..fibex import writing as fibex
 from ..files import written
 from ..reading import read
-from ..words import add_source, source_of
+from ..words import add_source, microseconds, source_of
 from . import beside, folder, writing
 from .described import SUPPLIERS, add_reading, described
 from .found import KINDS
@@ -24,6 +24,7 @@ def add_commands(commands):
     made.add_argument("--macrotick", metavar="MICROSECONDS", help="how long a macrotick lasts, as 1 or 1.375")
     made.add_argument("--cluster", metavar="NAME", default="FlexRay", help="the cluster's name in the file")
     made.add_argument("--each", action="store_true", help="a triggering for each timing, for tools that read one timing of each triggering")
+    made.add_argument("--fibex", metavar="RELEASE", choices=fibex.RELEASES, help="FIBEX of the release 3.1 or 4.1, in place of AUTOSAR")
     listed = command(commands, "ecus", ecus)
     add_files(listed)
     add_reading(listed, tables=False)
@@ -49,13 +50,16 @@ def add_files(parser):
 
 
 def export(given):
-    """Writes a released variant as an AUTOSAR system description."""
-    options = writing.Options(short_name(given.cluster), microseconds(given.macrotick), given.each)
+    """Writes a released variant as an AUTOSAR system description, or as FIBEX."""
+    options = short_name(given.cluster), microseconds(given.macrotick), given.each
     plan = read(source_of(given), given.variant)
     if not (plan.variant.is_released or given.open):
         raise Fault(f"the variant {given.variant} is open, so it may change; --open writes it as it is now")
     with written(given.file, 0o666) as file:
-        writing.write(file, plan, options)
+        if given.fibex:
+            fibex.write(file, plan, fibex.Options(given.fibex, *options))
+        else:
+            writing.write(file, plan, writing.Options(*options))
     print(counts(plan))
 
 
@@ -63,19 +67,6 @@ def short_name(text):
     if not SHORT_NAME.fullmatch(text):
         raise Fault(f"--cluster: {text!a:.60} is no short name of AUTOSAR")
     return text
-
-
-def microseconds(text):
-    """The length of a macrotick as a decimal number, or none."""
-    if text is None:
-        return None
-    try:
-        number = Decimal(text)
-    except InvalidOperation:
-        number = Decimal(0)
-    if not number.is_finite() or not Decimal("0.001") <= number <= 1000:
-        raise Fault(f"--macrotick: {text!a:.60} is no number of microseconds from 0.001 to 1000")
-    return number
 
 
 def counts(plan):

@@ -2,6 +2,8 @@
 from dataclasses import dataclass, field, replace
 
 from ..faults import Fault
+from ..fibex import reading as fibex
+from ..fibex.document import is_fibex
 from ..tables import rows_of
 from . import known, reading
 from .proposal import Proposal
@@ -30,7 +32,9 @@ class Described:
     names: known.Known = field(default_factory=known.Known)
 
     def found(self, files, texts=None):
-        """What is found in files, or in these texts of them."""
+        """What is found in files, or in these texts of them: of AUTOSAR, or in a file of FIBEX."""
+        if texts is None and any(map(is_fibex, files)):
+            return fibex.read(files, self.cluster, self.senders)
         return reading.read(files, self.cluster, texts, self.senders, self.labels)
 
     def proposal(self, found, variant=None, without=()):

@@ -1,25 +1,16 @@
 """A proposal as a folder: the cluster file, the integrator's requests, each supplier's key and files of rows, and the notes."""
 import csv
 import json
-import os
 from pathlib import Path
 
-from ..faults import Fault
-from ..files import written
+from ..files import made, written
 from ..keys import Keys, made_up
 from ..plan import FIGURES
+from ..rowfiles import parts, text_of
 from ..tables import GRANTS, NODES
 from .found import KINDS, Note
 from .known import KINDS as ROW_KINDS
 from .known import Row
-
-# How many rows a file may have.
-ROWS = 512
-HEADERS = {
-    "frames": "frame,node",
-    "placements": "frame,node,slot,channels,base,repetition",
-    "signals": "frame,signal,start,length,order",
-}
 
 
 def write(folder, proposal):
@@ -49,15 +40,6 @@ def write(folder, proposal):
             csv.writer(file, lineterminator="\n").writerows(rows)
 
 
-def made(folder):
-    try:
-        os.mkdir(folder, 0o700)
-    except FileExistsError:
-        raise Fault(f"{folder} is there already; name another folder, or move it away") from None
-    except OSError as fault:
-        raise Fault(f"{folder}: {fault.strerror}") from fault
-
-
 def cluster_file(cluster, keys, comment):
     lines = [f"# {''.join(letter if letter.isprintable() else '?' for letter in comment)}", f'channels = "{cluster.channels}"']
     lines += [f"{key} = {cluster.figures[key]}" for key in FIGURES]
@@ -79,22 +61,9 @@ def files(plan, supplier):
     """The supplier's files, whose names are in the order in which they are imported: all frames, then placements, then signals."""
     mine = [it for it in plan.frames if it.supplier == supplier]
     rows = {
-        "frames": [[(it.name, it.node)] for it in mine],
-        "placements": [[(it.name, it.node, at.slot, at.channels, at.base, at.repetition) for at in it.placements] for it in mine],
-        "signals": [[(it.name, signal.name, signal.start, signal.length, signal.order) for signal in it.signals] for it in mine],
+        "frames": [(it.name, it.node) for it in mine],
+        "placements": [(it.name, it.node, at.slot, at.channels, at.base, at.repetition) for it in mine for at in it.placements],
+        "signals": [(it.name, signal.name, signal.start, signal.length, signal.order) for it in mine for signal in it.signals],
     }
-    parts = [(kind, part) for kind in HEADERS for part in parted(rows[kind])]
-    for number, (kind, part) in enumerate(parts):
-        yield f"part{number:02}_{kind}.csv", "".join(f"{line}\n" for line in [HEADERS[kind], *(",".join(map(str, row)) for row in part)])
-
-
-def parted(groups):
-    """The rows of frames in parts of at most so many rows. Those of one frame stay together."""
-    part = []
-    for group in groups:
-        if len(part) + len(group) > ROWS:
-            yield part
-            part = []
-        part = part + group
-    if part:
-        yield part
+    for number, (kind, part) in enumerate((kind, part) for kind in rows for part in parts(rows[kind])):
+        yield f"part{number:02}_{kind}.csv", text_of(kind, part)

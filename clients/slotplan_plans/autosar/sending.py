@@ -2,6 +2,7 @@
 from collections import defaultdict
 
 from ..faults import Fault
+from .figures import unfit
 from .found import Timing, folded
 from .tree import plain, whole
 
@@ -13,7 +14,7 @@ class Sending:
 
     def __init__(self, reader, figures, table):
         self.reader, self.tree, self.note = reader, reader.tree, reader.note
-        self.slots, self.cycles = figures["static_slots"], figures["cycles"]
+        self.figures, self.cycles = figures, figures["cycles"]
         self.senders_of, self.table, self.used = {}, table, set()
 
     def triggering(self, letter, triggering):
@@ -53,7 +54,7 @@ class Sending:
             base, repetition, cycle = self.cycle_of(timing)
             values = [("slot", f"{slot} on {letter}"), ("cycle", cycle), ("base", base), ("repetition", repetition)]
             what = ", ".join(f"{key} {value}" for key, value in values if value is not None)
-            if why := self.unfit(slot, base, repetition, cycle):
+            if why := unfit(self.figures, slot, base, repetition, cycle):
                 self.note("left out", f"{here}: {what}", why)
             elif cycle is not None:
                 single[slot][cycle].append(timing)
@@ -73,20 +74,6 @@ class Sending:
             text = self.tree.text(repeated, "CYCLE-REPETITION").removeprefix("CYCLE-REPETITION-")
             return self.tree.number(repeated, "BASE-CYCLE"), whole(text) if text else None, None
         return None, None, self.tree.number(counted, "CYCLE-COUNTER") if counted is not None else None
-
-    def unfit(self, slot, base, repetition, cycle):
-        """Why a timing is none of the static segment of this cluster, or nothing."""
-        if slot > self.slots:
-            return f"it lies in the dynamic segment: the static one has {self.slots} slots"
-        if slot < 1:
-            return "it has no SLOT-ID from 1 on"
-        if cycle is not None:
-            return "" if 0 <= cycle < self.cycles else f"the cluster has {self.cycles} cycles"
-        if base is None or repetition is None:
-            return "it has no cycle, or no base and repetition"
-        if repetition < 1 or self.cycles % repetition or not 0 <= base < repetition:
-            return f"that is no base and repetition of {self.cycles} cycles"
-        return ""
 
     def senders(self, triggering):
         """The ECUs that have a port OUT of the triggering; where it has none, of its PDUs."""
