@@ -320,59 +320,73 @@ class Evenly(Case):
         self.see("none", None, evenly.chosen([1, 2, 3], figures, 60))
 
 
-class Limits(NeedsCase):
-    """A cluster of 1023 slots and 64 suppliers, whose wishes need nearly all of them: all is granted, and each supplier's files are taken row by
-    row."""
+class LimitsCase(NeedsCase):
+    """A test of a cluster of 1023 slots and 64 suppliers, whose wishes need nearly all of them."""
 
-    seconds = 20
     names = [f"s{number:02}" for number in range(64)]
     cluster = cluster_file({
         **CLUSTER, "static_slots": "1023", "slot_macroticks": "15", "dynamic_macroticks": "595", "macroticks_per_cycle": "15960",
         "suppliers": "{" + ", ".join(f's{number:02} = "supplier{number:02}"' for number in range(64)) + "}",
     }).encode()
 
-    def test_limits(self):
+    def setUp(self):
+        super().setUp()
         self.wished()
         status, told, _ = self.client("needs", "wishes", "--cluster", "cluster.toml", *TABLES, program=False)
         lines = told.splitlines()
         self.see("the cluster has them", (0, True), (status, lines[-1].startswith("the cluster has them; new grants: ")))
         self.see("most slots of A are needed", True, int(lines[-2].split(" ")[2]) > 950)
-        files = {name: sorted((self.folder / "made" / name).iterdir()) for name in self.names}
-        asked, wanted = self.asked(files)
-        answers = ran(["run"], self.folder, self.cluster + b"---\n" + "".join(asked).encode())[1].decode().splitlines()
-        self.see("so many answers", len(wanted), len(answers))
-        for line, answer, want in zip(asked, map(json.loads, answers), wanted):
-            got = {it[5:] for it in answer["lines"]} if answer.get("ok") == "try" else answer
-            self.see(line[:80], want, got)
 
     def wished(self):
         """Of each supplier 226 wishes; of some the gap is shorter than a cycle."""
-        dice = random.Random(1)
+        dice, self.wanted = random.Random(1), {}
         for name in ("s1", "s2"):
             (self.folder / f"wishes/{name}.csv").unlink()
         for name in self.names:
-            rows = ["frame;node;channels;repetition;gap (macroticks)"]
+            rows = self.wanted[name] = []
             for number in range(226):
                 channels = dice.choices(("AB", "A", "B"), (40, 35, 25))[0]
                 repetition = dice.choices((2, 4, 8, 16, 32, 64), (2, 8, 20, 30, 24, 16))[0]
                 gap = dice.choice(("8400", "6000")) if number == 0 and name < "s08" else ""
-                rows.append(f"f{number};n{dice.randrange(2)};{channels};{'' if gap else repetition};{gap}")
-            self.has(f"wishes/{name}.csv", "\n".join(rows) + "\n")
+                rows.append((f"f{number}", f"n{dice.randrange(2)}", channels, "" if gap else repetition, gap))
+            lines = "".join(f"{';'.join(map(str, row))}\n" for row in rows)
+            self.has(f"wishes/{name}.csv", f"frame;node;channels;repetition;gap (macroticks)\n{lines}")
 
-    def asked(self, files):
-        """Requests that grant what is to be granted, try each supplier's files and import them; and what is to be answered."""
-        lines, wanted = [request("integrator1", "open_variant", variant="v1")], [{"ok": "done"}]
+    def granted(self):
+        """Requests that grant what is to be granted."""
+        yield request("integrator1", "open_variant", variant="v1")
         for row in self.text("nodes.csv").splitlines()[1:]:
-            lines.append(request("integrator1", "add_node", **dict(zip(("supplier", "node"), row.split(",")))))
+            yield request("integrator1", "add_node", **dict(zip(("supplier", "node"), row.split(","))))
         for row in self.text("grants.csv").splitlines()[1:]:
             slot, channel, supplier, node = row.split(",")
-            lines.append(request("integrator1", "grant", variant="v1", slot=int(slot), channel=channel, supplier=supplier, node=node))
-        wanted = [{"ok": "done"}] * len(lines)
-        for name, its in files.items():
-            key = f"supplier{name[1:]}"
-            for it in its:
-                body = it.read_text()
-                lines.append(request(key, "try", variant="v1", body=body))
-                lines.append(request(key, "import", variant="v1", label=it.stem, body=body))
-                wanted += [{"00 done"}, {"ok": "imported", "rows": body.count("\n") - 1}]
-        return lines, wanted
+            yield request("integrator1", "grant", variant="v1", slot=int(slot), channel=channel, supplier=supplier, node=node)
+
+    def files(self, name):
+        """The texts of a supplier's files of placements."""
+        return [it.read_text() for it in sorted((self.folder / "made" / name).iterdir())]
+
+    def answered(self, more):
+        """Grants all, and then asks these requests, each of which has its answer beside it."""
+        granted = list(self.granted())
+        asked = [(it, {"ok": "done"}) for it in granted] + more
+        given = self.cluster + b"---\n" + "".join(line for line, _ in asked).encode()
+        answers = ran(["run"], self.folder, given)[1].decode().splitlines()
+        self.see("so many answers", len(asked), len(answers))
+        for (line, wanted), answer in zip(asked, map(json.loads, answers)):
+            self.see(line[:80], wanted, answer)
+
+
+class Limits(LimitsCase):
+    """All is granted, and each supplier's files are taken, row by row."""
+
+    seconds = 20
+
+    def test_limits(self):
+        more = []
+        for name in self.names:
+            for number, body in enumerate(self.files(name)):
+                count, key = body.count("\n") - 1, f"supplier{name[1:]}"
+                lines = [f"{line:04} 00 done" for line in range(2, count + 2)]
+                more.append((request(key, "try", variant="v1", body=body), {"ok": "try", "lines": lines}))
+                more.append((request(key, "import", variant="v1", label=f"part{number}", body=body), {"ok": "imported", "rows": count}))
+        self.answered(more)
