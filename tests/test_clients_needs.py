@@ -390,3 +390,26 @@ class Limits(LimitsCase):
                 more.append((request(key, "try", variant="v1", body=body), {"ok": "try", "lines": lines}))
                 more.append((request(key, "import", variant="v1", label=f"part{number}", body=body), {"ok": "imported", "rows": count}))
         self.answered(more)
+
+
+class Proposed(LimitsCase):
+    """What is granted is enough for each supplier's proposal, beside its frames of gaps below a cycle: no wish is without room, and each has the
+    place that was planned."""
+
+    seconds = 20
+
+    def test_proposals(self):
+        more = []
+        for name in self.names:
+            key, wishes = f"supplier{name[1:]}", [row for row in self.wanted[name] if not row[4]]
+            placed = [line for body in self.files(name) for line in body.splitlines()[1:]]
+            short = {row[0] for row in self.wanted[name] if row[4]}
+            mine = [line for line in placed if line.partition(",")[0] in short]
+            rest = [line for line in placed if line.partition(",")[0] not in short]
+            if mine:
+                body = HEADER + "".join(f"{line}\n" for line in mine)
+                more.append((request(key, "import", variant="v1", label="short", body=body), {"ok": "imported", "rows": len(mine)}))
+            body = "frame,node,channels,repetition\n" + "".join(f"{','.join(map(str, row[:4]))}\n" for row in wishes)
+            lines = [f"{number:04} 00 {line}" for number, line in enumerate(rest, 2)]
+            more.append((request(key, "propose", variant="v1", body=body), {"ok": "propose", "lines": lines}))
+        self.answered(more)

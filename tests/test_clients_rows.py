@@ -188,6 +188,21 @@ class Workbooks(RowsCase):
         self.given(office([row], header="frame,node,channels,gap (macroticks)"), "lights.xlsx")
         self.prints("frame,node,channels,repetition\nlow_beam,lamp_unit,A,2\n", (), "--cluster", "cluster.toml", name="lights.xlsx")
 
+    def test_reading_aids(self):
+        """Aids for reading a text are no part of it; its pieces are."""
+        aid = '<c t="inlineStr"><is><r><t>low</t></r><rPh sb="0" eb="1"><t>ro</t></rPh><r><t>_beam</t></r></is></c>'
+        self.with_cell(0, aid)
+        self.prints(f"{PLACES}\nlow_beam,lamp_unit,4,A,0,2\n", name="lights.xlsx")
+
+    def test_places(self):
+        """Rows of nothing count, be they written once for all."""
+        rows = '<table:table-row table:number-rows-repeated="7"><table:table-cell/></table:table-row>'
+        cells = "".join(f"<table:table-cell><text:p>{name}</text:p></table:table-cell>" for name in ("frame", "node"))
+        row = "<table:table-row><table:table-cell><text:p>low_beam</text:p></table:table-cell></table:table-row>"
+        self.given(open_with("", before=f"{rows}<table:table-row>{cells}</table:table-row>{row}"), "lights.ods")
+        status, written, said = self.client("rows", "lights.ods", "--sheet", "notes", program=False)
+        self.see("where it is at fault", (2, "", "slotplan-plans: lights.ods: row 9 of 'notes': there is no node\n"), (status, written, said))
+
     def test_dates(self):
         """2026-10-02 is the 46,297th day from 1899-12-30 on."""
         said = "is a date or a time: give the column the format Text, and write it again"
