@@ -269,6 +269,14 @@ class ByChance(Case):
                 self.is_proposed(number, figures["cycles"], plan, frames)
         self.see("most have the slots", True, met > 40)
 
+    def test_second_turn(self):
+        """Wishes whose repetitions are no chain may go elsewhere once there are more slots, so that other slots are lacking."""
+        figures, held = {**WIDE, "cycles": 12}, Grant(12, "A", "s1", "n1")
+        frames = [Frame("s1", "there", "n1", (Placement(12, "A", 2, 3), Placement(12, "A", 3, 12)))]
+        wishes = (("A", 4), ("B", 3), ("A", 3), ("AB", 6))
+        asked = [Wanted(Node("s1", "n1"), f"f{number}", *wish, None, "") for number, wish in enumerate(wishes)]
+        self.is_proposed("a second turn", 12, self.planned("a second turn", figures, asked, [held], frames), frames)
+
     def is_proposed(self, number, cycles, plan, frames):
         filled = cells_of((it for frame in frames for it in frame.placements), cycles)
         filled += cells_of((it for wish, places in plan.placements if wish.macroticks for it in places), cycles)
