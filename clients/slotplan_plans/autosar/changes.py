@@ -81,7 +81,7 @@ class Changes:
         spans, files = {}, [Text(path, self.tree.texts.get(path)) for path in self.tree.paths]
         wanted = set(self.mentioned())
         for file, root in zip(files, self.tree.roots):
-            spans |= ((element, Placed(file, span)) for element, span in file.spans(root, wanted).items())
+            spans |= ((element, Placed(file, span)) for element, span in file.spans(self.tree.order(root), wanted).items())
         return Rendering(self, spans).made()
 
     def emptied(self):

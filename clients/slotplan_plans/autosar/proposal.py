@@ -159,10 +159,11 @@ class Proposal:
                 cells = [(cycle, channel) for cycle in range(it.base, self.found.figures["cycles"], it.repetition) for channel in it.channels]
                 taken = next(((it.slot, *cell) for cell in cells if (it.slot, *cell) in filled), None)
                 what = f"{path}: slot {it.slot} on {it.channels}, base {it.base}, repetition {it.repetition}"
-                if any(lanes[it.slot, channel] != Node(frame.supplier, frame.node) for channel in it.channels):
-                    self.note("left out", what, "another node is granted the slot")
+                if other := next((lanes[it.slot, at] for at in it.channels if lanes[it.slot, at] != Node(frame.supplier, frame.node)), None):
+                    self.note("left out", what, f"another node is granted the slot: {name_of(other)} holds it, and not {name_of(frame)}")
                 elif taken:
-                    self.note("left out", what, f"in cycle {taken[1]} on {taken[2]} {filled[taken]} is sent")
+                    why = f"in cycle {taken[1]} on {taken[2]} {filled[taken]} is sent, and so would be {path}: a cell has one frame"
+                    self.note("left out", what, why)
                 elif len(placed[path]) == PLACEMENTS:
                     self.note("left out", what, f"the frame has {PLACEMENTS} placements already")
                 else:
@@ -235,8 +236,9 @@ class Proposal:
         return [FoundSignal(start, length, it.order, f"{it.name}_{number}", it.path, str(number)) for number, (start, length) in pieces]
 
 
-def name_of(node):
-    return f"{node.supplier}.{node.name}"
+def name_of(it):
+    """The name of a node, or of the one that sends a frame."""
+    return f"{it.supplier}.{it.name if isinstance(it, Node) else it.node}"
 
 
 def told(signal):

@@ -71,7 +71,7 @@ class Reader:
         """What holds of the cluster. Of several forms the file leaves open which one does."""
         forms = cluster.findall("FLEXRAY-CLUSTER-VARIANTS/FLEXRAY-CLUSTER-CONDITIONAL")
         if len(forms) != 1:
-            raise Fault(f"the cluster has {len(forms)} FLEXRAY-CLUSTER-CONDITIONAL; one can be read")
+            raise Fault(f"the cluster has {len(forms)} FLEXRAY-CLUSTER-CONDITIONAL; one can be read, and --variant-of chooses by a label")
         return forms[0]
 
     def figures(self, conditional):

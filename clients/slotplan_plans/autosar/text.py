@@ -52,9 +52,9 @@ class Text:
         """The bytes of a text in the file's own encoding."""
         return utf8 if self.encoding == "utf-8" else utf8.decode().encode(self.encoding, "xmlcharrefreplace")
 
-    def spans(self, root, wanted):
-        """The spans of these elements of the file's tree, by element."""
-        numbers = {number: element for number, element in enumerate(root.iter()) if element in wanted}
+    def spans(self, order, wanted):
+        """The spans of these elements, by element. All elements of the file are told in their order."""
+        numbers = {number: element for number, element in enumerate(order) if element in wanted}
         return {element: self.span(element, *places) for element, places in self.places(numbers)}
 
     def places(self, numbers):

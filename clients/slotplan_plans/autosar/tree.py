@@ -5,11 +5,12 @@ from collections import Counter, defaultdict
 from decimal import Decimal, InvalidOperation
 
 from ..faults import Fault
+from .references import References
 
 # Kinds of elements that are told of by where they stand, even where they have no name.
 PLACED = {"FLEXRAY-CLUSTER", "FLEXRAY-PHYSICAL-CHANNEL", "FLEXRAY-FRAME-TRIGGERING", "FLEXRAY-FRAME", "ECU-INSTANCE"}
 # Attributes that say nothing of their own: where a reference leads, and whose special data it is.
-KNOWN = {"DEST", "GID"}
+KNOWN = {"DEST", "GID", "BASE"}
 # The top of a file of release 4, whichever of its schemas it follows.
 TOP = "{http://autosar.org/schema/r4.0}AUTOSAR"
 # More than any number of a plan.
@@ -44,9 +45,12 @@ class Tree:
         self.paths, self.texts = list(map(str, paths)), texts or {}
         self.read, self.by_path, self.path_of, self.followed = set(), {}, {}, set()
         self.doubles, self.passed = [], Counter()
+        self.relative, self.whole = {}, {}
         self.roots = [self.parsed(path) for path in self.paths]
         for root in self.roots:
             self.walk(root)
+        if self.relative:
+            References(self).resolve()
 
     def parsed(self, path):
         """A file's top. Tags lose their name space, and elements the white space between them: it would take half the memory."""
@@ -84,6 +88,8 @@ class Tree:
                 self.passed[f"attribute {name}"] += 1
         if element.get("DEST") is not None and not len(element):
             text = element.text
+            if not plain(text).startswith("/"):
+                self.relative[element] = element.get("BASE")
             element.clear()
             element.text = text
 
@@ -101,6 +107,21 @@ class Tree:
             elif element.tag in PLACED:
                 self.path_of[element] = f"{path}/{element.tag}"
             waiting += [(child, path) for child in reversed(element) if len(child)]
+
+    def take_out(self, parent, element):
+        """An element counts no more. Places in a file are counted by all elements that it has."""
+        for root in self.roots:
+            if root not in self.whole:
+                self.whole[root] = list(root.iter())
+        parent.remove(element)
+        for inner in element.iter():
+            path = self.path_of.pop(inner, None)
+            if path is not None and self.by_path.get(path) is inner:
+                del self.by_path[path]
+
+    def order(self, root):
+        """All elements of a file in their order."""
+        return self.whole.get(root) or root.iter()
 
     def of_kind(self, tag):
         return [element for root in self.roots for element in root.iter(tag)]
