@@ -269,6 +269,21 @@ class ByChance(Case):
                 self.is_proposed(number, figures["cycles"], plan, frames)
         self.see("most have the slots", True, met > 40)
 
+    def test_tight(self):
+        """Four slots, of each of which one channel or both are needed: all lanes that are granted are needed, and those on both channels are the
+        same slots."""
+        figures = {**WIDE, "static_slots": 4, "cycles": 8}
+        for name, held, wishes, wanted in (
+            ("each on its own channel", "", "n1 A, n1 A, n1 A, n2 B, n2 B, n2 B", {"n1": "1A 2A 3A", "n2": "1B 2B 3B"}),
+            ("as many alike as there are", "1A 4B", "n1 AB, n1 A, n1 B, n2 A", {"n1": "2A 2B 3A 3B", "n2": "4A"}),
+            ("only those that have to be", "1A 4B", "n1 AB, n1 A, n1 B, n2 AB", {"n1": "2A 2B 4A 1B", "n2": "3A 3B"}),
+        ):
+            grants = [Grant(int(lane[0]), lane[1], "s2", "n1") for lane in held.split()]
+            asked = [Wanted(Node("s1", it.split()[0]), f"f{number}", it.split()[1], 1, None, "") for number, it in enumerate(wishes.split(", "))]
+            plan = self.planned(name, figures, asked, grants, ())
+            got = {node: {f"{it.slot}{it.channel}" for it in plan.new if it.node == node} for node in wanted}
+            self.see(name, {node: set(lanes.split()) for node, lanes in wanted.items()}, got)
+
     def test_second_turn(self):
         """Wishes whose repetitions are no chain may go elsewhere once there are more slots, so that other slots are lacking."""
         figures, held = {**WIDE, "cycles": 12}, Grant(12, "A", "s1", "n1")
