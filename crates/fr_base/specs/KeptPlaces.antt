@@ -7,9 +7,11 @@ use Rattle.fr_base.specs.Tables.{Table, get}
 use Rattle.fr_base.specs.Keys.{owned, placement_order}
 use Rattle.fr_base.specs.Names.{same_text}
 use Rattle.fr_base.specs.Book.{Frame}
-use Rattle.fr_base.specs.Turns.{Asked, Given, same_kind, with_place}
+use Rattle.fr_base.specs.Turns.{same_kind, with_place}
 use Rattle.fr_base.specs.declared.name.Name.{Name}
 use Rattle.fr_base.specs.declared.placement.Placement.{Placement}
+use Rattle.fr_base.specs.declared.proposal.Given.{Given}
+use Rattle.fr_base.specs.declared.wish.Asked.{Asked}
 use Rattle.fr_base.specs.declared.wish.Wish.{Wish}
 
 -- whether the placement has the wish's channels and repetition

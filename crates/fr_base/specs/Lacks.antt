@@ -3,12 +3,14 @@
 use Rattle.std.specs.Prelude.{ℕ, Bool, ◌&&◌, List, [], ◌∷◌, length, map, filter, find, Option, is_none, option_map}
 use Rattle.std.specs.List.{filter_map, flat_map, range_with_len}
 use Rattle.fr_base.specs.Names.{same_text}
-use Rattle.fr_base.specs.Turns.{Asked, Given, same_kind, take_turns, all_placed}
+use Rattle.fr_base.specs.Turns.{same_kind, take_turns, all_placed}
 use Rattle.fr_base.specs.declared.channel.Channels.{Channels}
 use Rattle.fr_base.specs.declared.channel.Channels.TheVariants as channels
 use Rattle.fr_base.specs.declared.name.Name.{Name}
 use Rattle.fr_base.specs.declared.params.Params.{Params}
+use Rattle.fr_base.specs.declared.proposal.Given.{Given}
 use Rattle.fr_base.specs.declared.proposal.LackRow.{LackRow}
+use Rattle.fr_base.specs.declared.wish.Asked.{Asked}
 
 -- whether a wish of the node for these channels has no placement
 abbrev pub is_short : Name → Channels → Given → Bool

@@ -14,15 +14,17 @@ use Rattle.fr_base.specs.Names.{same_text}
 use Rattle.fr_base.specs.Book.{Frame}
 use Rattle.fr_base.specs.OwnRows.{OwnRows}
 use Rattle.fr_base.specs.RefusedWishes.{frames_beside, counted_frames, holds, judge, asked_of}
-use Rattle.fr_base.specs.Turns.{Asked, Given, take_turns, all_placed, places_given}
+use Rattle.fr_base.specs.Turns.{take_turns, all_placed, places_given}
 use Rattle.fr_base.specs.KeptPlaces.{keep}
 use Rattle.fr_base.specs.Lacks.{lack_rows}
 use Rattle.fr_base.specs.declared.channel.Channels.{Channels}
 use Rattle.fr_base.specs.declared.name.Name.{Name}
 use Rattle.fr_base.specs.declared.placement.Placement.{Placement}
+use Rattle.fr_base.specs.declared.proposal.Given.{Given}
 use Rattle.fr_base.specs.declared.proposal.Proposal.{Proposal}
 use Rattle.fr_base.specs.declared.proposal.ProposalRow.{ProposalRow}
 use Rattle.fr_base.specs.declared.refusal.Refusal.TheVariants.{NoRoom}
+use Rattle.fr_base.specs.declared.wish.Asked.{Asked}
 use Rattle.fr_base.specs.declared.wish.WishRead.{WishRead}
 
 -- ---- beside what the wishes stand

@@ -3,23 +3,16 @@
 use Rattle.std.specs.Prelude.{ℕ, ◌==◌, Bool, ◌&&◌, List, [], ◌∷◌, ◌++◌, filter, Option, Some, None, is_some}
 use Rattle.std.specs.List.{filter_map, flat_map, list_all, range_with_len}
 use Rattle.fr_base.specs.Channels.{channels_number}
+use Rattle.fr_base.specs.Cycles.{is_repetition}
 use Rattle.fr_base.specs.Fittest.{fittest}
 use Rattle.fr_base.specs.declared.channel.Channels.{Channels}
 use Rattle.fr_base.specs.declared.channel.Channels.TheVariants as channels
 use Rattle.fr_base.specs.declared.name.Name.{Name}
 use Rattle.fr_base.specs.declared.params.Params.{Params}
 use Rattle.fr_base.specs.declared.placement.Placement.{Placement}
+use Rattle.fr_base.specs.declared.proposal.Given.{Given}
+use Rattle.fr_base.specs.declared.wish.Asked.{Asked}
 use Rattle.fr_base.specs.declared.wish.Wish.{Wish}
-
--- a wish that is not refused, and its line
-pub record Asked : Type 0 where
-  pub line : ℕ
-  pub wish : Wish
-
--- the placement that a wish is given, if it is given one
-pub record Given : Type 0 where
-  pub asked : Asked
-  pub place : Option Placement
 
 -- ---- the order of turns
 
@@ -30,9 +23,13 @@ same_kind cs ds = channels_number cs == channels_number ds
 abbrev pub is_for : Channels → ℕ → Asked → Bool
 is_for cs repetition asked = same_kind asked.wish.channels cs && (asked.wish.repetition == repetition)
 
+-- the repetitions of a cluster, the least first
+abbrev pub repetitions_of : Params → List ℕ
+repetitions_of p = filter (is_repetition p.cycles) (range_with_len 1 p.cycles)
+
 -- the wishes for these channels, by repetition, then line
 unfoldable pub turns_on : Params → List Asked → Channels → List Asked
-turns_on p wishes cs = flat_map (λ repetition. filter (is_for cs repetition) wishes) (range_with_len 1 p.cycles)
+turns_on p wishes cs = flat_map (λ repetition. filter (is_for cs repetition) wishes) (repetitions_of p)
 
 -- the wishes in turn: AB, A, B; then by repetition, then line
 unfoldable pub in_turn : Params → List Asked → List Asked
