@@ -34,6 +34,11 @@ pub mod Differences
 pub mod Queries
 pub mod QueryNames
 pub mod OwnRows
+pub mod Fittest
+pub mod Turns
+pub mod RefusedWishes
+pub mod KeptPlaces
+pub mod Lacks
 pub mod Proposals
 pub mod Step
 pub mod Fates

@@ -181,6 +181,7 @@ pub use params::ParamFault;
 pub use params::Params;
 pub use params::RawParams;
 pub use placement::Placement;
+pub use proposal::Given;
 pub use proposal::LackRow;
 pub use proposal::Proposal;
 pub use proposal::ProposalRow;
@@ -205,6 +206,7 @@ pub use signal::Order;
 pub use signal::Signal;
 pub use slot::Slot;
 pub use text::Text;
+pub use wish::Asked;
 pub use wish::Wish;
 pub use wish::WishRead;
 

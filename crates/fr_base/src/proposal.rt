@@ -4,6 +4,7 @@ use crate::name::Name;
 use crate::placement::Placement;
 use crate::refusal::Refusal;
 use crate::rows::Rows;
+use crate::wish::Asked;
 
 /// A proposal for a file of wishes: accepted as it stands, if it is sent as a file of placements.
 #[derive(Drop)]
@@ -39,4 +40,11 @@ pub struct LackRow {
     pub node: Name,
     pub channels: Channels,
     pub slots: u32,
+}
+
+/// The placement that a wish is given, if it is given one.
+#[derive(Clone, Copy, PartialEq, Eq)]
+pub struct Given {
+    pub asked: Asked,
+    pub place: Option<Placement>,
 }

@@ -28,6 +28,13 @@ pub struct WishRead {
     pub wish: Result<Wish, Refusal>,
 }
 
+/// A wish that is not refused, and its line.
+#[derive(Clone, Copy, PartialEq, Eq)]
+pub struct Asked {
+    pub line: u32,
+    pub wish: Wish,
+}
+
 impl Wish {
     /// The wish with these fields, or the first refusal that it meets by itself: `BadName`, `BadCycles`,
     /// `BadChannel`, in this order. What a name is read from need not be a text.
