@@ -21,7 +21,8 @@ use Rattle.fr_base.specs.Cluster.{Cluster, keys_of}
 use Rattle.fr_base.specs.Layouts.{LayoutData, has_signal, with_signal, without_signal, admits_signal}
 use Rattle.fr_base.specs.ImportRows.{header_of_body, rows_of_body, all_rows_of_body}
 use Rattle.fr_base.specs.Queries.{reply}
-unfoldable pub use Rattle.fr_base.specs.OwnRows.{OwnRows, own_rows}
+pub use Rattle.fr_base.specs.OwnRows.{OwnRows}
+unfoldable pub use Rattle.fr_base.specs.OwnRows.{own_rows}
 use Rattle.fr_base.specs.Wishes.{wishes_of_body}
 use Rattle.fr_base.specs.Proposals.{proposal}
 use Rattle.fr_base.specs.Names.{same_text}
