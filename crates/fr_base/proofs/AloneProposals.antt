@@ -23,7 +23,7 @@ module _ (d : Delivery) (replace : Bool) where
   LikeOutcome u w = map_ok (seen d.supplier) u ≡ w
 
   abbrev told : Cluster → Book → OwnRows → Outcome
-  told c b own = record { book = b; answer = answer.Report false (shows.Proposal (proposal own replace (wishes_of_body c.params d.body))) }
+  told c b own = record { book = b; answer = answer.Report false (shows.Proposal replace (proposal own replace (wishes_of_body c.params d.body))) }
 
   -- it is answered as alone: by the supplier's own rows
   pub propose-own : (c : Cluster) (b : Book) → LikeOutcome (propose c.params b d replace) (propose c.params (rows_of d.supplier b) d replace)

@@ -448,7 +448,7 @@ propose p b d replace = do
   refuse Limit when nat_lt MAX_IMPORT_BYTES (length d.body)
   Ok (record {
     book = b;
-    answer = answer.Report false (shows.Proposal (proposal (own_rows p b d.supplier variant) replace (wishes_of_body p d.body)));
+    answer = answer.Report false (shows.Proposal replace (proposal (own_rows p b d.supplier variant) replace (wishes_of_body p d.body)));
   })
 
 -- ---- the step
