@@ -11,10 +11,12 @@ pub mod WishTextLemmas
 pub mod WordsLemmas
 pub mod ReportLemmas
 pub mod RoomLemmas
+pub mod ProposalLemmas
 pub mod AnswerTextLemmas
 pub mod ReadBackLaws
 pub mod FileLemmas
 pub mod RecordLemmas
 pub mod ExportLemmas
 pub mod ExportLaws
+pub mod ProposalFileLaws
 pub mod SentLaws

@@ -16,3 +16,4 @@ pub mod AnswerText
 pub mod Writing
 pub mod Laws
 pub mod ExportLaws
+pub mod ProposalFileLaws

@@ -27,8 +27,8 @@ pub use import_text::{
     Records, header_of, names, number_at, read_header, read_import, read_number, read_rows, text_at,
 };
 pub use laws::{
-    export_is_read_back, export_is_within_bytes, sent_back_changes_nothing, sent_is_imported,
-    sent_whole_changes_nothing, written_is_read_back,
+    export_is_read_back, export_is_within_bytes, proposed_is_read_back, sent_back_changes_nothing,
+    sent_is_imported, sent_whole_changes_nothing, written_is_read_back,
 };
 pub use output::{Output, WRITE_RETRIES, WriteFailed};
 pub use report::{ReportText, report_text, write_lines, write_proposed, write_unplaced};

@@ -1,6 +1,7 @@
 //! The lines of a proposal: a line for each wish, then a line for each lack. The file of its placements.
-ghost use Rattle.std.specs.Prelude.{◌≡◌, ◌++◌, [], IfOk, OnOk, OnErr};
-ghost use Rattle.fr_text.specs.ProposalFiles.{file_lines, other_lines};
+ghost use Rattle.std.specs.Prelude.{◌≡◌, ◌∷◌, ◌++◌, [], IfOk, OnOk, OnErr};
+ghost use Rattle.std.specs.List.{filter_map};
+ghost use Rattle.fr_text.specs.ProposalFiles.{file_lines, other_lines, record_of, refused_line};
 ghost use Rattle.fr_text.specs.Report.{lack_line, proposal_line, proposal_lines, proposed_record, proposed_words};
 ghost use Rattle.fr_text.specs.Styles.{plain_lines, set_in};
 ghost use Rattle.fr_text.specs.Words.{behind, Extends};
@@ -94,35 +95,75 @@ impl Row for LackRow {
 
 /// The file with which a supplier takes a proposal: the header of placements, and the record of each that
 /// is proposed.
-#[tactic(auto, unfolding(crate::specs::ProposalFiles::file_lines))]
+#[tactic(auto, using(crate::proofs::ProposalLemmas::file_is), unfolding(crate::specs::ProposalFiles::file_lines))]
 pub fn write_proposed(alloc: Global, proposal: &Proposal) -> Result<Vec<u8>, NoMemory>
     ensures { IfOk result (λ text. text.items ≡ plain_lines (file_lines proposal.now)) }
 {
     let mut out = Vec::new(alloc);
     push(header_text(Header::Placements), &mut out)?;
     push("\n", &mut out)?;
-    for row in proposal.rows.as_slice() {
-        if let Ok(placed) = &row.proposed {
-            push_record(placed, &mut out)?;
-            push("\n", &mut out)?;
-        }
-    }
+    push_placed(proposal.rows.as_slice(), &mut out)?;
     Ok(out)
+}
+
+// Appends the records of the placements that are proposed, each with a line feed behind it.
+fn push_placed(rows: &[ProposalRow], out: &mut Vec<u8>) -> Result<(), NoMemory>
+    ensures { OnOk result (out.new.items ≡ out.old.items
+        ++ plain_lines (filter_map (λ row. record_of row.proposed) rows.now)) }
+{
+    for row in rows {
+        push_record_of(row, out)?;
+    }
+    Ok(())
+}
+
+// Appends the record of the placement that is proposed for a wish, if one is, with a line feed behind it.
+#[tactic(auto, unfolding(crate::specs::Styles::plain_lines))]
+fn push_record_of(row: &ProposalRow, out: &mut Vec<u8>) -> Result<(), NoMemory>
+    ensures { OnOk result (out.new.items ≡ out.old.items
+        ++ plain_lines (filter_map (λ row. record_of row.proposed) (row.now ∷ []))) }
+{
+    match &row.proposed {
+        Ok(placed) => {
+            push_record(placed, out)?;
+            push("\n", out)
+        }
+        Err(_) => Ok(()),
+    }
 }
 
 /// The other lines of a proposal, each with a line feed behind it: those of wishes for which no placement
 /// is proposed, and those of the lacks.
-#[tactic(auto, unfolding(crate::specs::ProposalFiles::other_lines))]
+#[tactic(auto, using(crate::proofs::ProposalLemmas::others_are), unfolding(crate::specs::ProposalFiles::other_lines))]
 pub fn write_unplaced(alloc: Global, proposal: &Proposal) -> Result<Vec<u8>, NoMemory>
     ensures { IfOk result (λ text. text.items ≡ plain_lines (other_lines proposal.now)) }
 {
     let mut out = Vec::new(alloc);
-    for row in proposal.rows.as_slice() {
-        if row.proposed.is_err() {
-            row.push(false, "", &mut out)?;
-            push("\n", &mut out)?;
-        }
-    }
+    push_unplaced(proposal.rows.as_slice(), &mut out)?;
     push_rows(proposal.lacks.as_slice(), false, Style::Plain, &mut out)?;
     Ok(out)
+}
+
+// Appends the lines of wishes for which no placement is proposed, each with a line feed behind it.
+fn push_unplaced(rows: &[ProposalRow], out: &mut Vec<u8>) -> Result<(), NoMemory>
+    ensures { OnOk result (out.new.items ≡ out.old.items
+        ++ plain_lines (filter_map refused_line rows.now)) }
+{
+    for row in rows {
+        push_refused(row, out)?;
+    }
+    Ok(())
+}
+
+// Appends the line of a wish, if no placement is proposed for it, with a line feed behind it.
+#[tactic(auto, unfolding(crate::specs::Styles::plain_lines, crate::specs::Styles::joined))]
+fn push_refused(row: &ProposalRow, out: &mut Vec<u8>) -> Result<(), NoMemory>
+    ensures { OnOk result (out.new.items ≡ out.old.items
+        ++ plain_lines (filter_map refused_line (row.now ∷ []))) }
+{
+    if row.proposed.is_ok() {
+        return Ok(());
+    }
+    row.push(false, "", out)?;
+    push("\n", out)
 }
