@@ -16,7 +16,7 @@
 # make look     draws the plans of the examples and one at the limits into out/look, by the program that make run takes; where there is chromium,
 #               it takes screenshots of the pages, and counts their cells as the browser has them; where there is chromium-driver too,
 #               also of the planners' page
-# make page     makes the planner's page, crates/fr_page/src/page.rt, of its sources in page/, and out/page.html to look at
+# make page     makes the planner's page, crates/fr_page/src/page.rt, of its sources in page/, and out/page to look at
 # make hostile  stops the built program at each of its calls on files, gives it files cut and changed at many places, and
 #               connections that fail at each byte; the gate does every so many of these. It needs a C compiler, cc
 # make refuse   refuses the built program each allocation in turn, of which the gate refuses every so many; and so to a register's calls
