@@ -313,3 +313,229 @@ class Meanwhile(ModulesCase):
                               {"cluster": CLUSTER, "before": before, "cases": [(rows, own) for rows, own, _ in cases]})
         for (rows, own, wanted), said in zip(cases, got):
             self.see(f"{rows} but {own}", wanted, said)
+
+
+# Requests as the plain register takes them.
+ROWS_OF = """return given.map(([now, then, others]) => requestsBetween(new Map(Object.entries(now)), new Map(Object.entries(then)), others)
+    .map(({command, file, isWhole}) => command ? {command} : {file: new TextDecoder().decode(file), isWhole}));"""
+
+
+class Changes(ModulesCase):
+    """The requests that lead from one state of frames to another: the plain register carries them out, and then it has that state."""
+
+    NODES, LANES = ["n1", "n2"], [(slot, channel) for slot in (1, 2, 3) for channel in "AB"]
+
+    def register(self):
+        """A register in which each node of a supplier holds both channels of slots of its own."""
+        cluster = {"channels": "AB", "static_slots": 6, "slot_macroticks": 10, "dynamic_macroticks": 20, "symbol_macroticks": 10, "idle_macroticks": 10,
+                   "macroticks_per_cycle": 100, "payload_words": 8, "cycles": 16, "integrator": "integrator1", "suppliers": {"s1": "supplier01"}}
+        register = naive.Register(cluster)
+        ask = lambda key, **request: self.assertIn("done", register.told(f"{key} {json.dumps(request)}".encode()))
+        ask("integrator1", do="open_variant", variant="v1", **{"from": None})
+        for at, node in enumerate(self.NODES):
+            ask("integrator1", do="add_node", supplier="s1", node=node)
+            for slot in range(1 + 3 * at, 4 + 3 * at):
+                for channel in "AB":
+                    ask("integrator1", do="grant", variant="v1", slot=slot, channel=channel, supplier="s1", node=node)
+        return register
+
+    def state(self, turn, free, bits):
+        """A frame's state, of cells that are free; or none."""
+        if turn.random() < 0.3:
+            return None
+        node = turn.choice(self.NODES)
+        placements, signals = [], []
+        for _ in range(turn.randint(0, 3)):
+            slot, channels, repetition = turn.randint(1, 3) + 3 * self.NODES.index(node), turn.choice(["A", "B", "AB"]), turn.choice([2, 4, 8])
+            base = turn.randrange(repetition)
+            cells = {(cycle, slot, channel) for cycle in range(base, 16, repetition) for channel in channels}
+            if cells <= free:
+                free -= cells
+                placements.append({"slot": slot, "channels": channels, "base": base, "repetition": repetition})
+        for at in turn.sample(range(bits), turn.randint(0, 3)):
+            signals.append({"name": f"x{at}", "start": 8 * at, "length": turn.choice([4, 8]), "order": "little"})
+        return {"node": node, "placements": placements, "signals": signals}
+
+    def states(self, turn, names):
+        free = {(cycle, slot, channel) for cycle in range(16) for slot in range(1, 7) for channel in "AB"}
+        return {name: self.state(turn, free, 6) for name in names}
+
+    def carried(self, register, requests):
+        for request in requests:
+            if "command" in request:
+                told = register.told(f"supplier01 {json.dumps({'variant': 'v1', **request['command']})}".encode())
+            else:
+                told = register.told(f"supplier01 {json.dumps({'do': 'replace', 'variant': 'v1', 'body': request['file'], 'whole': request['isWhole']})}".encode())
+            if '"ok"' not in told:
+                return told
+        return ""
+
+    def rows(self, register):
+        lines = json.loads(register.told(b'supplier01 {"do":"rows","variant":"v1"}'))["lines"]
+        return sorted(line for line in lines if not line.startswith(("GRANT", "GAP")))
+
+    def wanted(self, states):
+        rows = []
+        for name, state in states.items():
+            if state:
+                rows.append(f"FRAME {name} {state['node']}")
+                rows += [f"AT {name} {p['slot']:04} {p['channels']} {p['base']:02} {p['repetition']:02}" for p in state["placements"]]
+                rows += [f"SIGNAL {name} {s['start']:04} {s['length']:02} {s['order']} {s['name']}" for s in state["signals"]]
+        return sorted(rows)
+
+    def test_random_states(self):
+        turn, names = random.Random(3), ["f", "g", "h", "k"]
+        chains = [[self.states(turn, names) for _ in range(4)] for _ in range(30)]
+        beside = {"other": {"node": "n1", "placements": [], "signals": [{"name": "own", "start": 0, "length": 8, "order": "little"}]}}
+        pairs = [(one, other) for chain in chains for one, other in zip([dict.fromkeys(names), *chain], chain)]
+        made = iter(self.run_script({"changes": "requestsBetween"}, ROWS_OF, [(one, other, [["other", "n1"]]) for one, other in pairs]))
+        for chain in chains:
+            register = self.register()
+            self.carried(register, [{"command": {"do": "add_frame", "frame": "other", "node": "n1"}},
+                                    {"command": {"do": "add_signal", "frame": "other", "signal": "own", "start": 0, "length": 8, "order": "little"}}])
+            for state in chain:
+                refused = self.carried(register, next(made))
+                self.see(f"{state}", ("", self.wanted({**beside, **state})), (refused, self.rows(register)))
+
+    def test_one_request_of_each_step(self):
+        place = lambda base, repetition=4, slot=1: {"slot": slot, "channels": "A", "base": base, "repetition": repetition}
+        signal = lambda name, start=0: {"name": name, "start": start, "length": 8, "order": "little"}
+        frame = lambda *placements, signals=(): {"node": "n1", "placements": list(placements), "signals": list(signals)}
+        cases = [
+            ("nothing", frame(place(0)), frame(place(0)), []), ("an order of its own", frame(place(0), place(1)), frame(place(1), place(0)), []),
+            ("a placement", frame(), frame(place(0)), ["place"]), ("one more", frame(place(0)), frame(place(0), place(1)), ["place"]),
+            ("one less", frame(place(0), place(1)), frame(place(0)), ["unplace"]), ("the last one", frame(place(0)), frame(), ["unplace"]),
+            ("a move", frame(place(0)), frame(place(0, slot=2)), ["replace"]), ("another repetition", frame(place(0, 4), place(1, 4)), frame(place(0, 2), place(1, 4)), ["replace"]),
+            ("a new frame", None, frame(), ["add_frame"]), ("a frame with a placement", None, frame(place(0)), ["replace"]),
+            ("a dropped frame", frame(place(0), signals=[signal("x")]), None, ["drop_frame"]), ("a signal", frame(), frame(signals=[signal("x")]), ["add_signal"]),
+            ("no signal", frame(signals=[signal("x")]), frame(), ["drop_signal"]), ("a signal that moves", frame(signals=[signal("x")]), frame(signals=[signal("x", 8)]), ["replace"]),
+        ]
+        got = self.run_script({"changes": "requestsBetween"}, ROWS_OF, [({"f": now}, {"f": then}, []) for _, now, then, _ in cases])
+        for (what, *_, wanted), requests in zip(cases, got):
+            self.see(what, wanted, [request["command"]["do"] if "command" in request else "replace" for request in requests])
+
+
+# A desk before a register of the test's own, which keeps what it is asked and answers as it is told.
+DESK = """
+    const rows = [...given.rows], sent = [];
+    const register = {
+        read: async path => { if (path.endsWith("/rows")) return rows.length > 1 ? rows.shift() : rows[0]; throw new Error(path); },
+        command: async request => { sent.push(request); if (given.refused === sent.length) throw new Refused({no: 25, refused: "CellTaken", cycle: 1, channel: "A", frame: "g"}); },
+        replaced: async (variant, file, isWhole) => { sent.push([variant, new TextDecoder().decode(file), isWhole]); return {rows: 1}; },
+    };
+    const desk = new Desk(), planOf = text => new Plan(given.cluster, readRows(text, "s1"));
+    Object.assign(desk, {register, me: "s1", cluster: given.cluster, variant: "v1", variants: [{name: "v1", isReleased: false}], plan: planOf(rows.shift())});
+    const said = () => byId("message").children.map(child => child.text()).filter(text => !["Close", "Undo", "Redo"].includes(text)).join("");
+    const frame = name => desk.plan.frameNamed("s1", name);"""
+OF_DESK = {"desk": "Desk", "plan": "Plan", "reports": "readRows", "dom": "byId", "faults": "Refused", "steps": "place, unplace, addFrame, dropFrame, addSignal, dropSignal",
+           "turning": "undo, redo"}
+
+
+class Steps(ModulesCase):
+    """Steps, and the history by which they are taken back and done again."""
+
+    def rows(self, *placements, frames=("f",), signals=()):
+        names = [f"FRAME {name} n1" for name in frames]
+        gaps = [f"GAP {'never' if not any(p.split()[0] == name for p in placements) else 400:>7} {name}" for name in frames]
+        return text(["GRANT 0001 A n1", "GRANT 0001 B n1", *names, *(f"AT {it}" for it in placements), *(f"SIGNAL {it}" for it in signals), *gaps])
+
+    def tried(self, script, rows, refused=0):
+        return self.run_script(OF_DESK, DESK + script, {"cluster": CLUSTER, "rows": rows, "refused": refused})
+
+    def test_three_steps_and_back(self):
+        """Three placements, taken back one after another, and done again."""
+        frames = "f", "g", "h"
+        at = ["f 0001 A 00 04", "g 0001 A 01 04", "h 0001 A 02 04"]
+        states = [self.rows(*at[:count], frames=frames) for count in (0, 1, 2, 3, 2, 1, 0, 1, 2, 3)]
+        got = self.tried("""
+            for (const [base, name] of ["f", "g", "h"].entries()) await place(desk, frame(name), {slot: 1, channels: "A", base, repetition: 4});
+            const history = desk.history(), counts = [[history.done.length, history.undone.length]], told = [];
+            for (const turn of [undo, undo, undo, undo, redo, redo, redo, redo]) { await turn(desk); counts.push([history.done.length, history.undone.length]); told.push(said()); }
+            return {sent: sent.map(one => [one.do, one.frame, one.base]), counts, told: [told[0], told[4]]};""", states)
+        out = [["place", name, base] for base, name in enumerate(frames)]
+        back = [["unplace", name, base] for base, name in reversed(list(enumerate(frames)))]
+        self.see("what is sent", out + back + out, got["sent"])
+        self.see("the history", [[3, 0], [2, 1], [1, 2], [0, 3], [0, 3], [1, 2], [2, 1], [3, 0], [3, 0]], got["counts"])
+        self.see("what is said", ["Taken back: h placed in slot 1 A 2/4.", "Done again: f placed in slot 1 A 0/4."], got["told"])
+
+    def test_a_new_step_forgets_what_was_taken_back(self):
+        at = "f 0001 A 00 04", "f 0001 A 01 04"
+        got = self.tried("""await place(desk, frame("f"), {slot: 1, channels: "A", base: 0, repetition: 4});
+            await undo(desk);
+            await place(desk, frame("f"), {slot: 1, channels: "A", base: 1, repetition: 4});
+            return [desk.history().done.map(({label}) => label), desk.history().undone.length];""", [self.rows(), self.rows(at[0]), self.rows(), self.rows(at[1])])
+        self.see("the history", [["f placed in slot 1 A 1/4"], 0], got)
+
+    def test_a_frame_that_was_dropped(self):
+        """It comes back with its placements and its signals."""
+        rows = self.rows("f 0001 A 00 04", "f 0001 B 00 04", signals=["f 0000 08 little x", "f 0008 08 big y"])
+        got = self.tried("""await dropFrame(desk, "f"); await undo(desk); return [sent, desk.history().undone.length, said()];""", [rows, self.rows(frames=()), self.rows(frames=()), rows])
+        self.see("what is sent", [
+            {"do": "drop_frame", "frame": "f", "variant": "v1"},
+            ["v1", "frame,node,slot,channels,base,repetition\nf,n1,1,A,0,4\nf,n1,1,B,0,4\n", False],
+            ["v1", "frame,signal,start,length,order\nf,x,0,8,little\nf,y,8,8,big\n", False]], got[0])
+        self.see("it is said", [1, "Taken back: f dropped."], got[1:])
+
+    def test_what_was_changed_meanwhile_stays(self):
+        """A colleague placed the frame that was added: it is not dropped again."""
+        got = self.tried("""await addFrame(desk, "g", "n1"); await undo(desk); return [sent.length, desk.history().done.length, said()];""",
+                         [self.rows(), self.rows(frames=("f", "g")), self.rows("g 0001 A 00 04", frames=("f", "g"))])
+        self.see("nothing is sent", [1, 1, "This step cannot be taken back now, and stays in the list. Somebody else changed what it needs: g."], got)
+
+    def test_what_is_refused_stays(self):
+        """The cell from which a frame was taken is another's now."""
+        was, without = self.rows("f 0001 A 00 04"), self.rows()
+        got = self.tried("""await unplace(desk, frame("f"), frame("f").placements[0]); await undo(desk); return [sent.map(one => one.do), desk.history().done.length, said()];""",
+                         [was, without], refused=2)
+        self.see("it is said", (["unplace", "place"], 1, True), (*got[:2], got[2].startswith("Refused: ") and "cannot be taken back now, and stays" in got[2] and "the frame g is sent" in got[2] or got[2]))
+
+    def test_signals(self):
+        one, none = self.rows(signals=["f 0000 08 little x"]), self.rows()
+        got = self.tried("""await addSignal(desk, frame("f"), {name: "x", start: 0, length: 8, order: "little"}); await undo(desk); await redo(desk);
+            return sent.map(one => [one.do, one.signal]);""", [none, one, one, none, one])
+        self.see("what is sent", [["add_signal", "x"], ["drop_signal", "x"], ["add_signal", "x"]], got)
+
+
+class Grants(ModulesCase):
+    """Grants are sent one by one, as they are shown, and taken back the other way round."""
+
+    SCRIPT = """
+        const sent = [], planOf = held => new Plan(given.cluster, held.map(([slot, channels]) => ({kind: "grant", slot, channels, node: "n1", supplier: "s1"})));
+        let held = given.held;
+        const register = {
+            read: async () => held.map(([slot, channel]) => `GRANT 000${slot} ${channel} n1 s1\\n`).join(""),
+            command: async ({do: word, slot, channel, supplier, node}) => {
+                sent.push([word, slot, channel, supplier, node ?? ""]);
+                if (sent.length === given.refused) throw new Refused({no: 22, refused: "InUse"});
+                held = word === "grant" ? [...held, [slot, channel]] : held.filter(one => String(one) !== String([slot, channel]));
+            },
+        };
+        const desk = new Desk();
+        Object.assign(desk, {register, me: null, isIntegrator: true, cluster: given.cluster, variant: "v1", variants: [{name: "v1", isReleased: false}], plan: planOf(held),
+            nodes: [{node: "n1", supplier: "s1"}], grantTo: 0});
+        await send(desk, wantedOf(desk, given.lanes.map(([slot, channel]) => laneOf(slot, channel))).grants);
+        const history = desk.history(), counts = () => [history.done.map(({changes}) => changes.length), history.undone.map(({changes}) => changes.length)];
+        const first = counts();
+        await undo(desk);
+        const second = counts();
+        await redo(desk);
+        return {sent, counts: [first, second, counts()], held};"""
+
+    def tried(self, **given):
+        imports = {"desk": "Desk", "plan": "Plan, laneOf", "faults": "Refused", "granting": "send, wantedOf", "turning": "undo, redo"}
+        return self.run_script(imports, self.SCRIPT, {"cluster": CLUSTER, "held": [], "refused": 0, **given})
+
+    def test_to_and_fro(self):
+        lanes = [[1, "A"], [1, "B"], [3, "B"]]
+        got = self.tried(lanes=lanes)
+        grants, revokes = [["grant", *lane, "s1", "n1"] for lane in lanes], [["revoke", *lane, "s1", ""] for lane in reversed(lanes)]
+        self.see("what is sent", grants + revokes + grants, got["sent"])
+        self.see("the history", [[[3], []], [[], [3]], [[3], []]], got["counts"])
+        self.see("what is held", lanes, got["held"])
+
+    def test_refused_midway(self):
+        """Of three grants two are taken back before one is in use: these two are a step of their own, and done again."""
+        lanes = [[1, "A"], [1, "B"], [3, "B"]]
+        got = self.tried(lanes=lanes, refused=6)
+        self.see("the history", [[[3], []], [[1], [2]], [[1, 2], []]], got["counts"])
+        self.see("what is held", sorted(lanes), sorted(got["held"]))

@@ -1,11 +1,12 @@
 // What the page holds, and who is told when some of it changes.
+import {History} from "./history.js";
 import {Times} from "./times.js";
 
 const EMPTY = {
   register: null, isIntegrator: false, me: "", cluster: null, nodes: [], variants: [],
   variant: null, plan: null, difference: null,
   frame: null, placement: null, lane: null, found: null,
-  room: null, granting: null, draft: null, file: null, undo: null, view: "plan", busy: 0,
+  room: null, granting: null, draft: null, file: null, view: "plan", busy: 0,
 };
 
 export class Desk {
@@ -20,7 +21,7 @@ export class Desk {
   // What is read for an earlier turn is no longer wanted.
   clear() {
     this.turn += 1;
-    Object.assign(this, EMPTY, {nodes: [], variants: []});
+    Object.assign(this, EMPTY, {nodes: [], variants: [], histories: new Map()});
   }
 
   // Calls a listener when one of these changes: entered, left, register, plan, choice, mode, difference, file, look, view, undo,
@@ -57,9 +58,10 @@ export class Desk {
     } else this.tell("choice");
   }
 
-  canUndo(text, act) {
-    this.undo = act ? {text, act} : null;
-    this.tell("undo");
+  // What was done in the variant that is shown.
+  history() {
+    if (!this.histories.has(this.variant)) this.histories.set(this.variant, new History());
+    return this.histories.get(this.variant);
   }
 
   // Forgets the key and all that was read with it.

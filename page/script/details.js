@@ -106,6 +106,6 @@ async function showRoom(desk, repetition, channels) {
 
 async function askDrop(desk, frame) {
   const text = `The frame, its ${plural(frame.placements.length, "placement")} and its signals are gone then. `
-    + "There is no way back but to add them again.";
+    + "Undo brings them back.";
   if (await confirmed(`Drop ${frame.name}?`, text, "Drop it")) dropFrame(desk, frame.name);
 }

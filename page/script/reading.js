@@ -44,7 +44,6 @@ export async function choose(desk, variant) {
   if (desk.turn !== turn) return;
   if (variant !== desk.variant) Object.assign(desk, {difference: null, granting: null, room: null, lane: null, file: null});
   desk.variant = variant;
-  desk.canUndo();
   await take(desk, plan);
 }
 

@@ -1,4 +1,5 @@
 // A file on its way to the register: it is looked at, tried row by row, and carried out, in parts where it is too large for one.
+import {statesOf} from "./changes.js";
 import {fileOf, MOST_BYTES, MOST_ROWS, partsOf, recordsOf} from "./csv.js";
 import {goneCount, goneList, isSameGone, rowsGone} from "./gone.js";
 import {looked} from "./looking.js";
@@ -125,9 +126,9 @@ export async function carryOut(desk) {
     return;
   }
   if (!await mayTakeAway(desk, file)) return;
-  const own = filedIn(desk, file);
+  const own = filedIn(desk, file), {plan: old, me} = desk;
   const isDone = await attempt(desk, async () => {
-    const {rows} = await way.send(desk, file, bodyOf(file));
+    const {rows} = await way.send(desk, file, bodyOf(file)), filedNames = file.shown.slice(1).map(([frame]) => frame);
     let said = `${plural(rows, "row")} of ${file.name} ${way.said(file)}`;
     const isLast = !file.parts || file.part + 1 >= file.parts.length;
     if (isLast) desk.file = null;
@@ -139,7 +140,8 @@ export async function carryOut(desk) {
     const others = bySomebody(await reread(desk, own));
     if (isLast) desk.tell("file");
     else await tryFile(desk);
-    done(desk, said + others, null);
+    const names = new Set(way.isWhole ? [...old.frames, ...desk.plan.frames].map(({name}) => name) : filedNames);
+    done(desk, said + others, {label: `${file.name}: ${plural(rows, "row")} of ${file.kind}, ${way.verb.toLowerCase()}`, before: statesOf(old, me, names), after: statesOf(desk.plan, me, names)});
     return true;
   });
   // What was refused is tried again, on the plan as it is now.

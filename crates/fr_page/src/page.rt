@@ -72,7 +72,11 @@ pub const DOCUMENT: &str = "<!doctype html>
           <button id=\"wider\" type=\"button\" aria-label=\"Wider lanes\" title=\"Wider lanes (+)\">+</button>
           <button id=\"fit\" type=\"button\" title=\"All slots in the window (0)\">Fit</button>
         </span>
-        <button id=\"undo\" type=\"button\" disabled>Undo</button>
+        <span class=\"set\" role=\"group\" aria-label=\"Steps\">
+          <button id=\"undo\" type=\"button\" disabled>Undo</button>
+          <button id=\"redo\" type=\"button\" disabled>Redo</button>
+          <button id=\"history\" type=\"button\" title=\"The steps since the page was opened\">Steps (0)</button>
+        </span>
         <label>Channels <select id=\"shown\"></select></label>
         <label>Colour by <select id=\"colour-by\">
           <option value=\"supplier\">supplier</option>
@@ -1019,7 +1023,6 @@ async function choose(desk, variant) {
   if (desk.turn !== turn) return;
   if (variant !== desk.variant) Object.assign(desk, {difference: null, granting: null, room: null, lane: null, file: null});
   desk.variant = variant;
-  desk.canUndo();
   await take(desk, plan);
 }
 
@@ -1172,87 +1175,233 @@ function showTip(text, x, y) {
 
 const hideTip = () => { byId(\"tip\").hidden = true; };
 
-// ---- steps.js
+// ---- changes.js
 
-// The steps on frames and signals that are carried out at once, and how each is undone.
+// What leads from one state of a supplier's frames to another: as few requests as can be, each of which is carried out whole or not at all.
 
-// Says what was done; it can be undone by the message, the button of the plan and the keyboard, until something else is done.
-function done(desk, text, undo, kind = \"good\") {
-  desk.canUndo(text, undo);
-  say(kind, text, undo ? button(\"Undo\", () => undoLast(desk)) : \"\");
+const HEADS = Object.fromEntries(Object.entries(HEADERS).map(([header, kind]) => [kind, header.split(\",\")]));
+const PLACE = [\"slot\", \"channels\", \"base\", \"repetition\"];
+const SIGNAL = [\"name\", \"start\", \"length\", \"order\"];
+const fieldsOnly = (fields, one) => Object.fromEntries(fields.map(field => [field, one[field]]));
+const asText = (fields, one) => fields.map(field => one[field]).join(\" \");
+const asTexts = (fields, some) => some.map(one => asText(fields, one)).sort().join(\", \");
+
+// What a frame has; null where it is not there.
+const stateOf = frame => frame && {node: frame.node, placements: frame.placements.map(one => fieldsOnly(PLACE, one)),
+  signals: frame.signals.map(one => fieldsOnly(SIGNAL, one))};
+
+// The states of a supplier's frames, by their names.
+const statesOf = (plan, supplier, names) => new Map([...names].map(name => [name, stateOf(plan.frameNamed(supplier, name))]));
+
+const textOfState = state => state && [state.node, asTexts(PLACE, state.placements), asTexts(SIGNAL, state.signals)].join(\"; \");
+const isSameState = (one, other) => textOfState(one) === textOfState(other);
+
+// Those of some that others have not.
+const without = (fields, some, others) => {
+  const there = new Set(others.map(one => asText(fields, one)));
+  return some.filter(one => !there.has(asText(fields, one)));
+};
+
+// The requests between two states of frames. `others` are the names and nodes of the supplier's frames beside these.
+function requestsBetween(now, then, others) {
+  const changes = [...now.keys()].filter(name => !isSameState(now.get(name), then.get(name))).map(name => {
+    const from = now.get(name), to = then.get(name);
+    return {name, from, to, stays: from && to && from.node === to.node ? from : null};
+  });
+  const placed = rowChanges(changes, \"placements\", PLACE), signed = rowChanges(changes, \"signals\", SIGNAL);
+  const {dropped, added} = frameRequests(changes, [...now.keys()].filter(name => then.get(name)).map(name => [name, then.get(name).node]), others);
+  return [...dropped, ...placed.taken.map(({name, one}) => command(\"unplace\", name, one)), ...added,
+    ...placed.put.map(({name, one}) => command(\"place\", name, one)), ...filed(\"placements\", placed.filed, ({name, to}, one) => [name, to.node, ...valuesOf(PLACE, one)]),
+    ...signed.taken.map(({name, one}) => command(\"drop_signal\", name, {signal: one.name})),
+    ...signed.put.map(({name, one: {name: signal, ...rest}}) => command(\"add_signal\", name, {signal, ...rest})),
+    ...filed(\"signals\", signed.filed, ({name}, one) => [name, ...valuesOf(SIGNAL, one)])];
 }
 
-function undoLast(desk) {
-  const {undo} = desk;
-  if (!undo || desk.busy) return;
-  desk.canUndo();
-  undo.act();
+const command = (word, frame, fields) => ({command: {do: word, frame, ...fields}});
+const valuesOf = (fields, one) => fields.map(field => String(one[field]));
+
+// Frames that go, and those that come without a placement: one by a command, several by a file. A row of a placement brings its frame along.
+function frameRequests(changes, stayed, others) {
+  const drops = changes.filter(({from, stays}) => from && !stays).map(({name}) => name);
+  const adds = changes.filter(({to, stays}) => to && !stays && !to.placements.length).map(({name, to}) => [name, to.node]);
+  const file = (rows, isWhole) => ({file: fileOf([HEADS.frames, ...rows]), isWhole});
+  if (drops.length > 1) return {dropped: [file([...others, ...stayed], true)], added: []};
+  const added = adds.length > 1 ? [file(adds, false)] : adds.map(([name, node]) => command(\"add_frame\", name, {node}));
+  return {dropped: drops.map(name => command(\"drop_frame\", name, {})), added};
 }
 
-const command = (desk, request) => desk.register.command({variant: desk.variant, ...request});
-
-// After a step on placements: reads the plan again, and says what is not as this step leaves it.
-async function rereadPlaced(desk, frame, placements) {
-  const wanted = placementsText(placements);
-  const isOwn = one => keyOf(one) === keyOf(frame) && placementsText(desk.plan.frameNamed(one.supplier, one.name)?.placements ?? []) === wanted;
-  return bySomebody(await reread(desk, {isOwn}));
+// Of each frame its rows of a kind: a single one that comes or goes is a command; else all of them are a file's rows; where none is left, each goes by itself.
+function rowChanges(changes, kind, fields) {
+  const found = {taken: [], put: [], filed: []};
+  for (const change of changes.filter(({to}) => to)) {
+    const {name, to, stays} = change, old = stays?.[kind] ?? [], gone = without(fields, old, to[kind]), fresh = without(fields, to[kind], old);
+    const isOne = gone.length + fresh.length === 1 && (stays || kind === \"signals\");
+    if (isOne || !to[kind].length) {
+      found.taken.push(...gone.map(one => ({name, one})));
+      found.put.push(...fresh.map(one => ({name, one})));
+    } else if (gone.length + fresh.length) found.filed.push({...change, rows: to[kind]});
+  }
+  return found;
 }
 
-const rereadNamed = async (desk, name) => bySomebody(await reread(desk, {isOwn: frame => frame.name === name}));
-
-const plain = ({slot, channels, base, repetition}) => ({slot, channels, base, repetition});
-const current = (desk, frame) => desk.plan.frameNamed(frame.supplier, frame.name);
-
-const place = (desk, frame, placement) => attempt(desk, async () => {
-  const fields = plain(placement), before = frame.gap;
-  await command(desk, {do: \"place\", frame: frame.name, ...fields});
-  const others = await rereadPlaced(desk, frame, [...frame.placements, fields]), gap = current(desk, frame)?.gap ?? Infinity;
-  const gaps = `Its greatest gap is ${desk.times.text(gap)}; it was ${desk.times.number(before)}.`;
-  done(desk, `${frame.name} is placed in ${placeText(fields)}. ${gaps}${others}`,
-    () => unplace(desk, current(desk, frame) ?? frame, fields));
-});
-
-const unplace = (desk, frame, placement) => attempt(desk, async () => {
-  const fields = plain(placement);
-  await command(desk, {do: \"unplace\", frame: frame.name, ...fields});
-  const others = await rereadPlaced(desk, frame, frame.placements.filter(one => placeText(one) !== placeText(fields)));
-  done(desk, `${frame.name} is no longer sent in ${placeText(fields)}.` + others, () => place(desk, current(desk, frame) ?? frame, fields));
-});
-
-const addFrame = (desk, name, node) => attempt(desk, async () => {
-  await command(desk, {do: \"add_frame\", frame: name, node});
-  const others = await rereadNamed(desk, name);
-  desk.choose({frame: desk.plan.frameNamed(desk.me, name)});
-  done(desk, `${name} is added. It is not placed yet.` + others, () => dropFrame(desk, name));
-});
-
-const dropFrame = (desk, name) => attempt(desk, async () => {
-  await command(desk, {do: \"drop_frame\", frame: name});
-  if (desk.frame?.name === name) desk.choose({});
-  const others = await rereadNamed(desk, name);
-  done(desk, `${name} is dropped.` + others, null);
-});
-
-async function signalStep(desk, frame, request) {
-  await command(desk, {frame: frame.name, ...request});
-  if (request.do === \"add_signal\") desk.draft = null;
-  const isOwnSignal = (one, name) => keyOf(one) === keyOf(frame) && name === request.signal;
-  return bySomebody(await reread(desk, {isOwnSignal}));
+// A file of these frames' rows takes the place of what they had, in parts of whole frames where it is too long for one.
+function filed(kind, frames, rowOf) {
+  const rows = frames.flatMap(frame => frame.rows.map(one => rowOf(frame, one)));
+  return rows.length ? partsOf([HEADS[kind], ...rows]).map(part => ({file: fileOf(part), isWhole: false})) : [];
 }
 
-const addSignal = (desk, frame, signal) => attempt(desk, async () => {
-  const {name, start, length, order} = signal;
-  const others = await signalStep(desk, frame, {do: \"add_signal\", signal: name, start, length, order});
-  done(desk, `${name} is added to ${frame.name}.${others}`, () => dropSignal(desk, frame, signal));
-});
-
-const dropSignal = (desk, frame, signal) => attempt(desk, async () => {
-  const others = await signalStep(desk, frame, {do: \"drop_signal\", signal: signal.name});
-  done(desk, `${signal.name} is dropped from ${frame.name}. It was ${bitsText(signal)}.${others}`, () => addSignal(desk, frame, signal));
-});
+// Whether a request does exactly what it says, or is refused, whatever somebody else has changed.
+const isExact = ({command}) => [\"place\", \"unplace\", \"add_frame\", \"add_signal\"].includes(command?.do);
 ";
 
 pub const PROGRAM_2: &str = "
+// ---- turning.js
+
+// Taking back steps, and doing them again: from the state in which a step left what it changed to the one before it, or the other way round.
+
+const undo = desk => turn(desk, true);
+const redo = desk => turn(desk, false);
+
+// What a step says that cannot be turned.
+const stays = isBack => isBack ? \"This step cannot be taken back now, and stays in the list.\" : \"This step cannot be done again now, and stays in the list.\";
+
+async function turn(desk, isBack) {
+  const history = desk.history(), step = history.next(isBack);
+  if (!step || !desk.isOpen()) return false;
+  const isTurned = await attempt(desk, async () => {
+    try {
+      const others = step.changes ? await step.turn(desk, history, isBack) : await turnFrames(desk, step, isBack);
+      if (others === null) return false;
+      history.turn(isBack);
+      const again = button(isBack ? \"Redo\" : \"Undo\", () => turn(desk, !isBack));
+      say(\"good\", `${isBack ? \"Taken back\" : \"Done again\"}: ${step.label}.${others}`, again);
+      return true;
+    } catch (fault) {
+      fault.message = `${stays(isBack)} ${fault.message}`;
+      throw fault;
+    }
+  });
+  desk.tell(\"undo\");
+  return isTurned === true;
+}
+
+// Gives what somebody else changed meanwhile, as words; or null where the step stays.
+async function turnFrames(desk, {before, after}, isBack) {
+  const {me, variant} = desk, [from, to] = isBack ? [after, before] : [before, after], names = [...from.keys()];
+  const others = () => desk.plan.frames.filter(({name}) => !from.has(name)).map(({name, node}) => [name, node]);
+  if (!requestsBetween(from, to, others()).every(isExact)) {
+    await reread(desk);
+    const now = statesOf(desk.plan, me, names), changed = names.filter(name => !isSameState(now.get(name), from.get(name)));
+    if (changed.length) {
+      say(\"warn\", `${stays(isBack)} Somebody else changed what it needs: ${firstOf(changed, 5)}.`);
+      return null;
+    }
+  }
+  await sendAll(desk, variant, requestsBetween(from, to, others()));
+  if (desk.frame && to.get(desk.frame.name) === null) desk.choose({});
+  return bySomebody(await reread(desk, {isOwn: ({name}) => from.has(name), isOwnSignal: ({name}) => from.has(name)}));
+}
+
+async function sendAll({register}, variant, requests) {
+  let count = 0;
+  try {
+    for (const {command, file, isWhole} of requests) {
+      if (command) await register.command({variant, ...command});
+      else await register.replaced(variant, file, isWhole);
+      count += 1;
+    }
+  } catch (fault) {
+    if (count) Object.assign(fault, {isOwn: () => false, message: `${count} of its ${requests.length} requests were carried out. ${fault.message}`});
+    throw fault;
+  }
+}
+
+// The list of the steps, the last one first. Each can be gone back to, or forward.
+function openHistory(desk) {
+  const history = desk.history(), rows = [];
+  const goTo = async (isBack, step) => {
+    closeDialog();
+    while (history.next(isBack)) {
+      const {label} = history.next(isBack), isLast = history.next(isBack) === step;
+      if (!await turn(desk, isBack) || isLast) return label;
+    }
+    return \"\";
+  };
+  const closeDialog = () => byId(\"dialog\").close(\"\");
+  history.undone.forEach(step => rows.push(tableRow([step.label, \"taken back\", button(\"Do again up to here\", () => goTo(false, step))], \"quiet-row\")));
+  [...history.done].reverse().forEach(step => rows.push(tableRow([step.label, \"done\", button(\"Take back from here on\", () => goTo(true, step))])));
+  const content = rows.length ? make(\"div\", {class: \"scroll\"}, table([\"step\", \"\", \"\"], rows)) : make(\"p\", {}, \"Nothing was changed yet since the page was opened.\");
+  openDialog(`${grouped(history.done.length)} steps in ${desk.variant}`, [content, make(\"menu\", {}, button(\"Close\", closeDialog))]);
+}
+
+// ---- steps.js
+
+// The steps on frames and signals that are carried out at once. Each is kept in the history, by which it can be taken back.
+
+// Says what was done. A step can be taken back by the message, by the button of the plan and by the keyboard.
+function done(desk, text, step = null, kind = \"good\") {
+  if (step) {
+    desk.history().add(step);
+    desk.tell(\"undo\");
+  }
+  say(kind, text, step ? button(\"Undo\", () => undo(desk)) : \"\");
+}
+
+// Carries out a command on a frame, reads the plan again, and says what became of the frame and what somebody else changed meanwhile.
+const step = (desk, name, request, label, told, isOwnSignal) => attempt(desk, async () => {
+  const {me, variant} = desk, before = statesOf(desk.plan, me, [name]);
+  await desk.register.command({variant, frame: name, ...request});
+  if (request.do === \"add_signal\") desk.draft = null;
+  if (request.do === \"drop_frame\" && desk.frame?.name === name) desk.choose({});
+  const others = bySomebody(await reread(desk, {isOwn: one => one.name === name && isAsLeft(desk, before, name, request), isOwnSignal}));
+  done(desk, told() + others, {label, before, after: statesOf(desk.plan, me, [name])});
+});
+
+const plain = ({slot, channels, base, repetition}) => ({slot, channels, base, repetition});
+const placesOf = (state, request) => {
+  const places = state?.placements ?? [], fields = plain(request), isIt = one => placeText(one) === placeText(fields);
+  return request.do === \"place\" ? [...places, fields] : request.do === \"unplace\" ? places.filter(one => !isIt(one)) : places;
+};
+
+// Whether the frame's placements are those that the command leaves it with.
+function isAsLeft(desk, before, name, request) {
+  const then = before.get(name), now = statesOf(desk.plan, desk.me, [name]).get(name);
+  if ([\"add_frame\", \"drop_frame\"].includes(request.do)) return true;
+  return now !== null && then !== null && isSameState({...now, signals: []}, {...then, placements: placesOf(then, request), signals: []});
+}
+
+function place(desk, frame, placement) {
+  const fields = plain(placement), {name, gap: before} = frame, where = placeText(fields);
+  return step(desk, name, {do: \"place\", ...fields}, `${name} placed in ${where}`, () => {
+    const gap = desk.plan.frameNamed(desk.me, name)?.gap ?? Infinity;
+    return `${name} is placed in ${where}. Its greatest gap is ${desk.times.text(gap)}; it was ${desk.times.number(before)}.`;
+  });
+}
+
+function unplace(desk, {name}, placement) {
+  const where = placeText(placement);
+  return step(desk, name, {do: \"unplace\", ...plain(placement)}, `${name} taken out of ${where}`, () => `${name} is no longer sent in ${where}.`);
+}
+
+const addFrame = (desk, name, node) => step(desk, name, {do: \"add_frame\", node}, `${name} added`, () => {
+  desk.choose({frame: desk.plan.frameNamed(desk.me, name)});
+  return `${name} is added. It is not placed yet.`;
+});
+
+const dropFrame = (desk, name) => step(desk, name, {do: \"drop_frame\"}, `${name} dropped`, () => `${name} is dropped.`);
+
+const isOwnSignal = (frame, signal) => (one, name) => keyOf(one) === keyOf(frame) && name === signal.name;
+
+function addSignal(desk, frame, signal) {
+  const {name, start, length, order} = signal, told = () => `${name} is added to ${frame.name}.`;
+  return step(desk, frame.name, {do: \"add_signal\", signal: name, start, length, order}, `signal ${name} added to ${frame.name}`, told, isOwnSignal(frame, signal));
+}
+
+function dropSignal(desk, frame, signal) {
+  const told = () => `${signal.name} is dropped from ${frame.name}. It was ${bitsText(signal)}.`;
+  return step(desk, frame.name, {do: \"drop_signal\", signal: signal.name}, `signal ${signal.name} dropped from ${frame.name}`, told, isOwnSignal(frame, signal));
+}
+
 // ---- granting.js
 
 // The lanes that are granted and revoked by clicks, by drawing over many of them, and by a list of changes that is sent one by one.
@@ -1311,25 +1460,49 @@ const inverse = changes => changes.map(change => ({...change, act: change.act ==
 const changeText = ({act, lane, ...holder}) => act === \"grant\" ? `Slot ${laneText(lane)} is granted to ${of(holder)}.`
   : `Slot ${laneText(lane)} is no longer granted to ${of(holder)}.`;
 
-// Sends changes one by one, up to the first that is refused; then it says how far they came. Gives the number that were carried out.
+// Sends changes one by one, up to the first that is refused; then it says how far they came. `count` is told of each that is carried out.
+async function carry(desk, changes, count) {
+  const {variant} = desk;
+  let sent = 0;
+  try {
+    for (const change of changes) {
+      if (changes.length > 1) say(\"good\", `Change ${sent + 1} of ${changes.length} is sent ...`);
+      await desk.register.command(requestOf(variant, change));
+      count(sent += 1);
+    }
+  } catch (fault) {
+    if (changes.length > 1) fault.message = `${howFar(changes, sent, fault.isChange)} ${fault.message}`;
+    if (sent) fault.isOwn = ownOf(desk, changes.slice(0, sent));
+    throw fault;
+  }
+  return bySomebody(await reread(desk, {isOwn: ownOf(desk, changes)}));
+}
+
+const labelOf = changes => changes.length === 1 ? changeText(changes[0]).slice(0, -1) : `${plural(changes.length, \"change\")} of grants, from ${laneText(changes[0].lane)} on`;
+const stepOf = changes => ({label: labelOf(changes), changes, turn: (desk, history, isBack) => turnChanges(desk, history, changes, isBack)});
+
+// Takes changes back, or does them again. Where some of them were carried out and then one is refused, these are a step of their own.
+async function turnChanges(desk, history, changes, isBack) {
+  const wanted = isBack ? inverse(changes) : changes;
+  let count = 0;
+  try { return await carry(desk, wanted, sent => { count = sent; }); } catch (fault) {
+    const [turned, left] = isBack ? [changes.slice(changes.length - count), changes.slice(0, changes.length - count)] : [changes.slice(0, count), changes.slice(count)];
+    if (count) history.part(isBack, stepOf(turned), stepOf(left));
+    throw fault;
+  }
+}
+
+// Sends changes as a step. Gives the number that were carried out.
 function send(desk, changes) {
   let count = 0;
-  const {variant} = desk;
   return attempt(desk, async () => {
     try {
-      for (const change of changes) {
-        if (changes.length > 1) say(\"good\", `Change ${count + 1} of ${changes.length} is sent ...`);
-        await desk.register.command(requestOf(variant, change));
-        count += 1;
-      }
+      const others = await carry(desk, changes, sent => { count = sent; });
+      done(desk, (changes.length === 1 ? changeText(changes[0]) : `All ${plural(count, \"change\")} are carried out.`) + others, stepOf(changes));
     } catch (fault) {
-      if (changes.length > 1) fault.message = `${howFar(changes, count, fault.isChange)} ${fault.message}`;
-      if (count) fault.isOwn = ownOf(desk, changes.slice(0, count));
+      if (count) desk.history().add(stepOf(changes.slice(0, count)));
       throw fault;
     }
-    const others = await reread(desk, {isOwn: ownOf(desk, changes)});
-    const text = changes.length === 1 ? changeText(changes[0]) : `All ${plural(count, \"change\")} are carried out.`;
-    done(desk, text + bySomebody(others), () => send(desk, inverse(changes)));
   }).then(() => count);
 }
 
@@ -1729,6 +1902,35 @@ function keyForm(desk) {
   return {card, show: suppliersInto(desk, owners)};
 }
 
+// ---- history.js
+
+// The steps that were carried out since the page was opened, of a variant, and those of them that were taken back.
+
+class History {
+  constructor() { Object.assign(this, {done: [], undone: []}); }
+
+  // A new step. What was taken back before it can no longer be done again.
+  add(step) {
+    this.done.push(step);
+    this.undone = [];
+  }
+
+  // The step that would be taken back, or done again.
+  next(isBack) { return (isBack ? this.done : this.undone).at(-1) ?? null; }
+
+  // It is taken back, or done again.
+  turn(isBack) {
+    const [from, to] = isBack ? [this.done, this.undone] : [this.undone, this.done];
+    to.push(from.pop());
+  }
+
+  // Of the next step a part was taken back, or done again: it is a step of its own from then on.
+  part(isBack, turned, left) {
+    Object.assign(this.next(isBack), left);
+    (isBack ? this.undone : this.done).push(turned);
+  }
+}
+
 // ---- times.js
 
 // Times as the user wants them: in macroticks, or in milliseconds where it was told how long a macrotick is.
@@ -1756,7 +1958,7 @@ const EMPTY = {
   register: null, isIntegrator: false, me: \"\", cluster: null, nodes: [], variants: [],
   variant: null, plan: null, difference: null,
   frame: null, placement: null, lane: null, found: null,
-  room: null, granting: null, draft: null, file: null, undo: null, view: \"plan\", busy: 0,
+  room: null, granting: null, draft: null, file: null, view: \"plan\", busy: 0,
 };
 
 class Desk {
@@ -1771,7 +1973,7 @@ class Desk {
   // What is read for an earlier turn is no longer wanted.
   clear() {
     this.turn += 1;
-    Object.assign(this, EMPTY, {nodes: [], variants: []});
+    Object.assign(this, EMPTY, {nodes: [], variants: [], histories: new Map()});
   }
 
   // Calls a listener when one of these changes: entered, left, register, plan, choice, mode, difference, file, look, view, undo,
@@ -1808,9 +2010,10 @@ class Desk {
     } else this.tell(\"choice\");
   }
 
-  canUndo(text, act) {
-    this.undo = act ? {text, act} : null;
-    this.tell(\"undo\");
+  // What was done in the variant that is shown.
+  history() {
+    if (!this.histories.has(this.variant)) this.histories.set(this.variant, new History());
+    return this.histories.get(this.variant);
   }
 
   // Forgets the key and all that was read with it.
@@ -2021,10 +2224,12 @@ async function showRoom(desk, repetition, channels) {
 
 async function askDrop(desk, frame) {
   const text = `The frame, its ${plural(frame.placements.length, \"placement\")} and its signals are gone then. `
-    + \"There is no way back but to add them again.\";
+    + \"Undo brings them back.\";
   if (await confirmed(`Drop ${frame.name}?`, text, \"Drop it\")) dropFrame(desk, frame.name);
 }
+";
 
+pub const PROGRAM_3: &str = "
 // ---- differences.js
 
 // The view of differences: what a variant has that another one has not, and the other way round.
@@ -2079,9 +2284,7 @@ function rowText(desk, row) {
   if (row.kind === \"signal\") return bitsText(row);
   return row.gap === Infinity ? \"never sent\" : desk.times.text(row.gap);
 }
-";
 
-pub const PROGRAM_3: &str = "
 // ---- gone.js
 
 // What a file would take away that takes the place of what was there: rows that the register has, and the file has not.
@@ -2520,9 +2723,9 @@ async function carryOut(desk) {
     return;
   }
   if (!await mayTakeAway(desk, file)) return;
-  const own = filedIn(desk, file);
+  const own = filedIn(desk, file), {plan: old, me} = desk;
   const isDone = await attempt(desk, async () => {
-    const {rows} = await way.send(desk, file, bodyOf(file));
+    const {rows} = await way.send(desk, file, bodyOf(file)), filedNames = file.shown.slice(1).map(([frame]) => frame);
     let said = `${plural(rows, \"row\")} of ${file.name} ${way.said(file)}`;
     const isLast = !file.parts || file.part + 1 >= file.parts.length;
     if (isLast) desk.file = null;
@@ -2534,7 +2737,8 @@ async function carryOut(desk) {
     const others = bySomebody(await reread(desk, own));
     if (isLast) desk.tell(\"file\");
     else await tryFile(desk);
-    done(desk, said + others, null);
+    const names = new Set(way.isWhole ? [...old.frames, ...desk.plan.frames].map(({name}) => name) : filedNames);
+    done(desk, said + others, {label: `${file.name}: ${plural(rows, \"row\")} of ${file.kind}, ${way.verb.toLowerCase()}`, before: statesOf(old, me, names), after: statesOf(desk.plan, me, names)});
     return true;
   });
   // What was refused is tried again, on the plan as it is now.
@@ -2853,7 +3057,9 @@ function paintMark(ink, sheet, x, cycle, isNew, isEmpty) {
   fillBox(ink, isNew ? GREEN : RED, middle[0] - 3.5, middle[1] - 0.8, 7, 1.6);
   if (isNew) fillBox(ink, GREEN, middle[0] - 0.8, middle[1] - arm, 1.6, arm * 2);
 }
+";
 
+pub const PROGRAM_4: &str = "
 // ---- cells.js
 
 // A cell of the plan that was pointed at: what is there, and what it is in words.
@@ -2903,9 +3109,7 @@ function changes(desk, {lane, cycle}) {
   const {from} = desk.difference;
   return (change.now ? ` New since ${from}.` : \"\") + (change.then ? ` In ${from} ${change.then.frame} is sent here.` : \"\");
 }
-";
 
-pub const PROGRAM_4: &str = "
 // ---- sheet.js
 
 // Where each slot and cycle of a plan stands on a sheet: that of the window, or one to print. Cycles go down, slots across.
@@ -3306,7 +3510,9 @@ function listenToTools(desk, grid) {
   listen(\"narrower\", \"click\", () => grid.zoom(-1));
   listen(\"wider\", \"click\", () => grid.zoom(1));
   listen(\"fit\", \"click\", () => grid.setWidth(grid.widest()));
-  listen(\"undo\", \"click\", () => undoLast(desk));
+  listen(\"undo\", \"click\", () => undo(desk));
+  listen(\"redo\", \"click\", () => redo(desk));
+  listen(\"history\", \"click\", () => openHistory(desk));
   listen(\"grant-mode\", \"click\", () => setGranting(desk, !desk.granting));
   listen(\"grant-to\", \"change\", ({target}) => { desk.grantTo = Number(target.value); desk.tell(\"lanes\"); });
   desk.on(\"look\", () => { byId(\"fold\").checked = desk.look.folds; byId(\"mark\").checked = desk.look.marks; });
@@ -3323,8 +3529,17 @@ function showTools(desk) {
   desk.grantTo = Number(byId(\"grant-to\").value);
   byId(\"grant-mode\").setAttribute(\"aria-pressed\", String(Boolean(desk.granting)));
   byId(\"grant-mode\").disabled = !desk.nodes.length;
-  byId(\"undo\").disabled = !desk.undo;
-  byId(\"undo\").title = desk.undo ? `Undo (Ctrl+Z): ${desk.undo.text}` : \"There is nothing to undo\";
+  showHistory(desk);
+}
+
+function showHistory(desk) {
+  const history = desk.history();
+  for (const [id, isBack, word, keys] of [[\"undo\", true, \"Undo\", \"Ctrl+Z\"], [\"redo\", false, \"Redo\", \"Ctrl+Y\"]]) {
+    const step = desk.isOpen() ? history.next(isBack) : null;
+    byId(id).disabled = !step;
+    byId(id).title = step ? `${word} (${keys}): ${step.label}` : `There is nothing to ${word.toLowerCase()}`;
+  }
+  byId(\"history\").textContent = `Steps (${history.done.length})`;
 }
 
 function showMode(desk) {
@@ -3396,8 +3611,17 @@ function keyboard(desk) {
     const isTyping = /^(INPUT|SELECT|TEXTAREA)$/.test(document.activeElement?.tagName ?? \"\");
     if (event.key === \"Escape\") endMode(desk);
     else if (event.key === \"/\" && !isTyping) { event.preventDefault(); byId(\"search\").focus(); }
-    else if (event.key === \"z\" && (event.ctrlKey || event.metaKey) && !event.shiftKey && !isTyping) { event.preventDefault(); undoLast(desk); }
+    else if ((event.ctrlKey || event.metaKey) && !isTyping) turned(desk, event);
   });
+}
+
+// Ctrl+Z takes the last step back; Ctrl+Y, or Ctrl+Shift+Z, does it again.
+function turned(desk, event) {
+  const key = event.key.toLowerCase(), isBack = key === \"z\" && !event.shiftKey;
+  if (!isBack && key !== \"y\" && key !== \"z\") return;
+  event.preventDefault();
+  if (isBack) undo(desk);
+  else redo(desk);
 }
 
 // ---- login.js
@@ -3651,7 +3875,7 @@ const KEYS = [
   [\"Arrows\", \"to the next cycle or lane of the plan\"], [\"Page Up, Page Down\", \"eight cycles\"], [\"Home, End\", \"the first lane, the last\"],
   [\"Enter\", \"choose the cell; place or grant there\"], [\"n\", \"the next cell in which the frame fits\"],
   [\"+ - 0\", \"wider lanes, narrower ones, all slots in the window\"],
-  [\"Esc\", \"end placing or granting\"], [\"/\", \"search a frame\"], [\"Ctrl+Z\", \"undo the last step\"],
+  [\"Esc\", \"end placing or granting\"], [\"/\", \"search a frame\"], [\"Ctrl+Z\", \"undo the last step\"], [\"Ctrl+Y\", \"do it again; Ctrl+Shift+Z too\"],
 ];
 const FOR_INTEGRATORS = [\"Shift and arrows\", \"choose several lanes while lanes are granted\"];
 
