@@ -100,6 +100,39 @@ class Plans(ModulesCase):
             self.see(rows, True, wanted in said or said)
 
 
+# The lines that the report `room` has, of what the page finds by itself.
+ROOM = """
+    return given.map(({cluster, rows, me, asked}) => {
+        const plan = new Plan(readCluster(cluster), readRows(rows, me)), pad = number => String(number).padStart(2, "0");
+        return asked.map(([name, repetition]) => [...roomOf(plan, plan.frameNamed(me, name), repetition)]
+            .map(([key, bases]) => [key.replace(/\\D+/, "").padStart(4, "0"), key.replace(/\\d+/, ""), pad(repetition), ...[...bases].map(pad)].join(" ")));
+    });"""
+
+
+class Room(ModulesCase):
+    """Where a frame fits the page finds by its own rows: it is what the report `room` tells."""
+
+    def test_each(self):
+        given, wanted = [], []
+        for name, cluster, requests in examples():
+            register, lines = naive.register_of(f"{cluster}---\n{requests}".encode())
+            for line in lines:
+                register.told(line)
+            for key, me in register.keys.items():
+                ask = lambda do, **more: json.loads(register.told(f"{key} {json.dumps({'do': do, **more})}".encode()))
+                for variant in [line.split()[0] for line in ask("variants")["lines"] if line.endswith(" open")]:
+                    rows = ask("rows", variant=variant)["lines"]
+                    frames = [line.split()[1] for line in rows if line.startswith("FRAME")]
+                    divisors = [number for number in range(1, register.cycles + 1) if register.cycles % number == 0]
+                    asked = [(frame, repetition) for frame in frames for repetition in divisors[::2]]
+                    given.append({"cluster": text(ask("cluster")["lines"]), "rows": text(rows), "me": me, "asked": asked})
+                    wanted.append([ask("room", variant=variant, frame=frame, repetition=repetition).get("lines", []) for frame, repetition in asked])
+        got = self.run_script({"plan": "Plan", "reports": "readCluster, readRows", "room": "roomOf"}, ROOM, given)
+        for plan, lines, found in zip(given, wanted, got):
+            self.see(f"room of {plan['me']}", lines, found)
+        self.see("there is room", True, sum(map(len, wanted)) > 100)
+
+
 class Cycles(ModulesCase):
     """Cycles, gaps and bits, by the rules of the formats."""
 
@@ -249,14 +282,14 @@ class Reports(ModulesCase):
             "readVariants": [("v1 - 1 open\nv2 v1 2 released\n", [{"name": "v1", "parent": None, "depth": 1, "isReleased": False},
                                                                   {"name": "v2", "parent": "v1", "depth": 2, "isReleased": True}]),
                              ("v1 - 1 shut\n", None), ("v1 - one open\n", None), ("<img> - 1 open\n", None)],
-            "readRoom": [("0002 AB 04 00 03\n", [{"slot": 2, "channels": "AB", "repetition": 4, "bases": [0, 3]}]), ("0002 BA 04 00\n", None), ("0002 A 04\n", None)],
+            "readNodes": [("n1\nn2\n", [{"node": "n1", "supplier": "s1"}, {"node": "n2", "supplier": "s1"}]), ("n1 s2\n", None), ("1n\n", None)],
             "readFates": [({"lines": ["0002 00 done", "0003 25 CellTaken 07 B g"]}, [[2, 0, None], [3, 25, "B"]]), ({"lines": ["0002 25 done"]}, None),
                           ({"lines": ["0002 25 CellTaken"]}, None), ({"lines": "x"}, None), ({"lines": ["0002 29 BadRow"]}, None)],
         }
-        script = """const reads = {readVariants, readRoom, readFates: answer => readFates(answer).map(({record, no, channel}) => [record, no, channel ?? null])};
+        script = """const reads = {readVariants, readNodes: text => readNodes(text, "s1"), readFates: answer => readFates(answer).map(({record, no, channel}) => [record, no, channel ?? null])};
             return given.map(([name, told]) => { try { return reads[name](told); } catch (fault) { if (fault instanceof Strange) return null; throw fault; } });"""
         listed = [(name, told, wanted) for name, some in cases.items() for told, wanted in some]
-        got = self.run_script({"reports": "readVariants, readRoom, readFates", "faults": "Strange"}, script, [(name, told) for name, told, _ in listed])
+        got = self.run_script({"reports": "readVariants, readNodes, readFates", "faults": "Strange"}, script, [(name, told) for name, told, _ in listed])
         for (name, told, wanted), said in zip(listed, got):
             self.see(f"{name} of {told!r}", wanted, said)
 

@@ -6,7 +6,7 @@ const EMPTY = {
   register: null, isIntegrator: false, me: "", cluster: null, nodes: [], variants: [],
   variant: null, plan: null, difference: null,
   frame: null, placement: null, lane: null, found: null,
-  room: null, granting: null, draft: null, file: null, view: "plan", busy: 0,
+  room: null, granting: null, draft: null, file: null, view: "plan", busy: 0, unansweredKey: "",
 };
 
 export class Desk {
@@ -21,10 +21,11 @@ export class Desk {
   // What is read for an earlier turn is no longer wanted.
   clear() {
     this.turn += 1;
-    Object.assign(this, EMPTY, {nodes: [], variants: [], histories: new Map()});
+    this.session = (this.session ?? 0) + 1;
+    Object.assign(this, EMPTY, {nodes: [], variants: [], waiting: [], pending: [], histories: new Map()});
   }
 
-  // Calls a listener when one of these changes: entered, left, register, plan, choice, mode, difference, file, look, view, undo,
+  // Calls a listener when one of these changes: entered, left, register, plan, choice, mode, difference, file, look, view, undo, pending,
   // reveal, and lanes, which are those that were drawn over.
   on(events, listener) { this.listeners.push([events.split(" "), listener]); }
   tell(...events) {

@@ -1,7 +1,7 @@
 // The lanes that are granted and revoked by clicks, by drawing over many of them, and by a list of changes that is sent one by one.
 import {button} from "./dom.js";
 import {bySomebody} from "./meanwhile.js";
-import {attempt, quiet, say} from "./messages.js";
+import {attempt, inTurn, quiet, say} from "./messages.js";
 import {channelOf, laneText, slotOf} from "./plan.js";
 import {reread} from "./reading.js";
 import {done} from "./steps.js";
@@ -41,7 +41,7 @@ export function grantPicked(desk, cell) {
     desk.tell("lanes");
     return;
   }
-  const to = granted(desk), {lane, grant} = cell;
+  const to = granted(desk), {lane} = cell, grant = desk.plan.grants[lane];
   if (!to) return;
   if (!grant) send(desk, [{act: "grant", lane, ...to}]);
   else if (holds(grant, to)) send(desk, [{act: "revoke", lane, ...to}]);
@@ -67,7 +67,7 @@ async function carry(desk, changes, count) {
   let sent = 0;
   try {
     for (const change of changes) {
-      if (changes.length > 1) say("good", `Change ${sent + 1} of ${changes.length} is sent ...`);
+      if (changes.length > 1) say("wait", `Change ${sent + 1} of ${changes.length} is sent ...`);
       await desk.register.command(requestOf(variant, change));
       count(sent += 1);
     }
@@ -94,7 +94,9 @@ async function turnChanges(desk, history, changes, isBack) {
 }
 
 // Sends changes as a step. Gives the number that were carried out.
-export function send(desk, changes) {
+export const send = (desk, changes) => inTurn(desk, () => sendNow(desk, changes));
+
+function sendNow(desk, changes) {
   let count = 0;
   return attempt(desk, async () => {
     try {
@@ -104,7 +106,7 @@ export function send(desk, changes) {
       if (count) desk.history().add(stepOf(changes.slice(0, count)));
       throw fault;
     }
-  }).then(() => count);
+  }, `Sending: ${labelOf(changes)} ...`).then(() => count);
 }
 
 function howFar(changes, count, isLost) {

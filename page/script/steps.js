@@ -2,7 +2,7 @@
 import {isSameState, statesOf} from "./changes.js";
 import {button} from "./dom.js";
 import {bySomebody} from "./meanwhile.js";
-import {attempt, say} from "./messages.js";
+import {attempt, inTurn, say} from "./messages.js";
 import {keyOf} from "./plan.js";
 import {reread} from "./reading.js";
 import {undo} from "./turning.js";
@@ -18,14 +18,14 @@ export function done(desk, text, step = null, kind = "good") {
 }
 
 // Carries out a command on a frame, reads the plan again, and says what became of the frame and what somebody else changed meanwhile.
-const step = (desk, name, request, label, told, isOwnSignal) => attempt(desk, async () => {
-  const {me, variant} = desk, before = statesOf(desk.plan, me, [name]);
+const step = (desk, name, request, label, told, isOwnSignal) => inTurn(desk, () => attempt(desk, async () => {
+  const {me, variant} = desk, before = statesOf(desk.plan, me, [name]), gap = desk.plan.frameNamed(me, name)?.gap;
   await desk.register.command({variant, frame: name, ...request});
   if (request.do === "add_signal") desk.draft = null;
   if (request.do === "drop_frame" && desk.frame?.name === name) desk.choose({});
   const others = bySomebody(await reread(desk, {isOwn: one => one.name === name && isAsLeft(desk, before, name, request), isOwnSignal}));
-  done(desk, told() + others, {label, before, after: statesOf(desk.plan, me, [name])});
-});
+  done(desk, told(gap) + others, {label, before, after: statesOf(desk.plan, me, [name])});
+}, `Sending: ${label} ...`));
 
 const plain = ({slot, channels, base, repetition}) => ({slot, channels, base, repetition});
 const placesOf = (state, request) => {
@@ -40,12 +40,15 @@ function isAsLeft(desk, before, name, request) {
   return now !== null && then !== null && isSameState({...now, signals: []}, {...then, placements: placesOf(then, request), signals: []});
 }
 
-export function place(desk, frame, placement) {
-  const fields = plain(placement), {name, gap: before} = frame, where = placeText(fields);
-  return step(desk, name, {do: "place", ...fields}, `${name} placed in ${where}`, () => {
-    const gap = desk.plan.frameNamed(desk.me, name)?.gap ?? Infinity;
-    return `${name} is placed in ${where}. Its greatest gap is ${desk.times.text(gap)}; it was ${desk.times.number(before)}.`;
-  });
+// The cells are marked until the register has answered.
+export async function place(desk, {name}, placement) {
+  const fields = plain(placement), where = placeText(fields), gapNow = () => desk.plan.frameNamed(desk.me, name)?.gap ?? Infinity;
+  desk.pending.push(fields);
+  desk.tell("pending");
+  await step(desk, name, {do: "place", ...fields}, `${name} placed in ${where}`,
+    gap => `${name} is placed in ${where}. Its greatest gap is ${desk.times.text(gapNow())}; it was ${desk.times.number(gap)}.`);
+  desk.pending = desk.pending.filter(one => one !== fields);
+  desk.tell("pending");
 }
 
 export function unplace(desk, {name}, placement) {

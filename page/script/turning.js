@@ -2,7 +2,7 @@
 import {isExact, isSameState, requestsBetween, statesOf} from "./changes.js";
 import {button, byId, make, table, tableRow} from "./dom.js";
 import {bySomebody} from "./meanwhile.js";
-import {attempt, openDialog, say} from "./messages.js";
+import {attempt, inTurn, openDialog, say} from "./messages.js";
 import {reread} from "./reading.js";
 import {firstOf, grouped} from "./words.js";
 
@@ -12,7 +12,9 @@ export const redo = desk => turn(desk, false);
 // What a step says that cannot be turned.
 const stays = isBack => isBack ? "This step cannot be taken back now, and stays in the list." : "This step cannot be done again now, and stays in the list.";
 
-async function turn(desk, isBack) {
+const turn = (desk, isBack) => inTurn(desk, () => turnNow(desk, isBack));
+
+async function turnNow(desk, isBack) {
   const history = desk.history(), step = history.next(isBack);
   if (!step || !desk.isOpen()) return false;
   const isTurned = await attempt(desk, async () => {
@@ -27,7 +29,7 @@ async function turn(desk, isBack) {
       fault.message = `${stays(isBack)} ${fault.message}`;
       throw fault;
     }
-  });
+  }, `${isBack ? "Taking back" : "Doing again"}: ${step.label} ...`);
   desk.tell("undo");
   return isTurned === true;
 }

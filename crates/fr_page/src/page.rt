@@ -18,9 +18,10 @@ pub const DOCUMENT: &str = "<!doctype html>
   <p>The plan of a FlexRay cluster's static segment. Your key tells the register who you are: a supplier sees its own rows, the integrator all.</p>
   <form id=\"login-form\" autocomplete=\"off\">
     <label for=\"key\">Key</label>
-    <input id=\"key\" type=\"password\" autocomplete=\"off\" spellcheck=\"false\" autocapitalize=\"none\" maxlength=\"64\" required>
+    <input id=\"key\" type=\"password\" autocomplete=\"off\" spellcheck=\"false\" autocapitalize=\"none\" maxlength=\"64\">
     <label class=\"check\"><input id=\"keep\" type=\"checkbox\"> keep it for this tab, also when the page is loaded again</label>
-    <button type=\"submit\" class=\"main\">Open the plan</button>
+    <button id=\"open-plan\" type=\"submit\" class=\"main\">Open the plan</button>
+    <p id=\"login-busy\" class=\"note\" role=\"status\" hidden>Asking the register ...</p>
     <p id=\"login-fault\" class=\"fault\" role=\"alert\"></p>
   </form>
 </main>
@@ -35,6 +36,7 @@ pub const DOCUMENT: &str = "<!doctype html>
     <span class=\"grow\"></span>
     <span id=\"who\" class=\"who\"></span>
     <span class=\"set\">
+      <span id=\"waits\" class=\"waits\" role=\"status\" hidden></span>
       <button id=\"reload\" type=\"button\" title=\"Read the plan again\">Reload</button>
       <button id=\"help-open\" type=\"button\" title=\"Keys and signs\">Help</button>
       <button id=\"leave\" type=\"button\" title=\"Forget the key\">Leave</button>
@@ -164,7 +166,7 @@ label.check{display:inline-flex;gap:.35rem;align-items:center}
 .login{max-width:30rem;margin:12vh auto 0;padding:2rem;border:1px solid var(--line);border-radius:8px}
 .login form{display:grid;gap:.6rem}
 .app{display:flex;flex-direction:column;height:100vh;height:100dvh}
-.top{display:flex;flex-wrap:wrap;gap:.4rem .5rem;align-items:center;padding:.4rem .75rem;background:#1c2633;color:#fff}
+.top{position:relative;overflow:hidden;display:flex;flex-wrap:wrap;gap:.4rem .5rem;align-items:center;padding:.4rem .75rem;background:#1c2633;color:#fff}
 .brand{font-size:1.05rem;margin-right:.3rem}
 .quiet{color:#c6d0dd}
 .top select,.top button{background:#2b3848;color:#fff;border-color:#55657a}
@@ -182,6 +184,11 @@ label.check{display:inline-flex;gap:.35rem;align-items:center}
 #macrotick{width:5em}
 .figures{flex:1;margin:0}
 .message{position:fixed;z-index:15;left:50%;bottom:10px;transform:translateX(-50%);width:max-content;max-width:min(900px,94vw);display:flex;gap:.75rem;align-items:center;padding:.5rem .75rem;border:1px solid #6aa585;border-radius:6px;box-shadow:0 3px 14px #0004;background:#eaf4ee;color:#063d23}
+.message.wait{background:#eef3fb;border-color:#8fb0dc;color:#0c2c57}
+.waits{font-size:.85rem;padding:.05rem .5rem;border-radius:10px;background:#e7b84b;color:#2b2000}
+[aria-busy] .top::after{content:\"\";position:absolute;left:0;right:0;top:0;height:3px;background:linear-gradient(90deg,transparent,#f5c451,transparent);animation:busy 1.2s .3s linear infinite backwards}
+@keyframes busy{from{transform:translateX(-100%)}to{transform:translateX(100%)}}
+@media (prefers-reduced-motion:reduce){[aria-busy] .top::after{animation:none}}
 .message.bad{background:#fbe9e9;border-color:#c77;color:#5e0b0e}
 .message.warn{background:#fdf3df;border-color:#c99a3e;color:#4d3000}
 .message div{flex:1;max-height:40vh;overflow:auto;overflow-wrap:anywhere}
@@ -797,13 +804,18 @@ const SECONDS = 60;
 class Register {
   constructor(key) {
     this.key = key;
-    this.last = Promise.resolve();
+    this.changed = Promise.resolve();
+    this.reads = new Set();
   }
 
-  // The register answers one request after another, so they wait here for their turn.
+  // Reads go side by side. A change waits for all that was asked before it, and what is asked behind it waits for the change.
   ask(method, path, body, isChange = method !== \"GET\") {
-    const turn = this.last.then(() => this.send(method, path, body, isChange));
-    this.last = turn.catch(() => {});
+    const turn = Promise.all(method === \"GET\" ? [this.changed] : [this.changed, ...this.reads]).then(() => this.send(method, path, body, isChange));
+    const end = turn.catch(() => {});
+    if (method === \"GET\") {
+      this.reads.add(end);
+      end.then(() => this.reads.delete(end));
+    } else this.changed = end;
     return turn;
   }
 
@@ -871,7 +883,6 @@ const FORMS = {
   cluster: form(\"(\\\\w+) (AB|A|B|\\\\d{1,10}|NAME)\"),
   variant: form(`NAME (-|${NAME}) (\\\\d{1,2}) (open|released)`),
   node: form(\"NAME\" + OWNER),
-  room: form(\"(\\\\d{4}) (AB|A|B) (\\\\d\\\\d)((?: \\\\d\\\\d)+)\"),
   fate: form(\"(\\\\d{4,}) (\\\\d\\\\d) (\\\\w{1,20})(?: (\\\\d\\\\d) ([AB]) NAME| (\\\\d{4}) NAME)?\"),
 };
 
@@ -941,9 +952,6 @@ function ownerOf(supplier, me) {
 
 const readNodes = (text, me) => rowsOf(text, FORMS.node).map(([node, supplier]) => ({node, supplier: ownerOf(supplier, me)}));
 
-const readRoom = text => rowsOf(text, FORMS.room).map(([slot, channels, repetition, bases]) =>
-  ({slot: Number(slot), channels, repetition: Number(repetition), bases: bases.trim().split(\" \").map(Number)}));
-
 // The fates of a file's rows: for each its record's number and 0, or the refusal.
 function readFates(answer) {
   if (!Array.isArray(answer.lines)) throw new Strange(\"The answer to a try has no lines.\");
@@ -980,87 +988,122 @@ function readExport(kind, text) {
   return {header: first, records};
 }
 
+// ---- room.js
+
+// Where a frame fits. A supplier's own rows decide it: in a lane that its node holds nobody else may send.
+
+const MOST_PLACEMENTS = 8;
+const isFull = frame => frame.placements.length >= MOST_PLACEMENTS;
+
+// The bases that are free in a lane, or in both lanes of a slot.
+function freeBases(plan, lanes, repetition) {
+  const free = new Set(Array.from({length: repetition}, (_, base) => base));
+  for (const lane of lanes) {
+    for (let cycle = 0; cycle < plan.cycles; cycle += 1) if (plan.at(lane, cycle)) free.delete(cycle % repetition);
+  }
+  return free;
+}
+
+const isHeldBy = (grant, {node, supplier}) => grant?.node === node && grant.supplier === supplier;
+
+// By slot and channels the bases with which a frame may be placed. Nothing is there of where it does not fit.
+function roomOf(plan, frame, repetition) {
+  const found = new Map();
+  for (let slot = 1; slot <= plan.cluster.static_slots; slot += 1) {
+    for (const channels of [\"A\", \"AB\", \"B\"]) {
+      const lanes = channelsIn(channels).map(channel => laneOf(slot, channel));
+      if (isFull(frame) || !lanes.every(lane => isHeldBy(plan.grants[lane], frame))) continue;
+      const bases = freeBases(plan, lanes, repetition);
+      if (bases.size) found.set(slot + channels, bases);
+    }
+  }
+  return found;
+}
+
 // ---- reading.js
 
 // What is read of the register: the cluster, a variant's plan, the room for a frame, differences and exports.
 
-// Takes up a key. No report says whose it is: this request of room is refused in each case, and the integrator's refusal is its own.
-async function enter(desk, key) {
-  const register = new Register(key), cluster = readCluster(await register.read(\"cluster\"));
-  let isIntegrator = false;
+// Whether the integrator asks. No report says whose the key is: this request of room is refused in each case, and the integrator's refusal is its own.
+async function isIntegrators(register) {
   try { await register.read(\"variants/x/frames/x/room/1\"); } catch (fault) {
     if (!(fault instanceof Refused)) throw fault;
-    isIntegrator = fault.number === 3;
+    return fault.number === 3;
   }
-  if (!isIntegrator && cluster.suppliers.length !== 1) throw new Strange(\"The server does not say who you are.\");
-  Object.assign(desk, {register, isIntegrator, me: isIntegrator ? null : cluster.suppliers[0]});
-  await readRegister(desk, cluster);
+  return false;
 }
 
-// What belongs to all variants.
-async function readRegister(desk, known = null) {
-  const cluster = known ?? readCluster(await desk.register.read(\"cluster\"));
-  const nodes = readNodes(await desk.register.read(\"nodes\"), desk.me), variants = readVariants(await desk.register.read(\"variants\"));
-  Object.assign(desk, {cluster, nodes, variants});
+// What belongs to all variants, as the reports tell it.
+const readAll = register => Promise.all([\"cluster\", \"nodes\", \"variants\"].map(path => register.read(path)));
+
+function takeAll(desk, [cluster, nodes, variants]) {
+  Object.assign(desk, {cluster: readCluster(cluster), nodes: readNodes(nodes, desk.me), variants: readVariants(variants)});
   if (!desk.isOpen()) Object.assign(desk, {room: null, granting: null});
   desk.tell(\"register\");
 }
 
-// All of a variant at one moment.
-const readPlan = async (desk, variant) => new Plan(desk.cluster, readRows(await desk.register.read(`variants/${variant}/rows`), desk.me));
+// Takes up a key.
+async function enter(desk, key) {
+  const register = new Register(key), [isIntegrator, all] = await Promise.all([isIntegrators(register), readAll(register)]);
+  const {suppliers} = readCluster(all[0]);
+  if (!isIntegrator && suppliers.length !== 1) throw new Strange(\"The server does not say who you are.\");
+  Object.assign(desk, {register, isIntegrator, me: isIntegrator ? null : suppliers[0]});
+  takeAll(desk, all);
+}
+
+const readRegister = async desk => takeAll(desk, await readAll(desk.register));
+
+// All of a variant at one moment; and beside it what differs from another one, where that is shown.
+const readVariant = (desk, variant, from) => Promise.all([desk.register.read(`variants/${variant}/rows`), from ? desk.register.read(`variants/${variant}/since/${from}`) : null]);
 
 // Shows a plan that was read; what was chosen stays chosen, if it is there.
-async function take(desk, plan) {
-  const {frame, room, difference} = desk;
+function take(desk, [rows, since], from) {
+  const {frame, room} = desk, plan = new Plan(desk.cluster, readRows(rows, desk.me));
   Object.assign(desk, {plan, placement: null, frame: frame && plan.frameNamed(frame.supplier, frame.name)});
-  if (difference) await compare(desk, difference.from);
-  if (room) await findRoom(desk, room.repetition, room.channels);
+  if (from) desk.difference = differenceOf(desk, from, since);
+  if (room) findRoom(desk, room.repetition, room.channels);
   desk.tell(\"plan\");
 }
 
 async function choose(desk, variant) {
-  const turn = desk.turn += 1, plan = await readPlan(desk, variant);
+  const turn = desk.turn += 1, from = variant === desk.variant ? desk.difference?.from : null, read = await readVariant(desk, variant, from);
   if (desk.turn !== turn) return;
   if (variant !== desk.variant) Object.assign(desk, {difference: null, granting: null, room: null, lane: null, file: null});
   desk.variant = variant;
-  await take(desk, plan);
+  take(desk, read, from);
 }
 
-// Reads the plan again after a change, and says what somebody else changed; `isOwn` and `isOwnSignal` are those of `meanwhile`.
-async function reread(desk, {isOwn, isOwnSignal} = {}) {
-  const {plan: before, turn, variant} = desk, plan = await readPlan(desk, variant);
+// Reads the plan again after a change, and says what somebody else changed; `isOwn` and `isOwnSignal` are those of `meanwhile`. What belongs to all
+// variants may be read beside it.
+async function reread(desk, {isOwn, isOwnSignal} = {}, beside = null) {
+  const {plan: before, turn, variant, difference} = desk, from = difference?.from;
+  const [read, all] = await Promise.all([readVariant(desk, variant, from), beside]);
+  if (all) takeAll(desk, all);
   if (desk.turn !== turn || desk.variant !== variant) return \"\";
-  await take(desk, plan);
+  take(desk, read, desk.difference?.from === from ? from : null);
   return meanwhile(before, desk.plan, isOwn, isOwnSignal);
 }
 
 // Reads everything that is shown again, and says what was changed.
 async function refresh(desk, isOwn) {
-  const {variants, nodes} = desk;
-  await readRegister(desk);
-  return joined([desk.variant ? await reread(desk, {isOwn}) : \"\", meanwhileInAll({variants, nodes}, desk)]);
+  const {variants, nodes} = desk, all = readAll(desk.register);
+  const changed = desk.variant ? await reread(desk, {isOwn}, all) : takeAll(desk, await all) ?? \"\";
+  return joined([changed, meanwhileInAll({variants, nodes}, desk)]);
 }
 
 // Where the chosen frame fits with a repetition on these channels.
-async function findRoom(desk, repetition, channels) {
-  const {frame, turn} = desk;
+function findRoom(desk, repetition, channels) {
+  const {frame, plan} = desk;
   desk.room = null;
-  if (!frame || !desk.mayPlan() || frame.placements.length >= 8) return;
-  const lines = readRoom(await desk.register.read(desk.path(`frames/${frame.name}/room/${repetition}`)));
-  const bases = new Map(), counts = {A: 0, B: 0, AB: 0};
-  for (const line of lines) {
-    const isOther = line.repetition !== repetition || line.bases.some(base => base >= repetition);
-    if (isOther) throw new Strange(\"The server sent room of another repetition.\");
-    counts[line.channels] += line.bases.length;
-    bases.set(line.slot + line.channels, new Set(line.bases));
-  }
-  if (desk.turn === turn) desk.room = {frame: desk.frame, repetition, channels, bases, count: counts[channels]};
+  if (!frame || !desk.mayPlan() || isFull(frame)) return;
+  const bases = roomOf(plan, frame, repetition);
+  const count = [...bases].reduce((sum, [key, free]) => sum + (key === parseInt(key, 10) + channels ? free.size : 0), 0);
+  desk.room = {frame, repetition, channels, bases, count};
 }
 
 // What differs since another variant, and where: in each cell, and in each lane 1 for a new grant, 2 for one that is gone.
-async function compare(desk, from) {
-  const rows = readDifference(await desk.register.read(desk.path(`since/${from}`)), desk.me);
-  const {cycles} = desk.cluster, cells = new Map(), lanes = new Map();
+function differenceOf(desk, from, text) {
+  const rows = readDifference(text, desk.me), {cycles} = desk.cluster, cells = new Map(), lanes = new Map();
   for (const row of rows) {
     if (row.kind !== \"grant\" && row.kind !== \"placement\") continue;
     for (const channel of channelsIn(row.channels)) {
@@ -1070,7 +1113,12 @@ async function compare(desk, from) {
       for (let cycle = row.base; cycle < cycles; cycle += row.repetition) cells.get(lane)[cycle][row.isNew ? \"now\" : \"then\"] = row;
     }
   }
-  desk.difference = {from, rows, cells, lanes, kind: null};
+  return {from, rows, cells, lanes, kind: null};
+}
+
+async function compare(desk, from) {
+  const {turn} = desk, text = await desk.register.read(desk.path(`since/${from}`));
+  if (desk.turn === turn) desk.difference = differenceOf(desk, from, text);
 }
 
 // More parts than the largest plan has.
@@ -1095,7 +1143,7 @@ async function exported(desk, kind) {
 // Refusals that show that the plan is no longer as it is shown.
 const OUT_OF_DATE = [10, 11, 14, 15, 16, 17, 18, 19, 21, 22, 24, 25, 27, 29];
 
-// Says something: `good`, `bad` or `warn`.
+// Says something: `good`, `bad`, `warn` or, of what is under way, `wait`.
 function say(kind, text, ...buttons) {
   const box = byId(\"message\");
   box.className = \"message \" + kind;
@@ -1108,26 +1156,62 @@ const quiet = () => { byId(\"message\").hidden = true; };
 // What was done is no longer said where something else is looked at.
 const quietGood = () => { if (byId(\"message\").classList.contains(\"good\")) quiet(); };
 
-// Does what asks the register, and says how it failed.
-async function attempt(desk, action) {
+// Does what asks the register: says at once what is under way, and then how it failed.
+async function attempt(desk, action, text = \"\") {
+  const {session} = desk;
   desk.busy += 1;
   document.body.setAttribute(\"aria-busy\", \"true\");
+  if (text) say(\"wait\", text);
   try {
     return await action();
   } catch (fault) {
     if (desk.register) await sayFault(desk, fault);
     return undefined;
   } finally {
-    desk.busy = Math.max(0, desk.busy - 1);
-    if (!desk.busy) document.body.removeAttribute(\"aria-busy\");
+    if (desk.session === session) ended(desk, text);
   }
+}
+
+// What was under way has ended: what waits comes next.
+function ended(desk, text) {
+  const box = byId(\"message\");
+  if (text && box.classList.contains(\"wait\") && box.firstChild?.textContent === text) quiet();
+  desk.busy -= 1;
+  if (desk.busy) return;
+  const next = desk.waiting.shift();
+  showWaiting(desk);
+  if (next) next();
+  else document.body.removeAttribute(\"aria-busy\");
+}
+
+// Does something once nothing is under way: at once, or behind what is and what waits already; then it is told that it waits.
+function inTurn(desk, act) {
+  if (!desk.busy) return act();
+  return new Promise(done => {
+    desk.waiting.push(() => done(act()));
+    showWaiting(desk);
+  });
+}
+
+function showWaiting({waiting}) {
+  const box = byId(\"waits\");
+  box.hidden = !waiting.length;
+  box.textContent = waiting.length ? `${plural(waiting.length, \"step waits\", \"steps wait\")}` : \"\";
+}
+
+// After a fault nothing that waits is carried out.
+function forgetWaiting(desk) {
+  const count = desk.waiting.length;
+  desk.waiting = [];
+  showWaiting(desk);
+  return count ? ` ${plural(count, \"step that waited was\", \"steps that waited were\")} not carried out.` : \"\";
 }
 
 // A fault with `isOwn` comes after changes of the user's own.
 async function sayFault(desk, fault) {
   if (!(fault instanceof Refused || fault instanceof Lost || fault instanceof Strange)) throw fault;
   if (fault.number === 2) { desk.leave(\"The key is nobody's any more. It may have been changed.\"); return; }
-  const text = fault instanceof Refused ? `Refused: ${fault.message}` : fault.message;
+  const text = (fault instanceof Refused ? `Refused: ${fault.message}` : fault.message) + forgetWaiting(desk);
   say(\"bad\", text);
   if (!desk.plan || !(fault.isChange || fault.isOwn || OUT_OF_DATE.includes(fault.number))) return;
   say(\"bad\", text + await readAgain(desk, fault));
@@ -1265,7 +1349,9 @@ const redo = desk => turn(desk, false);
 // What a step says that cannot be turned.
 const stays = isBack => isBack ? \"This step cannot be taken back now, and stays in the list.\" : \"This step cannot be done again now, and stays in the list.\";
 
-async function turn(desk, isBack) {
+const turn = (desk, isBack) => inTurn(desk, () => turnNow(desk, isBack));
+
+async function turnNow(desk, isBack) {
   const history = desk.history(), step = history.next(isBack);
   if (!step || !desk.isOpen()) return false;
   const isTurned = await attempt(desk, async () => {
@@ -1280,7 +1366,7 @@ async function turn(desk, isBack) {
       fault.message = `${stays(isBack)} ${fault.message}`;
       throw fault;
     }
-  });
+  }, `${isBack ? \"Taking back\" : \"Doing again\"}: ${step.label} ...`);
   desk.tell(\"undo\");
   return isTurned === true;
 }
@@ -1348,14 +1434,14 @@ function done(desk, text, step = null, kind = \"good\") {
 }
 
 // Carries out a command on a frame, reads the plan again, and says what became of the frame and what somebody else changed meanwhile.
-const step = (desk, name, request, label, told, isOwnSignal) => attempt(desk, async () => {
-  const {me, variant} = desk, before = statesOf(desk.plan, me, [name]);
+const step = (desk, name, request, label, told, isOwnSignal) => inTurn(desk, () => attempt(desk, async () => {
+  const {me, variant} = desk, before = statesOf(desk.plan, me, [name]), gap = desk.plan.frameNamed(me, name)?.gap;
   await desk.register.command({variant, frame: name, ...request});
   if (request.do === \"add_signal\") desk.draft = null;
   if (request.do === \"drop_frame\" && desk.frame?.name === name) desk.choose({});
   const others = bySomebody(await reread(desk, {isOwn: one => one.name === name && isAsLeft(desk, before, name, request), isOwnSignal}));
-  done(desk, told() + others, {label, before, after: statesOf(desk.plan, me, [name])});
-});
+  done(desk, told(gap) + others, {label, before, after: statesOf(desk.plan, me, [name])});
+}, `Sending: ${label} ...`));
 
 const plain = ({slot, channels, base, repetition}) => ({slot, channels, base, repetition});
 const placesOf = (state, request) => {
@@ -1370,12 +1456,15 @@ function isAsLeft(desk, before, name, request) {
   return now !== null && then !== null && isSameState({...now, signals: []}, {...then, placements: placesOf(then, request), signals: []});
 }
 
-function place(desk, frame, placement) {
-  const fields = plain(placement), {name, gap: before} = frame, where = placeText(fields);
-  return step(desk, name, {do: \"place\", ...fields}, `${name} placed in ${where}`, () => {
-    const gap = desk.plan.frameNamed(desk.me, name)?.gap ?? Infinity;
-    return `${name} is placed in ${where}. Its greatest gap is ${desk.times.text(gap)}; it was ${desk.times.number(before)}.`;
-  });
+// The cells are marked until the register has answered.
+async function place(desk, {name}, placement) {
+  const fields = plain(placement), where = placeText(fields), gapNow = () => desk.plan.frameNamed(desk.me, name)?.gap ?? Infinity;
+  desk.pending.push(fields);
+  desk.tell(\"pending\");
+  await step(desk, name, {do: \"place\", ...fields}, `${name} placed in ${where}`,
+    gap => `${name} is placed in ${where}. Its greatest gap is ${desk.times.text(gapNow())}; it was ${desk.times.number(gap)}.`);
+  desk.pending = desk.pending.filter(one => one !== fields);
+  desk.tell(\"pending\");
 }
 
 function unplace(desk, {name}, placement) {
@@ -1440,7 +1529,7 @@ function grantPicked(desk, cell) {
     desk.tell(\"lanes\");
     return;
   }
-  const to = granted(desk), {lane, grant} = cell;
+  const to = granted(desk), {lane} = cell, grant = desk.plan.grants[lane];
   if (!to) return;
   if (!grant) send(desk, [{act: \"grant\", lane, ...to}]);
   else if (holds(grant, to)) send(desk, [{act: \"revoke\", lane, ...to}]);
@@ -1466,7 +1555,7 @@ async function carry(desk, changes, count) {
   let sent = 0;
   try {
     for (const change of changes) {
-      if (changes.length > 1) say(\"good\", `Change ${sent + 1} of ${changes.length} is sent ...`);
+      if (changes.length > 1) say(\"wait\", `Change ${sent + 1} of ${changes.length} is sent ...`);
       await desk.register.command(requestOf(variant, change));
       count(sent += 1);
     }
@@ -1493,7 +1582,9 @@ async function turnChanges(desk, history, changes, isBack) {
 }
 
 // Sends changes as a step. Gives the number that were carried out.
-function send(desk, changes) {
+const send = (desk, changes) => inTurn(desk, () => sendNow(desk, changes));
+
+function sendNow(desk, changes) {
   let count = 0;
   return attempt(desk, async () => {
     try {
@@ -1503,7 +1594,7 @@ function send(desk, changes) {
       if (count) desk.history().add(stepOf(changes.slice(0, count)));
       throw fault;
     }
-  }).then(() => count);
+  }, `Sending: ${labelOf(changes)} ...`).then(() => count);
 }
 
 function howFar(changes, count, isLost) {
@@ -1536,7 +1627,7 @@ function grantsCard(desk) {
   const example = HEADER.join(\"\\t\") + \"\\n12\\tAB\\tbrakes\\tbrake_unit\";
   const text = make(\"textarea\", {id: \"grants-text\", rows: 6, spellcheck: \"false\", autocapitalize: \"none\", placeholder: example});
   const whole = make(\"input\", {type: \"checkbox\", id: \"grants-whole\"}), result = make(\"div\", {tabindex: \"-1\"});
-  const look = () => attempt(desk, () => showChanges(desk, text.value, whole.checked, result));
+  const look = () => attempt(desk, () => showChanges(desk, text.value, whole.checked, result), \"Comparing with the plan ...\");
   const card = make(\"div\", {class: \"card\", hidden: true, id: \"grants-card\"}, make(\"h2\", {}, \"Grants from a spreadsheet\"),
     note(`Copy four columns, with their heads: ${HEADER.join(\", \")}. A channel is A, B or AB; `
       + \"a lane that nobody is to hold has neither supplier nor node.\"),
@@ -1805,7 +1896,7 @@ function inTree({variants}) {
 const indented = ({name, depth}) => \"\\u00a0\\u00a0\".repeat(Math.max(0, depth - 1)) + name;
 
 function variantsCard(desk) {
-  const show = ({name}) => button(\"Show\", () => attempt(desk, () => choose(desk, name)), {\"aria-label\": `Show ${name}`});
+  const show = ({name}) => button(\"Show\", () => attempt(desk, () => choose(desk, name), `Reading ${name} ...`), {\"aria-label\": `Show ${name}`});
   const rowOf = variant => tableRow([indented(variant), variant.parent ?? \"-\", [variant.depth, \"num\"], variant.isReleased ? \"released\" : \"open\",
     variant.name === desk.variant ? \"shown\" : show(variant)]);
   return card(\"Variants\", table([\"variant\", \"parent\", [\"depth\", \"num\"], \"state\", \"\"], inTree(desk).map(rowOf)));
@@ -1830,14 +1921,14 @@ function releaseCard(desk) {
 }
 
 // Carries out a command on the cluster, and reads what it changed. What is said of a key stays until it is closed.
-const change = (desk, request, text, then) => attempt(desk, async () => {
+const change = (desk, request, text, then) => inTurn(desk, () => attempt(desk, async () => {
   await desk.register.command(request);
   await readRegister(desk);
   if (then) await then();
   else if (desk.plan) desk.tell(\"plan\");
   done(desk, text, null, request.key ? \"warn\" : \"good\");
   return true;
-});
+}, \"Sending ...\"));
 
 // A form of named fields, which are emptied once it was carried out.
 function formCard(title, fields, yes, act, more = \"\") {
@@ -1958,7 +2049,7 @@ const EMPTY = {
   register: null, isIntegrator: false, me: \"\", cluster: null, nodes: [], variants: [],
   variant: null, plan: null, difference: null,
   frame: null, placement: null, lane: null, found: null,
-  room: null, granting: null, draft: null, file: null, view: \"plan\", busy: 0,
+  room: null, granting: null, draft: null, file: null, view: \"plan\", busy: 0, unansweredKey: \"\",
 };
 
 class Desk {
@@ -1973,10 +2064,11 @@ class Desk {
   // What is read for an earlier turn is no longer wanted.
   clear() {
     this.turn += 1;
-    Object.assign(this, EMPTY, {nodes: [], variants: [], histories: new Map()});
+    this.session = (this.session ?? 0) + 1;
+    Object.assign(this, EMPTY, {nodes: [], variants: [], waiting: [], pending: [], histories: new Map()});
   }
 
-  // Calls a listener when one of these changes: entered, left, register, plan, choice, mode, difference, file, look, view, undo,
+  // Calls a listener when one of these changes: entered, left, register, plan, choice, mode, difference, file, look, view, undo, pending,
   // reveal, and lanes, which are those that were drawn over.
   on(events, listener) { this.listeners.push([events.split(\" \"), listener]); }
   tell(...events) {
@@ -2197,7 +2289,7 @@ function placementTable(desk, frame, isOpen) {
 
 function roomForm(desk, frame) {
   const {plan, room} = desk, {channels} = plan.cluster, [first] = frame.placements;
-  if (frame.placements.length >= 8) return note(\"It has 8 placements, which is the most.\");
+  if (isFull(frame)) return note(\"It has 8 placements, which is the most.\");
   const repetition = make(\"select\", {id: \"repetition\"}), on = make(\"select\", {id: \"place-channels\"});
   options(repetition, divisors(plan.cycles).map(number => [String(number), `${number}: every ${number === 1 ? \"cycle\" : number + \" cycles\"}`]),
     String(room?.repetition ?? first?.repetition ?? plan.cycles));
@@ -2210,8 +2302,8 @@ function roomForm(desk, frame) {
 }
 
 // Marks in the grid where a frame fits, and shows the first such cell.
-async function showRoom(desk, repetition, channels) {
-  await attempt(desk, () => findRoom(desk, repetition, channels));
+function showRoom(desk, repetition, channels) {
+  findRoom(desk, repetition, channels);
   const {room} = desk;
   if (desk.view !== \"plan\") desk.show(\"plan\");
   desk.tell(\"mode\");
@@ -2250,7 +2342,7 @@ function showDifference(desk) {
 function question(desk) {
   const from = make(\"select\", {id: \"from\", \"aria-label\": \"Compared with\"}), others = desk.variants.filter(({name}) => name !== desk.variant);
   options(from, others.map(({name}) => [name, name]), desk.difference?.from ?? desk.entry()?.parent);
-  const go = () => attempt(desk, async () => { await compare(desk, from.value); desk.tell(\"difference\"); });
+  const go = () => attempt(desk, async () => { await compare(desk, from.value); desk.tell(\"difference\"); }, `Comparing with ${from.value} ...`);
   return row(make(\"h2\", {}, `What is new in ${desk.variant} since`), from,
     button(\"Compare\", go, {class: \"main\", id: \"compare\", disabled: !others.length}));
 }
@@ -2675,7 +2767,7 @@ async function tryFile(desk) {
     const gone = way.replaces ? await rowsGone(desk, file, way.isWhole) : [];
     const fates = readFates(await desk.register.tried(desk.variant, bodyOf(file), way));
     Object.assign(file, {gone, fates});
-  });
+  }, `Trying ${file.name} ...`);
   if (desk.file === file) desk.tell(\"file\");
 }
 
@@ -2715,9 +2807,11 @@ function filedIn(desk, {kind, shown, way}) {
   return {isOwn, isOwnSignal: frame => kind === \"signals\" && isFiled(frame.name) || goes(frame)};
 }
 
-async function carryOut(desk) {
-  const {file} = desk, way = WAYS[file.way];
-  if (desk.busy) return;
+const carryOut = desk => inTurn(desk, () => carryOutNow(desk));
+
+async function carryOutNow(desk) {
+  const {file} = desk, way = WAYS[file?.way];
+  if (!file?.fates) return;
   if (file.way === \"import\" && !isName(file.label)) {
     say(\"bad\", \"The label is no name. A name has 1 to 32 letters, digits and underscores, a letter first.\");
     return;
@@ -2740,7 +2834,7 @@ async function carryOut(desk) {
     const names = new Set(way.isWhole ? [...old.frames, ...desk.plan.frames].map(({name}) => name) : filedNames);
     done(desk, said + others, {label: `${file.name}: ${plural(rows, \"row\")} of ${file.kind}, ${way.verb.toLowerCase()}`, before: statesOf(old, me, names), after: statesOf(desk.plan, me, names)});
     return true;
-  });
+  }, `Sending ${file.name} ...`);
   // What was refused is tried again, on the plan as it is now.
   if (!isDone && desk.file === file) await tryFile(desk);
 }
@@ -2781,7 +2875,7 @@ function dropZone(desk) {
 }
 
 function takingCard(desk) {
-  const file = (text, act) => button(text, () => attempt(desk, act)), {variant} = desk;
+  const file = (text, act) => button(text, () => attempt(desk, act, `Taking ${text} ...`)), {variant} = desk;
   const table = kind => file(`${kind}.csv`, async () => {
     const {text, records, parts} = await exported(desk, kind), name = `${variant}_${kind}.csv`;
     save(name, text, \"text/csv\");
@@ -3057,9 +3151,7 @@ function paintMark(ink, sheet, x, cycle, isNew, isEmpty) {
   fillBox(ink, isNew ? GREEN : RED, middle[0] - 3.5, middle[1] - 0.8, 7, 1.6);
   if (isNew) fillBox(ink, GREEN, middle[0] - 0.8, middle[1] - arm, 1.6, arm * 2);
 }
-";
 
-pub const PROGRAM_4: &str = "
 // ---- cells.js
 
 // A cell of the plan that was pointed at: what is there, and what it is in words.
@@ -3109,7 +3201,9 @@ function changes(desk, {lane, cycle}) {
   const {from} = desk.difference;
   return (change.now ? ` New since ${from}.` : \"\") + (change.then ? ` In ${from} ${change.then.frame} is sent here.` : \"\");
 }
+";
 
+pub const PROGRAM_4: &str = "
 // ---- sheet.js
 
 // Where each slot and cycle of a plan stands on a sheet: that of the window, or one to print. Cycles go down, slots across.
@@ -3248,6 +3342,19 @@ function paintFit(ink, sheet, {x, wide}, cycle, isWanted) {
   if (sheet.width >= 6) write(ink, isWanted ? \"\\u25cf\" : \"+\", x + wide / 2, y + tall / 2 + 0.5, isWanted ? \"#fff\" : \"#06401f\", 10, \"center\", \"bold\");
 }
 
+// What is sent to the register, and not answered yet.
+function paintPending(ink, {sheet, desk}) {
+  for (const placement of desk.pending) {
+    const stretch = sheet.stretch(placement.slot, placement.channels);
+    if (!stretch) continue;
+    for (const cycle of desk.plan.cyclesOf(placement)) {
+      const y = sheet.y(cycle), tall = sheet.height(cycle);
+      fillBox(ink, \"#ffd98a\", stretch.x + 1, y + 1, stretch.wide - 1, tall - 1);
+      if (sheet.width >= 6) write(ink, \"...\", stretch.x + stretch.wide / 2, y + tall / 2 - 1, \"#4a3200\", 10, \"center\", \"bold\");
+    }
+  }
+}
+
 // The chosen frame has a border, the chosen placement a thick one.
 function paintChosen(ink, {sheet, desk}) {
   for (const placement of desk.frame?.placements ?? []) {
@@ -3352,7 +3459,7 @@ class Grid {
     this.scroller.addEventListener(\"scroll\", () => this.draw());
     new ResizeObserver(() => this.layOut()).observe(this.scroller);
     desk.on(\"plan mode difference look view\", () => this.layOut());
-    desk.on(\"choice lanes\", () => this.draw());
+    desk.on(\"choice lanes pending\", () => this.draw());
     desk.on(\"reveal\", () => this.show(desk.wanted));
     desk.on(\"left\", () => { this.variant = null; });
   }
@@ -3405,6 +3512,7 @@ class Grid {
       ink.translate(GUTTER - left, HEAD - top);
       paintColumns(ink, this, part);
       paintRoom(ink, this, part);
+      paintPending(ink, this);
       paintPicked(ink, this);
       paintChosen(ink, this);
       if (document.activeElement === canvas) paintCursor(ink, this);
@@ -3634,7 +3742,7 @@ const STORED = \"slotplan key \" + location.pathname;
 function login(desk) {
   listen(\"login-form\", \"submit\", event => {
     event.preventDefault();
-    const key = byId(\"key\").value.trim();
+    const key = byId(\"key\").value.trim() || desk.unansweredKey;
     byId(\"key\").value = \"\";
     if (/^[A-Za-z0-9]{8,64}$/.test(key)) begin(desk, key, byId(\"keep\").checked);
     else byId(\"login-fault\").textContent = \"A key has 8 to 64 letters and digits.\";
@@ -3653,25 +3761,39 @@ function stored(act) {
   try { return act(sessionStorage); } catch { return null; }
 }
 
+// Shows that the register is asked, until it has answered.
+function showAsking(isAsking) {
+  byId(\"login-busy\").hidden = !isAsking;
+  for (const control of [\"key\", \"open-plan\"]) byId(control).disabled = isAsking;
+}
+
 async function begin(desk, key, isKept) {
   byId(\"login-fault\").textContent = \"\";
+  showAsking(true);
   try {
     await enter(desk, key);
+    desk.unansweredKey = \"\";
     // A supplier's plan is all its own: its frames are told apart.
     desk.look.colourBy = desk.isIntegrator ? \"supplier\" : \"frame\";
     if (isKept) stored(storage => storage.setItem(STORED, key));
-    byId(\"login\").hidden = true;
-    byId(\"app\").hidden = false;
     const wanted = location.hash.slice(1), inOrder = inTree(desk);
     const first = inOrder.find(({name}) => name === wanted) ?? inOrder.findLast(variant => !variant.isReleased) ?? inOrder.at(-1);
-    if (first) await choose(desk, first.name);
-    else say(\"warn\", desk.isIntegrator ? \"There is no variant yet. Open one.\" : \"There is no variant yet. The integrator opens one.\");
+    byId(\"login\").hidden = true;
+    byId(\"app\").hidden = false;
+    if (first) {
+      say(\"wait\", `Reading ${first.name} ...`);
+      await choose(desk, first.name);
+      quiet();
+    } else say(\"warn\", desk.isIntegrator ? \"There is no variant yet. Open one.\" : \"There is no variant yet. The integrator opens one.\");
     desk.show(first ? \"plan\" : \"manage\");
     desk.tell(\"entered\");
   } catch (fault) {
     if (!(fault instanceof Refused || fault instanceof Lost || fault instanceof Strange)) throw fault;
-    desk.leave(fault.message);
-  }
+    desk.leave(fault.message + (fault instanceof Lost ? \" The key is kept: press the button to ask again.\" : \"\"));
+    // A key that was not refused may be shown again without being typed.
+    if (fault instanceof Lost) desk.unansweredKey = key;
+    if (fault instanceof Lost && isKept) stored(storage => storage.setItem(STORED, key));
+  } finally { showAsking(false); }
 }
 
 function showLogin(why) {
@@ -3694,13 +3816,12 @@ function showLogin(why) {
 
 // The mouse and the finger on the grid: what is pointed at is told, a click acts, and lanes are drawn over to grant them.
 
-// Does what a click on a cell, or Enter, means there. While an answer is awaited it means nothing.
+// Does what a click on a cell, or Enter, means there. While an answer is awaited, what is to be sent waits.
 function act(desk, cell) {
   hideTip();
-  if (desk.busy) return;
   const {room, granting} = desk;
   if (cell.strip) desk.reveal(cell.strip.slot, \"A\", Math.max(0, cell.cycle));
-  else if (granting) grantPicked(desk, cell);
+  else if (granting) inTurn(desk, () => { if (desk.granting) grantPicked(desk, cell); });
   else if (cell.place) place(desk, room.frame, cell.place);
   else if (cell.placement) desk.choose({frame: cell.placement.frame, placement: cell.placement});
   else if (room && cell.cycle >= 0) {
@@ -3724,7 +3845,7 @@ class Pointing {
   pressed(event) {
     this.pointer = event.pointerType;
     this.drawn = null;
-    if (!this.desk.granting || this.desk.busy) return;
+    if (!this.desk.granting) return;
     const cell = this.grid.hit(event);
     if (cell && !cell.strip) this.drawn = {from: cell, isLong: false};
   }
@@ -3904,7 +4025,7 @@ function topBar(desk) {
   listen(\"reload\", \"click\", () => attempt(desk, async () => {
     const changed = await refresh(desk);
     say(\"good\", \"The plan is read again.\" + (changed ? bySomebody(changed) : nothingChanged));
-  }));
+  }, \"Reading the plan again ...\"));
   listen(\"help-open\", \"click\", () => openHelp(desk));
   listen(\"leave\", \"click\", () => desk.leave());
   listenToTimes(desk);
@@ -3922,7 +4043,7 @@ function topBar(desk) {
 
 async function show(desk, variant) {
   quiet();
-  await attempt(desk, () => choose(desk, variant));
+  await attempt(desk, () => choose(desk, variant), `Reading ${variant} ...`);
   if (desk.register) showVariants(desk);
 }
 
