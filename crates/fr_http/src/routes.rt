@@ -10,13 +10,14 @@ use crate::method::{Allowed, Method};
 use crate::path_name::PathName;
 use fr_base::{Header, Inventory, Manner, Purpose, Query, Report};
 use fr_guide::{Subject, explains, meant_word};
+use fr_page::Part;
 use std::str;
 
 /// A route: what a path asks for.
 #[derive(Clone, Copy, PartialEq, Eq)]
 pub enum Route {
-    /// The planner's page, which is the same for everybody.
-    Page,
+    /// A part of the planner's page, which is the same for everybody.
+    Page(Part),
     /// A line on each word that is explained.
     Explanations,
     /// What the word or number of the path means.
@@ -41,7 +42,7 @@ impl Route {
         match self {
             Route::Advice(_) | Route::Commands => Method::Post,
             Route::Deliver(how) => method_of_delivery(how),
-            Route::Page
+            Route::Page(_)
             | Route::Explanations
             | Route::Explanation
             | Route::Query(_)
@@ -224,14 +225,16 @@ fn proposal(replace: bool) -> Route
 
 /// What each path leads to, by the pattern that it matches.
 #[tactic(auto, unfolding(crate::specs::Routes::table))]
-pub(crate) fn routes() -> [(&'static str, Resource); 28]
+pub(crate) fn routes() -> [(&'static str, Resource); 30]
     ensures { map (λ entry. (entry.0.now, entry.1)) result ≡ table }
 {
     use Resource::{One, Two};
     use Route::*;
 
     [
-        ("/", One(Page)),
+        ("/", One(Page(Part::Document))),
+        ("/slotplan.css", One(Page(Part::Style))),
+        ("/slotplan.js", One(Page(Part::Program))),
         ("/v1/explanations", One(Explanations)),
         ("/v1/explanations/{word}", One(Explanation)),
         ("/v1/checks/rows", One(Advice(Subject::Rows))),
