@@ -11,6 +11,8 @@ LISTED = ("A", "AB", "B")  # the order of reports
 
 @dataclass(frozen=True)
 class Wish:
+    """A line of a file, by which a frame is to have one more placement."""
+
     line: int
     frame: str
     node: str
