@@ -34,3 +34,8 @@ class Sheet(NamedTuple):
     name: str
     rows: list
     broken: str = ""
+
+
+def shown(text):
+    """A text within a line, short and printable."""
+    return "".join(letter if letter.isprintable() else "?" for letter in text[:80])

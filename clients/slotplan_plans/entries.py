@@ -3,7 +3,7 @@ import re
 from fractions import Fraction
 
 from .arranging import NAME
-from .cells import Kind
+from .cells import Kind, shown
 from .faults import Fault
 
 # What no reader sees, and spreadsheets leave around a text.
@@ -46,11 +46,6 @@ def said(column, cell):
     if not text:
         raise Fault(f"there is no {column}")
     return text
-
-
-def shown(text):
-    """A text within a line, short and printable."""
-    return "".join(letter if letter.isprintable() else "?" for letter in text[:80])
 
 
 def name(column, text):
