@@ -3,6 +3,8 @@ import codecs
 import csv
 import random
 import re
+import xml.etree.ElementTree as ET
+from collections import Counter
 from dataclasses import replace
 
 from clients.slotplan_plans.autosar import beside, known
@@ -88,9 +90,9 @@ class OtherFiles(UpdateCase):
         updated, written = self.updated(plan)
         self.see("nothing changed", (data, [], []), (written, list(updated.told()), updated.left))
         for number in range(self.turn % self.each, 50, self.each):
-            self.changed(plan, random.Random(number))
+            self.changed(data, plan, random.Random(number))
 
-    def changed(self, plan, dice):
+    def changed(self, data, plan, dice):
         changing = Changing(plan, dice)
         for _ in range(dice.choice((1, 1, 2, 5, 20))):
             getattr(changing, dice.choice(CHANGES))()
@@ -100,6 +102,24 @@ class OtherFiles(UpdateCase):
         dropped = {it.key for it in plan.frames} - {it.key for it in wanted.frames}
         self.see("frames that are gone", set() if remove else dropped, set(updated.gone.values()))
         self.is_the_plan("written", written, wanted, updated.gone)
+        self.see("references that lead nowhere", [], sorted(self.astray(written) - self.astray(data)))
+
+    def astray(self, data):
+        """The references of a file that lead to no element of their kind, and paths that two elements have."""
+        paths, refs = Counter(), []
+
+        def walk(element, path):
+            name = element.findtext("{*}SHORT-NAME")
+            if name is not None:
+                path = f"{path}/{name.strip()}"
+                paths[path, element.tag.rpartition("}")[2]] += 1
+            refs.append(((element.text or "").strip(), element.get("DEST")))
+            for child in element:
+                walk(child, path)
+
+        walk(ET.fromstring(data), "")
+        twice = {path for (path, kind), count in paths.items() if count > 1 and kind != "AR-PACKAGE"}
+        return twice | {" ".join(ref) for ref in refs if ref[1] and ref not in paths}
 
 
 @for_each((name, shape) for name, shape in SHAPES.items() if name != "127 words")
@@ -108,7 +128,7 @@ class OwnFiles(UpdateCase):
 
     step = 10
     seconds = 30
-    tried_each = OtherFiles.changed
+    tried_each, astray = OtherFiles.changed, OtherFiles.astray
 
     def tried(self, shape):
         data = exported(replace(shape, frames=6), random.Random(self.id()), self.folder).encode()
@@ -116,7 +136,7 @@ class OwnFiles(UpdateCase):
         updated, written = self.updated(plan)
         self.see("nothing changed", (data, [], []), (written, list(updated.told()), updated.left))
         for number in range(self.turn % self.each, 40, self.each):
-            self.tried_each(plan, random.Random(number))
+            self.tried_each(data, plan, random.Random(number))
 
 
 class OnlyThese(UpdateCase):
