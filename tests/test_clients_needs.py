@@ -269,6 +269,29 @@ class ByChance(Case):
                 self.is_proposed(number, figures["cycles"], plan, frames)
         self.see("most have the slots", True, met > 40)
 
+    def test_tight(self):
+        """Four slots, of each of which one channel or both are needed: all lanes that are granted are needed, and those on both channels are the
+        same slots."""
+        figures = {**WIDE, "static_slots": 4, "cycles": 8}
+        for name, held, wishes, wanted in (
+            ("each on its own channel", "", "n1 A, n1 A, n1 A, n2 B, n2 B, n2 B", {"n1": "1A 2A 3A", "n2": "1B 2B 3B"}),
+            ("as many alike as there are", "1A 4B", "n1 AB, n1 A, n1 B, n2 A", {"n1": "2A 2B 3A 3B", "n2": "4A"}),
+            ("only those that have to be", "1A 4B", "n1 AB, n1 A, n1 B, n2 AB", {"n1": "2A 2B 4A 1B", "n2": "3A 3B"}),
+        ):
+            grants = [Grant(int(lane[0]), lane[1], "s2", "n1") for lane in held.split()]
+            asked = [Wanted(Node("s1", it.split()[0]), f"f{number}", it.split()[1], 1, None, "") for number, it in enumerate(wishes.split(", "))]
+            plan = self.planned(name, figures, asked, grants, ())
+            got = {node: {f"{it.slot}{it.channel}" for it in plan.new if it.node == node} for node in wanted}
+            self.see(name, {node: set(lanes.split()) for node, lanes in wanted.items()}, got)
+
+    def test_second_turn(self):
+        """Wishes whose repetitions are no chain may go elsewhere once there are more slots, so that other slots are lacking."""
+        figures, held = {**WIDE, "cycles": 12}, Grant(12, "A", "s1", "n1")
+        frames = [Frame("s1", "there", "n1", (Placement(12, "A", 2, 3), Placement(12, "A", 3, 12)))]
+        wishes = (("A", 4), ("B", 3), ("A", 3), ("AB", 6))
+        asked = [Wanted(Node("s1", "n1"), f"f{number}", *wish, None, "") for number, wish in enumerate(wishes)]
+        self.is_proposed("a second turn", 12, self.planned("a second turn", figures, asked, [held], frames), frames)
+
     def is_proposed(self, number, cycles, plan, frames):
         filled = cells_of((it for frame in frames for it in frame.placements), cycles)
         filled += cells_of((it for wish, places in plan.placements if wish.macroticks for it in places), cycles)
@@ -320,59 +343,96 @@ class Evenly(Case):
         self.see("none", None, evenly.chosen([1, 2, 3], figures, 60))
 
 
-class Limits(NeedsCase):
-    """A cluster of 1023 slots and 64 suppliers, whose wishes need nearly all of them: all is granted, and each supplier's files are taken row by
-    row."""
+class LimitsCase(NeedsCase):
+    """A test of a cluster of 1023 slots and 64 suppliers, whose wishes need nearly all of them."""
 
-    seconds = 20
     names = [f"s{number:02}" for number in range(64)]
     cluster = cluster_file({
         **CLUSTER, "static_slots": "1023", "slot_macroticks": "15", "dynamic_macroticks": "595", "macroticks_per_cycle": "15960",
         "suppliers": "{" + ", ".join(f's{number:02} = "supplier{number:02}"' for number in range(64)) + "}",
     }).encode()
 
-    def test_limits(self):
+    def setUp(self):
+        super().setUp()
         self.wished()
         status, told, _ = self.client("needs", "wishes", "--cluster", "cluster.toml", *TABLES, program=False)
         lines = told.splitlines()
         self.see("the cluster has them", (0, True), (status, lines[-1].startswith("the cluster has them; new grants: ")))
         self.see("most slots of A are needed", True, int(lines[-2].split(" ")[2]) > 950)
-        files = {name: sorted((self.folder / "made" / name).iterdir()) for name in self.names}
-        asked, wanted = self.asked(files)
-        answers = ran(["run"], self.folder, self.cluster + b"---\n" + "".join(asked).encode())[1].decode().splitlines()
-        self.see("so many answers", len(wanted), len(answers))
-        for line, answer, want in zip(asked, map(json.loads, answers), wanted):
-            got = {it[5:] for it in answer["lines"]} if answer.get("ok") == "try" else answer
-            self.see(line[:80], want, got)
 
     def wished(self):
         """Of each supplier 226 wishes; of some the gap is shorter than a cycle."""
-        dice = random.Random(1)
+        dice, self.wanted = random.Random(1), {}
         for name in ("s1", "s2"):
             (self.folder / f"wishes/{name}.csv").unlink()
         for name in self.names:
-            rows = ["frame;node;channels;repetition;gap (macroticks)"]
+            rows = self.wanted[name] = []
             for number in range(226):
                 channels = dice.choices(("AB", "A", "B"), (40, 35, 25))[0]
                 repetition = dice.choices((2, 4, 8, 16, 32, 64), (2, 8, 20, 30, 24, 16))[0]
                 gap = dice.choice(("8400", "6000")) if number == 0 and name < "s08" else ""
-                rows.append(f"f{number};n{dice.randrange(2)};{channels};{'' if gap else repetition};{gap}")
-            self.has(f"wishes/{name}.csv", "\n".join(rows) + "\n")
+                rows.append((f"f{number}", f"n{dice.randrange(2)}", channels, "" if gap else repetition, gap))
+            lines = "".join(f"{';'.join(map(str, row))}\n" for row in rows)
+            self.has(f"wishes/{name}.csv", f"frame;node;channels;repetition;gap (macroticks)\n{lines}")
 
-    def asked(self, files):
-        """Requests that grant what is to be granted, try each supplier's files and import them; and what is to be answered."""
-        lines, wanted = [request("integrator1", "open_variant", variant="v1")], [{"ok": "done"}]
+    def granted(self):
+        """Requests that grant what is to be granted."""
+        yield request("integrator1", "open_variant", variant="v1")
         for row in self.text("nodes.csv").splitlines()[1:]:
-            lines.append(request("integrator1", "add_node", **dict(zip(("supplier", "node"), row.split(",")))))
+            yield request("integrator1", "add_node", **dict(zip(("supplier", "node"), row.split(","))))
         for row in self.text("grants.csv").splitlines()[1:]:
             slot, channel, supplier, node = row.split(",")
-            lines.append(request("integrator1", "grant", variant="v1", slot=int(slot), channel=channel, supplier=supplier, node=node))
-        wanted = [{"ok": "done"}] * len(lines)
-        for name, its in files.items():
-            key = f"supplier{name[1:]}"
-            for it in its:
-                body = it.read_text()
-                lines.append(request(key, "try", variant="v1", body=body))
-                lines.append(request(key, "import", variant="v1", label=it.stem, body=body))
-                wanted += [{"00 done"}, {"ok": "imported", "rows": body.count("\n") - 1}]
-        return lines, wanted
+            yield request("integrator1", "grant", variant="v1", slot=int(slot), channel=channel, supplier=supplier, node=node)
+
+    def files(self, name):
+        """The texts of a supplier's files of placements."""
+        return [it.read_text() for it in sorted((self.folder / "made" / name).iterdir())]
+
+    def answered(self, more):
+        """Grants all, and then asks these requests, each of which has its answer beside it."""
+        granted = list(self.granted())
+        asked = [(it, {"ok": "done"}) for it in granted] + more
+        given = self.cluster + b"---\n" + "".join(line for line, _ in asked).encode()
+        answers = ran(["run"], self.folder, given)[1].decode().splitlines()
+        self.see("so many answers", len(asked), len(answers))
+        for (line, wanted), answer in zip(asked, map(json.loads, answers)):
+            self.see(line[:80], wanted, answer)
+
+
+class Limits(LimitsCase):
+    """All is granted, and each supplier's files are taken, row by row."""
+
+    seconds = 20
+
+    def test_limits(self):
+        more = []
+        for name in self.names:
+            for number, body in enumerate(self.files(name)):
+                count, key = body.count("\n") - 1, f"supplier{name[1:]}"
+                lines = [f"{line:04} 00 done" for line in range(2, count + 2)]
+                more.append((request(key, "try", variant="v1", body=body), {"ok": "try", "lines": lines}))
+                more.append((request(key, "import", variant="v1", label=f"part{number}", body=body), {"ok": "imported", "rows": count}))
+        self.answered(more)
+
+
+class Proposed(LimitsCase):
+    """What is granted is enough for each supplier's proposal, beside its frames of gaps below a cycle: no wish is without room, and each has the
+    place that was planned."""
+
+    seconds = 20
+
+    def test_proposals(self):
+        more = []
+        for name in self.names:
+            key, wishes = f"supplier{name[1:]}", [row for row in self.wanted[name] if not row[4]]
+            placed = [line for body in self.files(name) for line in body.splitlines()[1:]]
+            short = {row[0] for row in self.wanted[name] if row[4]}
+            mine = [line for line in placed if line.partition(",")[0] in short]
+            rest = [line for line in placed if line.partition(",")[0] not in short]
+            if mine:
+                body = HEADER + "".join(f"{line}\n" for line in mine)
+                more.append((request(key, "import", variant="v1", label="short", body=body), {"ok": "imported", "rows": len(mine)}))
+            body = "frame,node,channels,repetition\n" + "".join(f"{','.join(map(str, row[:4]))}\n" for row in wishes)
+            lines = [f"{number:04} 00 {line}" for number, line in enumerate(rest, 2)]
+            more.append((request(key, "propose", variant="v1", body=body), {"ok": "propose", "lines": lines}))
+        self.answered(more)

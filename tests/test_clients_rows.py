@@ -68,6 +68,7 @@ AT_FAULT = (
      "line 2: the slot '1.000' may be 1000 or 1.000: show it without a mark for thousands, and with fewer decimals"),
     ("a slot of no cluster", f"{PLACES}\n\nf,n1,1024,A,0,2\n", "line 3: the slot '1024' is no whole number from 1 to 1023"),
     ("a base", f"{PLACES}\nf,n1,4,A,5,4\n", "line 2: the base 5 is not below the repetition 4"),
+    ("a base that is the repetition", f"{PLACES}\nf,n1,4,A,4,4\n", "line 2: the base 4 is not below the repetition 4"),
     ("slots", f"{PLACES}\nf,n1,4-5,A,0,2\n", "line 2: the slot '4-5' is no number"),
     ("less than nothing", f"{PLACES}\nf,n1,4,A,-1,2\n", "line 2: the base '-1' is no number"),
     ("digits of another script", f"{PLACES}\nf,n1,\u0664,A,0,2\n", "line 2: the slot '\u0664' is no number"),
@@ -124,9 +125,9 @@ class AtFault(RowsCase):
         self.is_at_fault(said)
 
 
-def office(cells, more="", styles="", name="Plan"):
-    """The bytes of a workbook of Excel whose one sheet has these rows, below a header of placements, and these styles."""
-    head = "".join(f'<c t="inlineStr"><is><t>{name}</t></is></c>' for name in PLACES.split(","))
+def office(cells, more="", styles="", name="Plan", header=PLACES):
+    """The bytes of a workbook of Excel whose one sheet has these rows, below a header, and these styles."""
+    head = "".join(f'<c t="inlineStr"><is><t>{name}</t></is></c>' for name in header.split(","))
     rows = sheet(f"<row>{head}</row>{''.join(f'<row>{row}</row>' for row in cells)}").replace("</worksheet>", f"{more}</worksheet>")
     book = f'<workbook {SHEETS} xmlns:r="http://schemas.openxmlformats.org/officeDocument/2006/relationships">'
     sheets = f'<sheets><sheet name="{name}" sheetId="1" r:id="worksheet1"/></sheets></workbook>'
@@ -179,6 +180,28 @@ class Workbooks(RowsCase):
         # (1 and 1.000 are one number: nothing is to be guessed)
         self.with_cell(2, value("1.000"))
         self.prints(f"{PLACES}\nlow_beam,lamp_unit,1,A,0,2\n", name="lights.xlsx")
+
+    def test_decimals(self):
+        """Of a number with three decimals nothing is to be guessed either. The first script's cycle has 100 macroticks."""
+        self.has("cluster.toml", CLUSTER)
+        row = "".join([text("low_beam"), text("lamp_unit"), text("A"), value("200.125")])
+        self.given(office([row], header="frame,node,channels,gap (macroticks)"), "lights.xlsx")
+        self.prints("frame,node,channels,repetition\nlow_beam,lamp_unit,A,2\n", (), "--cluster", "cluster.toml", name="lights.xlsx")
+
+    def test_reading_aids(self):
+        """Aids for reading a text are no part of it; its pieces are."""
+        aid = '<c t="inlineStr"><is><r><t>low</t></r><rPh sb="0" eb="1"><t>ro</t></rPh><r><t>_beam</t></r></is></c>'
+        self.with_cell(0, aid)
+        self.prints(f"{PLACES}\nlow_beam,lamp_unit,4,A,0,2\n", name="lights.xlsx")
+
+    def test_places(self):
+        """Rows of nothing count, be they written once for all."""
+        rows = '<table:table-row table:number-rows-repeated="7"><table:table-cell/></table:table-row>'
+        cells = "".join(f"<table:table-cell><text:p>{name}</text:p></table:table-cell>" for name in ("frame", "node"))
+        row = "<table:table-row><table:table-cell><text:p>low_beam</text:p></table:table-cell></table:table-row>"
+        self.given(open_with("", before=f"{rows}<table:table-row>{cells}</table:table-row>{row}"), "lights.ods")
+        status, written, said = self.client("rows", "lights.ods", "--sheet", "notes", program=False)
+        self.see("where it is at fault", (2, "", "slotplan-plans: lights.ods: row 9 of 'notes': there is no node\n"), (status, written, said))
 
     def test_dates(self):
         """2026-10-02 is the 46,297th day from 1899-12-30 on."""

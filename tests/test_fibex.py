@@ -115,8 +115,9 @@ class Cycles(ComesBack):
     def test_other_cycles(self):
         shape, dice = Shape(cycles=12), random.Random(1)
         _, told = reports(shape.cluster(dice), "".join(shape.requests(dice)), ["v1"], shape.frame_names)
-        with self.assertRaisesRegex(Fault, "^FIBEX 3.1 has 64 cycles, and this cluster 12: --fibex 4.1 can tell it$"):
+        with self.assertRaises(Fault) as fault:
             self.described(read(Told(told), "v1"), release="3.1")
+        self.see("why", "FIBEX 3.1 has 64 cycles, and this cluster 12: --fibex 4.1 can tell it", str(fault.exception))
 
 
 @for_each(examples())

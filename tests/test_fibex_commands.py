@@ -62,6 +62,21 @@ class Commands(CommandCase):
         self.has("foreign.xml", fibex.foreign())
         self.see("another tool's", (0, "ecu,supplier\n/ECU/DSC,\n/ECU/EGS,\n/ECU/ZGW,\n", ""), self.client("ecus", "foreign.xml", program=False))
 
+    def test_names(self):
+        """What was called so in the register is called so again, by the table that `import` wrote."""
+        self.has("foreign.xml", fibex.foreign())
+        self.has("suppliers.csv", "ecu,supplier\n" + "".join(f"{ecu},{supplier}\n" for ecu, supplier in fibex.SUPPLIERS.items()))
+        asked = "foreign.xml", "--suppliers", "suppliers.csv"
+        self.see("it is imported", 0, self.client("import", "first", *asked, program=False)[0])
+        named = self.text("first/names.csv")
+        self.see("a frame", 1, named.count(f"frame,/FRAME/{fibex.LONG_FRAME},,brakes,,Frame_With_A_Name_That_Is_Longer\n"))
+        self.see("a signal", 1, named.count("signal,/SIGNAL/Torque,,brakes,Brake,Torque\n"))
+        self.has("names.csv", named.replace(",Frame_With_A_Name_That_Is_Longer\n", ",shorter\n").replace(",Brake,Torque\n", ",Brake,torque_of_brakes\n"))
+        self.see("it is imported again", 0, self.client("import", "again", *asked, "--names", "names.csv", program=False)[0])
+        self.see("the same names", sorted(self.text("names.csv").splitlines()), sorted(self.text("again/names.csv").splitlines()))
+        rows = "".join(it.read_text() for it in sorted((self.folder / "again/brakes").glob("*.csv")))
+        self.see("its rows", (True, True), ("shorter,ZGW\n" in rows, "Brake,torque_of_brakes,16,16,little\n" in rows))
+
     def test_compare(self):
         """The lines are those of `slotplan diff`, and the status is 1 where there are some."""
         self.fibex()

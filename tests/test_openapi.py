@@ -95,7 +95,7 @@ class OpenApi(Case):
         self.paths, self.schemas = api(self)["paths"], api(self)["components"]["schemas"]
 
     def test_routes(self):
-        told = set(re.findall(r"`(GET|POST|PUT) (/(?:v1/\S+)?)`", HTTP))
+        told = set(re.findall(r"`(GET|POST|PUT) (/(?:v1/\S+|slotplan\.\w+)?)`", HTTP))
         found = {(method.upper(), path) for path, route in self.paths.items() for method in methods(route)}
         self.see("routes", told, found)
 
@@ -133,7 +133,7 @@ class OpenApi(Case):
                 told = {int(it) for it in route[method]["responses"]}
                 asks = [] if route[method].get("security") == [] else [2] if path.startswith("/v1/checks/") else [2, 28]
                 meets = every if path == "/v1/commands" else {status[n] for n in [*asks, *(route[method]["x-refusals"])]}
-                meets |= {404} if "{word}" in path else set()
+                meets |= {404} if "{word}" in path else {304} if not path.startswith("/v1/") else set()
                 self.see(f"{method} {path}: statuses", meets | {200, 400, 405, 431, 501} | (set() if method == "get" else {411, 413}), told)
 
     def test_valid(self):

@@ -92,7 +92,7 @@ class Planner:
             for it in frame.placements:
                 for channel in it.channels:
                     self.taken[it.slot, channel] |= mask(self.cycles, it.base, it.repetition)
-        self.placed, self.reserved = {}, set()
+        self.placed = {}
 
     def free(self, channel):
         """The slots that nobody holds on a channel."""
@@ -102,7 +102,7 @@ class Planner:
 
     def held(self, node):
         """The slots of a node in which its wishes may go."""
-        return Slots(self.cycles, {lane: self.taken[lane] for lane, owner in self.owner.items() if owner == node and lane not in self.reserved})
+        return Slots(self.cycles, {lane: self.taken[lane] for lane, owner in self.owner.items() if owner == node})
 
     def plan(self):
         """Grants what is lacking, and places all wishes."""
@@ -121,14 +121,13 @@ class Planner:
     def reserve(self, number):
         """Slots for a gap below a cycle: of those that are nobody's, or the node's own and empty."""
         wish = self.wishes[number]
-        mine = {lane for lane, owner in self.owner.items() if owner == wish.node and not self.taken[lane] and lane not in self.reserved}
+        mine = {lane for lane, owner in self.owner.items() if owner == wish.node and not self.taken[lane]}
         on = [self.free(channel) | {slot for slot, its in mine if its == channel} for channel in wish.channels]
         slots = evenly.chosen(set.intersection(*on), self.cluster.figures, wish.macroticks)
         if slots is None:
             raise Lacking({}, wish)
         for lane in ((slot, channel) for slot in slots for channel in wish.channels):
             self.owner[lane], self.taken[lane] = wish.node, mask(self.cycles, 0, 1)
-            self.reserved.add(lane)
         self.placed[number] = [Place(slot, wish.channels, 0, 1) for slot in slots]
 
     def numbers_by_node(self, numbers):

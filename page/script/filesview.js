@@ -43,7 +43,7 @@ function dropZone(desk) {
 }
 
 function takingCard(desk) {
-  const file = (text, act) => button(text, () => attempt(desk, act)), {variant} = desk;
+  const file = (text, act) => button(text, () => attempt(desk, act, `Taking ${text} ...`)), {variant} = desk;
   const table = kind => file(`${kind}.csv`, async () => {
     const {text, records, parts} = await exported(desk, kind), name = `${variant}_${kind}.csv`;
     save(name, text, "text/csv");

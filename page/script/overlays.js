@@ -23,6 +23,19 @@ function paintFit(ink, sheet, {x, wide}, cycle, isWanted) {
   if (sheet.width >= 6) write(ink, isWanted ? "\u25cf" : "+", x + wide / 2, y + tall / 2 + 0.5, isWanted ? "#fff" : "#06401f", 10, "center", "bold");
 }
 
+// What is sent to the register, and not answered yet.
+export function paintPending(ink, {sheet, desk}) {
+  for (const placement of desk.pending) {
+    const stretch = sheet.stretch(placement.slot, placement.channels);
+    if (!stretch) continue;
+    for (const cycle of desk.plan.cyclesOf(placement)) {
+      const y = sheet.y(cycle), tall = sheet.height(cycle);
+      fillBox(ink, "#ffd98a", stretch.x + 1, y + 1, stretch.wide - 1, tall - 1);
+      if (sheet.width >= 6) write(ink, "...", stretch.x + stretch.wide / 2, y + tall / 2 - 1, "#4a3200", 10, "center", "bold");
+    }
+  }
+}
+
 // The chosen frame has a border, the chosen placement a thick one.
 export function paintChosen(ink, {sheet, desk}) {
   for (const placement of desk.frame?.placements ?? []) {

@@ -7,13 +7,18 @@ const SECONDS = 60;
 export class Register {
   constructor(key) {
     this.key = key;
-    this.last = Promise.resolve();
+    this.changed = Promise.resolve();
+    this.reads = new Set();
   }
 
-  // The register answers one request after another, so they wait here for their turn.
+  // Reads go side by side. A change waits for all that was asked before it, and what is asked behind it waits for the change.
   ask(method, path, body, isChange = method !== "GET") {
-    const turn = this.last.then(() => this.send(method, path, body, isChange));
-    this.last = turn.catch(() => {});
+    const turn = Promise.all(method === "GET" ? [this.changed] : [this.changed, ...this.reads]).then(() => this.send(method, path, body, isChange));
+    const end = turn.catch(() => {});
+    if (method === "GET") {
+      this.reads.add(end);
+      end.then(() => this.reads.delete(end));
+    } else this.changed = end;
     return turn;
   }
 

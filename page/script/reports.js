@@ -11,7 +11,6 @@ const FORMS = {
   cluster: form("(\\w+) (AB|A|B|\\d{1,10}|NAME)"),
   variant: form(`NAME (-|${NAME}) (\\d{1,2}) (open|released)`),
   node: form("NAME" + OWNER),
-  room: form("(\\d{4}) (AB|A|B) (\\d\\d)((?: \\d\\d)+)"),
   fate: form("(\\d{4,}) (\\d\\d) (\\w{1,20})(?: (\\d\\d) ([AB]) NAME| (\\d{4}) NAME)?"),
 };
 
@@ -80,9 +79,6 @@ function ownerOf(supplier, me) {
 }
 
 export const readNodes = (text, me) => rowsOf(text, FORMS.node).map(([node, supplier]) => ({node, supplier: ownerOf(supplier, me)}));
-
-export const readRoom = text => rowsOf(text, FORMS.room).map(([slot, channels, repetition, bases]) =>
-  ({slot: Number(slot), channels, repetition: Number(repetition), bases: bases.trim().split(" ").map(Number)}));
 
 // The fates of a file's rows: for each its record's number and 0, or the refusal.
 export function readFates(answer) {

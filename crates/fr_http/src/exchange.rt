@@ -2,8 +2,9 @@
 ghost use Rattle.std.specs.Prelude.{◌≡◌, IfOk};
 ghost use Rattle.fr_http.specs.Operations.{FindsActor, MakesCommand, MakesOperation, unasked_by};
 ghost use Rattle.fr_http.specs.Outcome.{asked_by, is_ask};
-ghost use Rattle.fr_http.specs.Routes.{other_variant, part};
+ghost use Rattle.fr_http.specs.Routes.{is_held, other_variant, part};
 
+use crate::conditions::{none_matches, tag_of};
 use crate::fault::{LinkFault, Unasked};
 use crate::head::Head;
 use crate::method::Method;
@@ -12,6 +13,7 @@ use crate::plan::Plan;
 use crate::routes::{Route, part};
 use fr_base::{Actor, Ask, Body, Desk, NoMemory, QueryReader, Refusal, Request, Text};
 use fr_guide::Subject;
+use fr_page::Part;
 use fr_text::{read_command, read_number};
 use std::alloc::Global;
 use std::str;
@@ -84,21 +86,25 @@ impl Operation {
     }
 }
 
-/// What a route asks for, with the body that came with the request, or why it asks nothing.
+/// What a route asks for, with the fields and the body that came with the request, or why it asks nothing.
 #[tactic(auto, unfolding(crate::specs::Routes::operation_by))]
 pub(crate) fn asked_operation(
     alloc: Global,
     plan: &Plan<'_>,
+    head: &Head<'_>,
     body: &[u8],
 ) -> Result<Operation, Unasked>
-    ensures { MakesOperation plan.now.route plan.now.path.now body.now result }
+    ensures { MakesOperation plan.now.route plan.now.path.now head.now.0.fields body.now result }
 {
     let words = PathWords {
         alloc,
         path: plan.path,
     };
     match plan.route {
-        Route::Page => Err(Unasked::Page),
+        Route::Page(part) => Err(Unasked::Page {
+            part,
+            held: is_held(alloc, part, head)?,
+        }),
         Route::Explanations => Err(Unasked::Explained { word: None }),
         Route::Explanation => Err(Unasked::Explained {
             word: Some(copy_part(alloc, plan.path, PathName::Word)?),
@@ -119,6 +125,14 @@ pub(crate) fn asked_operation(
             since: other_variant(alloc, plan.path, since)?,
         }),
     }
+}
+
+// Whether whoever sends this head holds the part of the page as it is.
+fn is_held(alloc: Global, part: Part, head: &Head<'_>) -> Result<bool, NoMemory>
+    ensures { IfOk result (λ held. held ≡ is_held part head.now.0.fields) }
+{
+    let tag = tag_of(alloc, part.digest())?;
+    Ok(!none_matches(head.values("if-none-match"), tag.as_str()))
 }
 
 // The other variant of a path that names one.
