@@ -2,16 +2,15 @@
 import csv
 import io
 import sys
-from pathlib import Path
 
 from .faults import Fault
 from .plan import Grant, Node
 from .reading import read
+from .spreadsheets import text_of
 from .words import add_source, source_of
 
 NODES = "supplier", "node"
 GRANTS = "slot", "channel", "supplier", "node"
-MARKS = {b"\xff\xfe": "utf-16", b"\xfe\xff": "utf-16"}
 
 
 def add_commands(commands):
@@ -30,15 +29,6 @@ def table(given):
         "grants": [GRANTS, *((it.slot, it.channel, it.supplier, it.node) for it in plan.grants)],
     }
     csv.writer(sys.stdout, delimiter=";" if given.semicolons else ",", lineterminator="\n").writerows(rows[given.kind])
-
-
-def text_of(path):
-    """The text of a file of UTF-8, or of UTF-16 with its mark."""
-    try:
-        data = Path(path).read_bytes()
-    except OSError as fault:
-        raise Fault(f"{path}: {fault.strerror}") from fault
-    return data.decode(MARKS.get(data[:2], "utf-8-sig"), errors="replace")
 
 
 def rows_of(path, columns):
