@@ -388,7 +388,8 @@ class Damaged(FileCase):
     def of_this(self, lines, table):
         refused = 0
         for number in range(self.turn % self.each, OF_EACH, self.each):
-            hurt = damaged(lines, random.Random(number))
+            dice = random.Random(number)
+            hurt = with_other_references(damaged(lines, dice), dice)
             outcome = self.outcome(hurt, table)
             if isinstance(outcome, str):
                 refused += 1
@@ -406,6 +407,18 @@ class Damaged(FileCase):
 
     def test_of_another_tool(self):
         self.of_this(fibex.foreign().replace("><", ">\n<"), fibex.SUPPLIERS)
+
+
+REFERENCE = re.compile(' ID(?:-REF)?="([^"]*)"')
+
+
+def with_other_references(text, dice):
+    """The text, of which some IDs and references are others, or none."""
+    for _ in range(dice.choice((0, 1, 3, 20))):
+        found = list(REFERENCE.finditer(text))
+        hurt, other = dice.choice(found), dice.choice(found)
+        text = text[: hurt.start(1)] + dice.choice((other[1], other[1], "", f" {hurt[1]} ", "none")) + text[hurt.end(1) :]
+    return text
 
 
 def small(**figures):
