@@ -295,7 +295,7 @@ class OtherWords(FileCase):
 
     def test_beside(self):
         """Texts between elements, and attributes that say something, are noted; what is for schemas says nothing."""
-        text = TYPED.replace('<FRAME ID="fr">', '<FRAME ID="fr" OID="7" xsi:type="x">a remark').replace("<FIBEX ", '<FIBEX xmlns:xsi="@" '.replace("@", XSI))
+        text = TYPED.replace("<FIBEX ", f'<FIBEX xmlns:xsi="{XSI}" ').replace('<FRAME ID="fr">', '<FRAME ID="fr" OID="7" xsi:type="x">a remark')
         notes = self.read(text, {}).notes
         for what in "text beside the elements of FRAME", "attribute OID":
             self.see(what, True, ("not kept", what, "1 in the file") in notes)
