@@ -1,35 +1,40 @@
-# make run      runs a script: by the proved program where it is there, else by the program compiled without proof, which is kept
-# make demo     makes the register of an example in out/demo, serves it with the planners' page at http://127.0.0.1:8080/, and says which keys to try;
-#               PORT=9000 names another port. Ctrl+C ends it
-# make test     the tests, with no proof: the program compiled without proof is tried, and the tests of the crates are run. Some minutes.
-#               JOBS=2 runs two steps at once, in place of as many as there are processors
-# make prove    the gate: every proof from nothing, the must-fail edits, the tests, how rows are found, and the
-#               proved program tried, as each of two compilers made it. An hour or two
-# make edits    asks the prover of every wrong body, also of those that the gate leaves out; CRATES='fr_base ..' names some.
-#               Run it when a contract has changed, some minutes a crate; no part of the gate
-# make map      prints what each file of the crates, the tests, tools/, bench/ and clients/ is for; CRATES='fr_base tests ..' names some
-# make calls    prints what each public call of CRATES='fr_base ..' promises: its text, and its clauses
-# make laws     prints the laws of each crate, or of CRATES='fr_base ..', with their definitions; WORD=released prints those with that word
-# make try      tries the built program alone, as the gate does: rows, examples, faults, limits, counts of cycles, register files and
-#               their migration, the server, the commands of docs/TUTORIAL.md, docs/HTTP.md and README.md, docs/openapi.yaml, and pictures;
-#               and every so many cases of make hostile and make refuse
-# make look     draws the plans of the examples and one at the limits into out/look, by the program that make run takes; where there is chromium,
-#               it takes screenshots of the pages, and counts their cells as the browser has them; where there is chromium-driver too,
-#               also of the planners' page
-# make page     makes the planner's page, crates/fr_page/src/page.rt, of its sources in page/, and out/page to look at
-# make hostile  stops the built program at each of its calls on files, gives it files cut and changed at many places, and
-#               connections that fail at each byte; the gate does every so many of these. It needs a C compiler, cc
-# make refuse   refuses the built program each allocation in turn, of which the gate refuses every so many; and so to a register's calls
-#               and to the crates' tests. It needs cc too, and proves and builds what it runs
-# make store    tries a register's files, its pages and edits, with the SQLite of python3; no part of the gate
-# make out/slotplan-plans  makes one file of the command for plans in other files, clients/README.md, which python3 runs
-# make install  proves and builds the program where that is still to be done, and puts it at $(PREFIX)/bin/slotplan, and slotplan-plans
-#               beside it. PROVED=no puts there the program that was compiled without proof; its --version says so
-# make bench    prints the program's speed and memory beside those of a register that python3's sqlite3 keeps, what a change costs with its
-#               supplier's rows and beside others', what reports and files of rows cost beside one another, the speed of texts alone, how many
-#               requests a server answers, and how each report and change grows with a plan, which fails where one grows too fast; no test
-# make bench-all prints these figures, and those of instructions by valgrind, of a migration, of imports read, of
-#               placements decided, of registers in files, of their openings and of variants that keep their differences; an hour or so
+# What there is to make. README.md says how long each takes.
+#
+# To use it:
+#   make demo        serves the register of an example, made in out/demo, with the planners' page at
+#                    http://127.0.0.1:8080/, and says which keys to try; PORT=9000 names another port. Ctrl+C ends it
+#   make run         answers a script: by the proved program where it is there, else by the one that was compiled
+#                    without proof, which is kept; SCRIPT=examples/chassis.script names another script
+#   make install     proves and builds the program where that is still to be done, and puts it at $(PREFIX)/bin/slotplan,
+#                    and slotplan-plans beside it; PROVED=no takes the program without proof, whose --version says so
+#   make package     makes a folder, a .tar.gz and a .deb in out/package for a machine without a toolchain; PROVED=no too
+#   make out/slotplan-plans   makes one file of the command for plans in other files, which python3 runs
+#
+# To change it:
+#   make test        the tests, with no proof: of the program compiled without proof, and of the crates. JOBS=2 runs two
+#                    steps at once, in place of as many as there are processors
+#   make prove       the gate: every proof from nothing, the must-fail edits, the tests, how rows are found, and the proved
+#                    program tried, as each of two compilers made it
+#   make map         prints what each file of the crates, the tests, tools/, bench/ and clients/ is for;
+#                    CRATES='fr_base tests ..' names some
+#   make calls       prints what each public call of CRATES='fr_base ..' promises: its text, and its clauses
+#   make laws        prints the laws of each crate, or of CRATES='fr_base ..', with their definitions; WORD=released
+#                    prints those with that word
+#   make page        makes the planners' page, crates/fr_page/src/page.rt, of its sources in page/, and out/page to look
+#                    at
+#   make look        draws plans into out/look, by the program that make run takes; where there is chromium it takes
+#                    screenshots and counts cells, and where there is chromium-driver also of the planners' page
+#   make edits       asks the prover of every wrong body, also of those that the gate leaves out; CRATES='fr_base ..' names
+#                    some. For when a contract has changed
+#   make try         tries the built program alone, as the gate does
+#   make hostile     stops the built program at each of its calls on files, gives it files cut and changed at many places,
+#                    and connections that fail at each byte; the gate does every so many of these. It needs cc
+#   make refuse      refuses the built program each allocation in turn, of which the gate refuses every so many, and so to
+#                    a register's calls and to the crates' tests. It needs cc, and proves and builds what it runs
+#   make store       tries a register's files, its pages and edits, with the SQLite of python3; no part of the gate
+#   make bench       prints the program's speed and memory beside those of a register that python3's sqlite3 keeps, and
+#                    how each report and change grows with a plan, which fails where one grows too fast; no test
+#   make bench-all   prints these figures, and those of instructions, migrations, imports, placements and openings
 
 SCRIPT ?= examples/first.script
 CRATES ?=
@@ -44,7 +49,10 @@ plans := out/slotplan-plans
 build_log := out/build.log
 sources := -name out -prune -o \( -name '*.rt' -o -name '*.antt' -o -name crates.txt \)
 
-.PHONY: run run-unproved demo demo-unproved test prove edits map calls laws try look page hostile refuse store install bench bench-all build toolchain
+.PHONY: help run run-unproved demo demo-unproved test prove edits map calls laws try look page hostile refuse store install package bench bench-all build toolchain
+
+help:
+	@sed -n '/^#/!q; s/^# \{0,1\}//p' $(firstword $(MAKEFILE_LIST))
 
 # A program is run where no source is newer.
 run:
@@ -66,7 +74,7 @@ demo-unproved: $(unproved)
 
 # The files below src/ are all that is compiled without proof.
 $(unproved): tools/unproved.py tools/modules.py $(shell find crates -name out -prune -o -name '*.rt' -print) crates.txt | toolchain
-	@echo "make: compiling without proof: three to six minutes" >&2
+	@echo "make: compiling without proof: some minutes" >&2
 	@python3 tools/unproved.py $@
 
 test: toolchain
@@ -123,16 +131,21 @@ $(plans): clients/archive.py $(shell find clients/slotplan_plans -name '*.py')
 	@python3 -m clients.archive $@
 
 ifeq ($(PROVED),yes)
-install: build $(plans)
-	install -D -m 755 $(program) $(DESTDIR)$(PREFIX)/bin/slotplan
-	install -D -m 755 $(plans) $(DESTDIR)$(PREFIX)/bin/slotplan-plans
+built := $(program)
+install package: build
 else ifeq ($(PROVED),no)
-install: $(unproved) $(plans)
-	install -D -m 755 $(unproved) $(DESTDIR)$(PREFIX)/bin/slotplan
-	install -D -m 755 $(plans) $(DESTDIR)$(PREFIX)/bin/slotplan-plans
+built := $(unproved)
+install package: $(unproved)
 else
 $(error PROVED is yes or no)
 endif
+
+install: $(plans)
+	install -D -m 755 $(built) $(DESTDIR)$(PREFIX)/bin/slotplan
+	install -D -m 755 $(plans) $(DESTDIR)$(PREFIX)/bin/slotplan-plans
+
+package: $(plans)
+	@python3 -m tools.package $(built) $(plans) out/package
 
 bench: build
 	@python3 bench/run.py

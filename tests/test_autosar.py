@@ -103,7 +103,7 @@ class ComesBack(Case):
         self.see(f"{what}: the plan", replace(plan, variant=Variant(variant, None, 1, False)), proposal.plan)
         self.see(f"{what}: notes of rows", [], [note for note in proposal.notes if note.kind != "not kept"])
         place = self.folder / what
-        folders.write(place, proposal.plan, proposal.notes, "a comment")
+        folders.write(place, proposal)
         answers, got = reports((place / "cluster.toml").read_text(), requests_of(place), [variant], frames)
         self.see(f"{what}: refusals", [], [it for it in answers if not it.startswith('{"ok":')])
         wanted = {key: answer for key, answer in told.items() if key[2:3] in ((), (variant,)) and key[1] != "variants"}

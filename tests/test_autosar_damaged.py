@@ -38,7 +38,7 @@ class Damaged(FileCase):
     def is_taken(self, number, proposal):
         """The register refuses no row of it."""
         place = self.folder / str(number)
-        folder.write(place, proposal.plan, proposal.notes, "")
+        folder.write(place, proposal)
         answers, _ = reports((place / "cluster.toml").read_text(), requests_of(place), [])
         self.see(f"{number}: refusals", [], [it for it in answers if "refused" in it])
 
@@ -149,7 +149,7 @@ class Limits(FileCase):
         wanted = [(f"/Frame/{name}: signal S64, start 64, length 1, little", "the frame has 64 signals already") for name in names[:256]]
         got = [(it.what, it.why) for it in proposal.notes if it.kind == "left out"]
         self.see("left out", sorted([("/Frame/F256", "s1 has 256 frames already"), *wanted]), sorted(got))
-        folder.write(self.folder / "made", proposal.plan, proposal.notes, "")
+        folder.write(self.folder / "made", proposal)
         answers, _ = reports((self.folder / "made/cluster.toml").read_text(), requests_of(self.folder / "made"), [])
         rows = [answer["rows"] for answer in map(json.loads, answers) if answer["ok"] == "imported"]
         self.see("rows of its files: frames, placements of 170 and of 86 frames, and signals of 8", [256, 510, 258, *[512] * 32], rows)

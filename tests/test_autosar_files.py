@@ -223,7 +223,7 @@ class Bits(FileCase):
         self.see("placements", (Placement(2, "A", 1, 4),), proposal.plan.frames[0].placements)
         self.see("nodes", (Node("s1", "n1"),), proposal.plan.nodes)
         self.see("grants", (Grant(2, "A", "s1", "n1"),), proposal.plan.grants)
-        folder.write(self.folder / "made", proposal.plan, proposal.notes, "")
+        folder.write(self.folder / "made", proposal)
         rows = (self.folder / "made/s1/part02_signals.csv").read_text()
         self.see("rows of signals", "frame,signal,start,length,order\nf,y,3,8,big\nf,x,4,8,little\n", rows)
         answers, told = reports((self.folder / "made/cluster.toml").read_text(), requests_of(self.folder / "made"), ["v1"], ["f"])
@@ -343,10 +343,10 @@ class Foreign(FileCase):
         """The register takes each row."""
         found, proposal = self.read(arxml.foreign())
         place = self.folder / "made"
-        folder.write(place, proposal.plan, proposal.notes, found.comment)
+        folder.write(place, proposal)
         answers, _ = reports((place / "cluster.toml").read_text(), requests_of(place), ["v1"])
         self.see("refusals", [], [it for it in answers if "refused" in it])
-        self.see("its files", ["brakes", "cluster.toml", "gears", "notes.csv", "requests.txt"], sorted(it.name for it in place.iterdir()))
+        self.see("its files", ["brakes", "cluster.toml", "gears", "grants.csv", "names.csv", "nodes.csv", "notes.csv", "requests.txt"], sorted(it.name for it in place.iterdir()))
         comment = "# The cluster Chassis. A macrotick lasts 1.375E-6 s. A cycle lasts 0.005 s."
         self.see("the comment", comment, (place / "cluster.toml").read_text().split("\n")[0])
         text = lambda name: "".join(file.read_text() for file in sorted(place.glob(f"*/*_{name}.csv")))
@@ -357,7 +357,7 @@ class Foreign(FileCase):
     def test_modes(self):
         """Only its owner may read the folder and the files with keys."""
         _, proposal = self.read(arxml.foreign())
-        folder.write(self.folder / "made", proposal.plan, proposal.notes, "")
+        folder.write(self.folder / "made", proposal)
         for path in [self.folder / "made", *(self.folder / "made").rglob("*")]:
             self.see(str(path), 0o700 if path.is_dir() else 0o600, path.stat().st_mode & 0o777)
 

@@ -90,7 +90,7 @@ class Backups(RegisterCase):
 
     def script(self, name="car"):
         """The script as it runs: that of the page, over the test's folders."""
-        text = SCRIPT.replace("/var/lib/slotplan/", f"{self.registers}/").replace("=/backup\n", f"={self.copies}\n")
+        text = SCRIPT.replace("/var/lib/slotplan/", f"{self.registers}/").replace("=/var/backups/slotplan\n", f"={self.copies}\n")
         (self.folder / "slotplan-backup").write_text(text)
         more = {"PATH": f"{self.commands}:{os.environ['PATH']}", "ROOM": str(self.folder), "SQLITE3": shutil.which("sqlite3")}
         return subprocess.Popen(["sh", self.folder / "slotplan-backup", name], env={**os.environ, **more}, stderr=subprocess.PIPE)

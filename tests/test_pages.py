@@ -1,5 +1,6 @@
 """What the pages name is there: files, commands, calls and what their links lead to; and each file says what it is for. It needs nothing built."""
 import re
+import subprocess
 from fnmatch import fnmatch
 from functools import cache
 
@@ -90,6 +91,13 @@ class NamesOnPages(Case):
         self.on_each("targets of make", lambda page: {word for found in MAKE.findall(codes(page)) for word in found.split()} - targets)
         self.on_each("modules", lambda page: [it for it in MODULE.findall(codes(page)) if not list(TOP.glob(f"{it.replace('.', '/')}*"))])
 
+    def test_make_alone(self):
+        """It prints what there is to make: each target but those of which others are made."""
+        within = {"help", "run-unproved", "demo-unproved", "look-unproved", "build", "toolchain"}
+        there = set(re.findall(r"^\.PHONY: (.*)$", (TOP / "Makefile").read_text(), re.M)[0].split()) - within
+        said = subprocess.run(["make", "--no-print-directory"], cwd=TOP, capture_output=True, text=True, check=True).stdout
+        self.see("targets", there | {"out/slotplan-plans"}, set(re.findall(r"^  make (\S+)", said, re.M)))
+
     def test_words(self):
         """`Type::call` is a call, a field or a case of the type; any other word of code stands in the sources."""
 
@@ -122,7 +130,7 @@ class Heads(Case):
 
     def test_calls_of_lib(self):
         """lib.rt of fr_page has its calls itself."""
-        self.see("calls of fr_page", ["planner_page", "policy"], [call.name for call in calls("fr_page")])
+        self.see("calls of fr_page", ["Part::bytes", "Part::digest"], [call.name for call in calls("fr_page")])
 
     @for_values(*FOLDERS)
     def test_modules(self, folder):

@@ -3,13 +3,14 @@ import argparse
 import os
 import sys
 
-from . import arranging, dumping, tables
+from . import arranging, dumping, needs, rows, tables
 from .autosar import commands as autosar
+from .autosar import updating
 from .faults import Fault
 
 PROGRAM = "slotplan-plans"
 # Modules with a call `add_commands`, whose commands have a call `work`. It gives the status, or nothing for 0.
-SUBJECTS = (tables, arranging, dumping, autosar)
+SUBJECTS = (tables, rows, needs, arranging, dumping, autosar, updating)
 
 
 class Words(argparse.ArgumentParser):

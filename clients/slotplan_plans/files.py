@@ -41,12 +41,13 @@ def replaceable(path):
 
 
 @contextmanager
-def written(path, mode=0o600):
-    """A text file that takes its name once it is written whole. With mode 0600 its owner alone may read it."""
+def written(path, mode=0o600, kind="w"):
+    """A file, of text or, by kind `wb`, of bytes, that takes its name once it is written whole. With mode 0600 its owner alone may read it."""
     path = replaceable(path)
     new = path.with_name(f"{path.name}.{os.getpid()}")
     try:
-        with open(os.open(new, os.O_WRONLY | os.O_CREAT | os.O_EXCL, mode), "w", encoding="utf-8", newline="") as file:
+        words = {"encoding": "utf-8", "newline": ""} if kind == "w" else {}
+        with open(os.open(new, os.O_WRONLY | os.O_CREAT | os.O_EXCL, mode), kind, **words) as file:
             yield file
         new.replace(path)
     except OSError as fault:
@@ -54,3 +55,18 @@ def written(path, mode=0o600):
     finally:
         with suppress(OSError):
             new.unlink()
+
+
+def made(folder):
+    """Makes a folder that only its owner may read, where nothing is."""
+    absent(folder)
+    try:
+        os.mkdir(folder, 0o700)
+    except OSError as fault:
+        raise Fault(f"{folder}: {fault.strerror}") from fault
+
+
+def absent(path):
+    """Nothing, where nothing is."""
+    if os.path.lexists(path):
+        raise Fault(f"{path} is there already; name another folder, or move it away")

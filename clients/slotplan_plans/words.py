@@ -1,4 +1,6 @@
 """The words that several commands have: where a plan is read, and by whose eyes."""
+from decimal import Decimal, InvalidOperation
+
 from .faults import Fault
 from .files import key_in
 from .sources import RegisterFile, Server
@@ -29,3 +31,16 @@ def source_of(given, asked=False):
 
 def is_server(source):
     return source.startswith(("http://", "https://"))
+
+
+def microseconds(text):
+    """The length of a macrotick as a decimal number, or none."""
+    if text is None:
+        return None
+    try:
+        number = Decimal(text)
+    except InvalidOperation:
+        number = Decimal(0)
+    if not number.is_finite() or not Decimal("0.001") <= number <= 1000:
+        raise Fault(f"--macrotick: {text!a:.60} is no number of microseconds from 0.001 to 1000")
+    return number

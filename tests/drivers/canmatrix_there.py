@@ -8,16 +8,16 @@ import sys
 from functools import cache
 from pathlib import Path
 
-READS = Path(__file__).with_name("canmatrix_reads.py")
+READS, WRITES = (Path(__file__).with_name(f"canmatrix_{name}.py") for name in ("reads", "writes"))
 SECONDS = 300
 
 
 @cache
-def python():
-    """A python3 that has it, or none."""
+def python(form="arxml"):
+    """A python3 that has it with this form of files, or none."""
     for path in filter(None, (os.environ.get("CANMATRIX"), sys.executable, "/usr/bin/python3")):
         try:
-            if subprocess.run([path, "-c", "import canmatrix.formats.arxml"], capture_output=True, timeout=SECONDS).returncode == 0:
+            if subprocess.run([path, "-c", f"import canmatrix.formats.{form}"], capture_output=True, timeout=SECONDS).returncode == 0:
                 return path
         except OSError:
             continue
@@ -37,3 +37,10 @@ def reads(file, given=()):
     if ended.returncode != 0:
         raise OSError(f"canmatrix: {ended.stderr.strip()[-300:]!r}")
     return json.loads(ended.stdout.splitlines()[-1])
+
+
+def writes(file, frames):
+    """Writes a FIBEX file of CAN, as canmatrix_writes.py says."""
+    ended = subprocess.run([python("fibex"), WRITES, file], input=json.dumps(frames), capture_output=True, text=True, timeout=SECONDS)
+    if ended.returncode != 0:
+        raise OSError(f"canmatrix: {ended.stderr.strip()[-300:]!r}")

@@ -27,6 +27,7 @@ THERE = {
     "docs/HTTP.md": ("examples",),
     "clients/README.md": ("examples", "clients"),
     "clients/AUTOSAR.md": ("examples",),
+    "clients/FIBEX.md": ("examples",),
     "clients/wireshark/README.md": ("examples", "clients"),
 }
 

@@ -14,8 +14,8 @@ from tests import TOP
 from .case import Case
 from .steps import SideBySide, Step, left_out_lines
 
-# What is tried of the clients, which are python3, and of the planners' page by itself or in a browser, which is the same whoever made the program.
-AROUND = "test_autosar", "test_browser", "test_clients", "test_demo", "test_page_built", "test_page_modules", "test_wireshark"
+# What is tried of the clients, which are python3, and of packages and the planners' page by itself or in a browser, which are the same whoever made the program.
+AROUND = "test_autosar", "test_browser", "test_clients", "test_demo", "test_fibex", "test_package", "test_page_built", "test_page_modules", "test_wireshark"
 
 
 class Result(unittest.TestResult):

@@ -2,15 +2,25 @@
 from dataclasses import replace
 
 from ..comparing import differences
-from ..plan import FIGURES
+from ..plan import FIGURES, Node
 
 
-def compared(plan, proposed, supplier=None):
+def compared(plan, proposal, supplier=None):
     """The lines of what differs: `-` is the register's, `+` the file's. A supplier sees its own rows, whose lines do not name it."""
+    proposed = proposal.plan if proposal.found.variant is not None else with_silent(plan, proposal.plan)
     if supplier:
         plan, proposed = own(plan, supplier), own(proposed, supplier)
     lines = [*unlike(common(plan), common(proposed)), *differences(plan, proposed), *unlike(gaps(plan), gaps(proposed))]
     return [line.removesuffix(f" {supplier}") if supplier and line[2:].split(" ")[0].isupper() else line for line in lines]
+
+
+def with_silent(plan, proposed):
+    """What another tool's file tells, with what such a file has no words for: grants that no frame uses, and suppliers without a node."""
+    told = {it.lane for it in proposed.grants}
+    grants = [it for it in plan.grants if it.lane not in told and Node(it.supplier, it.node) in proposed.nodes]
+    silent = set(plan.cluster.suppliers) - {it.supplier for it in plan.nodes}
+    cluster = replace(proposed.cluster, suppliers=tuple(sorted({*proposed.cluster.suppliers, *silent})))
+    return replace(proposed, cluster=cluster, grants=tuple(sorted([*proposed.grants, *grants])))
 
 
 def own(plan, supplier):

@@ -84,10 +84,6 @@ class Bus:
             path = f"{self.names.ecu_path(node)}/Connector_{channel}"
             self.markup.ref("COMMUNICATION-CONNECTOR-REF", "FLEXRAY-COMMUNICATION-CONNECTOR", path)
 
-    def here(self, channel, name):
-        """The path of an element of the channel."""
-        return f"/Cluster/{self.options.cluster}/Channel_{channel}/{name}"
-
     def frame(self, channel, frame):
         for found in triggerings(timings(frame.placements, channel), self.options.each):
             self.triggering(channel, frame, found)
@@ -100,7 +96,7 @@ class Bus:
                 out.ref("FRAME-PORT-REF", "FRAME-PORT", self.names.port_path(frame, channel, "Frames"))
             out.ref("FRAME-REF", "FLEXRAY-FRAME", self.names.frame_path(frame))
             with out.of("PDU-TRIGGERINGS", "PDU-TRIGGERING-REF-CONDITIONAL"):
-                out.ref("PDU-TRIGGERING-REF", "PDU-TRIGGERING", self.here(channel, f"Pdu_{short}"))
+                out.ref("PDU-TRIGGERING-REF", "PDU-TRIGGERING", self.names.of_channel(channel, f"Pdu_{short}"))
             with out.of("ABSOLUTELY-SCHEDULED-TIMINGS"):
                 for timing in found:
                     self.timing(*timing)
@@ -140,5 +136,5 @@ class Bus:
 
     def signal_of_pdu(self, channel, frame, signal):
         with self.markup.of("I-SIGNAL-TRIGGERING-REF-CONDITIONAL"):
-            path = self.here(channel, f"Signal_{self.names.of_signal(frame, signal)}")
+            path = self.names.of_channel(channel, f"Signal_{self.names.of_signal(frame, signal)}")
             self.markup.ref("I-SIGNAL-TRIGGERING-REF", "I-SIGNAL-TRIGGERING", path)

@@ -1,21 +1,19 @@
-"""The commands for AUTOSAR system descriptions: `export`, `import`, `compare` and `ecus`."""
+"""The commands for AUTOSAR system descriptions, and for FIBEX: `export`, `import`, `compare` and `ecus`."""
 import csv
 import re
 import sys
 from collections import Counter
-from decimal import Decimal, InvalidOperation
 
 from ..faults import Fault
+from ..fibex import writing as fibex
 from ..files import written
 from ..reading import read
-from ..tables import rows_of
-from ..words import add_source, source_of
-from . import beside, folder, reading, writing
+from ..words import add_source, microseconds, source_of
+from . import beside, folder, writing
+from .described import SUPPLIERS, add_reading, described
 from .found import KINDS
-from .proposal import Proposal
 
 SHORT_NAME = re.compile("[A-Za-z][A-Za-z0-9_]{0,127}")
-TABLE = "ecu", "supplier"
 
 
 def add_commands(commands):
@@ -26,17 +24,19 @@ def add_commands(commands):
     made.add_argument("--macrotick", metavar="MICROSECONDS", help="how long a macrotick lasts, as 1 or 1.375")
     made.add_argument("--cluster", metavar="NAME", default="FlexRay", help="the cluster's name in the file")
     made.add_argument("--each", action="store_true", help="a triggering for each timing, for tools that read one timing of each triggering")
+    made.add_argument("--fibex", metavar="RELEASE", choices=fibex.RELEASES, help="FIBEX of the release 3.1 or 4.1, in place of AUTOSAR")
     listed = command(commands, "ecus", ecus)
     add_files(listed)
+    add_reading(listed, tables=False)
     read_in = command(commands, "import", import_files)
     read_in.add_argument("folder", metavar="FOLDER", help="the folder that is made")
     add_files(read_in)
-    read_in.add_argument("--suppliers", metavar="TABLE", help="a table with the columns ecu, supplier")
+    add_reading(read_in)
     read_in.add_argument("--variant", metavar="NAME", help="how the variant is called; else as the file says, or v1")
     compared = command(commands, "compare", compare)
     add_source(compared)
     add_files(compared)
-    compared.add_argument("--suppliers", metavar="TABLE", help="a table with the columns ecu, supplier")
+    add_reading(compared)
 
 
 def command(commands, name, work):
@@ -47,17 +47,19 @@ def command(commands, name, work):
 
 def add_files(parser):
     parser.add_argument("files", metavar="FILE", nargs="+", help="a description, which may be parted into several files")
-    parser.add_argument("--cluster", metavar="NAME", help="which FlexRay cluster, where the description has several")
 
 
 def export(given):
-    """Writes a released variant as an AUTOSAR system description."""
-    options = writing.Options(short_name(given.cluster), microseconds(given.macrotick), given.each)
+    """Writes a released variant as an AUTOSAR system description, or as FIBEX."""
+    options = short_name(given.cluster), microseconds(given.macrotick), given.each
     plan = read(source_of(given), given.variant)
     if not (plan.variant.is_released or given.open):
         raise Fault(f"the variant {given.variant} is open, so it may change; --open writes it as it is now")
     with written(given.file, 0o666) as file:
-        writing.write(file, plan, options)
+        if given.fibex:
+            fibex.write(file, plan, fibex.Options(given.fibex, *options))
+        else:
+            writing.write(file, plan, writing.Options(*options))
     print(counts(plan))
 
 
@@ -65,19 +67,6 @@ def short_name(text):
     if not SHORT_NAME.fullmatch(text):
         raise Fault(f"--cluster: {text!a:.60} is no short name of AUTOSAR")
     return text
-
-
-def microseconds(text):
-    """The length of a macrotick as a decimal number, or none."""
-    if text is None:
-        return None
-    try:
-        number = Decimal(text)
-    except InvalidOperation:
-        number = Decimal(0)
-    if not number.is_finite() or not Decimal("0.001") <= number <= 1000:
-        raise Fault(f"--macrotick: {text!a:.60} is no number of microseconds from 0.001 to 1000")
-    return number
 
 
 def counts(plan):
@@ -89,32 +78,26 @@ def counts(plan):
 
 def ecus(given):
     """Prints a table of the ECUs in which their suppliers are to be filled in."""
-    found = reading.read(given.files, given.cluster)
-    csv.writer(sys.stdout, lineterminator="\n").writerows([TABLE, *((path, ecu.supplier or "") for path, ecu in sorted(found.ecus.items()))])
-
-
-def suppliers_in(path):
-    """The suppliers in a table, by the paths or names of their ECUs."""
-    found = {}
-    for line, (ecu, supplier) in rows_of(path, TABLE):
-        if found.setdefault(ecu, supplier) != supplier:
-            raise Fault(f"{path}: line {line}: {ecu!a:.200} stands above with another supplier")
-    return found
-
-
-def proposed(given, variant=None):
-    """What was found in the files, and what is proposed."""
-    table = suppliers_in(given.suppliers) if given.suppliers else {}
-    found = reading.read(given.files, given.cluster)
-    return found, Proposal(found, table, variant)
+    found = described(given).found(given.files)
+    csv.writer(sys.stdout, lineterminator="\n").writerows([SUPPLIERS, *((path, ecu.supplier or "") for path, ecu in sorted(found.ecus.items()))])
 
 
 def import_files(given):
     """Reads a description, and makes a folder with a cluster file, requests and files of rows for a new register, and notes of what does not fit."""
-    found, proposal = proposed(given, given.variant)
-    folder.write(given.folder, proposal.plan, proposal.notes, found.comment)
+    proposal = described(given).proposed(given.files, given.variant)
+    folder.write(given.folder, proposal)
     print(counts(proposal.plan))
     print(", ".join(f"{kind}: {count}" for kind, count in told(proposal.notes).items()))
+    if not proposal.plan.frames and proposal.found.variant is None:
+        print(f"no frame could be taken: {given.folder}/notes.csv says why{unsent(proposal)}", file=sys.stderr)
+        return 1
+    return 0
+
+
+def unsent(proposal):
+    """What helps where no frame has a sender."""
+    count = sum(not frame.senders for frame in proposal.found.frames.values())
+    return f"; of {count} frames the file does not tell who sends them, and --senders may" if count else ""
 
 
 def told(notes):
@@ -126,8 +109,8 @@ def told(notes):
 def compare(given):
     """Prints what differs between a variant and a description, as `slotplan diff` does; the status is 1 where something differs."""
     plan = read(source_of(given), given.variant)
-    _, proposal = proposed(given, given.variant)
-    lines = beside.compared(plan, proposal.plan, plan.reader)
+    proposal = described(given).proposed(given.files, given.variant)
+    lines = beside.compared(plan, proposal, plan.reader)
     print("".join(f"{line}\n" for line in lines), end="")
     for note in proposal.notes:
         if note.kind == "left out":

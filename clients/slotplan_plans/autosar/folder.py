@@ -1,31 +1,25 @@
 """A proposal as a folder: the cluster file, the integrator's requests, each supplier's key and files of rows, and the notes."""
 import csv
 import json
-import os
 from pathlib import Path
 
-from ..faults import Fault
-from ..files import written
+from ..files import made, written
 from ..keys import Keys, made_up
 from ..plan import FIGURES
+from ..rowfiles import parts, text_of
+from ..tables import GRANTS, NODES
 from .found import KINDS, Note
-
-# How many rows a file may have.
-ROWS = 512
-HEADERS = {
-    "frames": "frame,node",
-    "placements": "frame,node,slot,channels,base,repetition",
-    "signals": "frame,signal,start,length,order",
-}
+from .known import KINDS as ROW_KINDS
+from .known import Row
 
 
-def write(folder, plan, notes, comment):
+def write(folder, proposal):
     """Makes the folder, which only its owner may read: it has keys."""
-    folder, suppliers = Path(folder), plan.cluster.suppliers
+    folder, plan, suppliers = Path(folder), proposal.plan, proposal.plan.cluster.suppliers
     made(folder)
     keys = Keys(made_up(), {name: made_up() for name in suppliers})
     with written(folder / "cluster.toml") as file:
-        file.write(cluster_file(plan.cluster, keys, comment))
+        file.write(cluster_file(plan.cluster, keys, proposal.found.comment))
     with written(folder / "requests.txt") as file:
         file.writelines(f"{keys.integrator} {json.dumps(it, separators=(',', ':'))}\n" for it in requests(plan))
     for supplier in suppliers:
@@ -35,17 +29,15 @@ def write(folder, plan, notes, comment):
         for name, text in files(plan, supplier):
             with written(folder / supplier / name) as file:
                 file.write(text)
-    with written(folder / "notes.csv") as file:
-        csv.writer(file, lineterminator="\n").writerows([Note._fields, *sorted(notes, key=lambda note: KINDS.index(note.kind))])
-
-
-def made(folder):
-    try:
-        os.mkdir(folder, 0o700)
-    except FileExistsError:
-        raise Fault(f"{folder} is there already; name another folder, or move it away") from None
-    except OSError as fault:
-        raise Fault(f"{folder}: {fault.strerror}") from fault
+    tables = {
+        "notes.csv": [Note._fields, *sorted(proposal.notes, key=lambda note: KINDS.index(note.kind))],
+        "names.csv": [Row._fields, *sorted(proposal.rows, key=lambda row: (ROW_KINDS.index(row.kind), row.supplier, row.frame, row.name))],
+        "nodes.csv": [NODES, *((it.supplier, it.name) for it in plan.nodes)],
+        "grants.csv": [GRANTS, *((it.slot, it.channel, it.supplier, it.node) for it in plan.grants)],
+    }
+    for name, rows in tables.items():
+        with written(folder / name) as file:
+            csv.writer(file, lineterminator="\n").writerows(rows)
 
 
 def cluster_file(cluster, keys, comment):
@@ -69,22 +61,9 @@ def files(plan, supplier):
     """The supplier's files, whose names are in the order in which they are imported: all frames, then placements, then signals."""
     mine = [it for it in plan.frames if it.supplier == supplier]
     rows = {
-        "frames": [[(it.name, it.node)] for it in mine],
-        "placements": [[(it.name, it.node, at.slot, at.channels, at.base, at.repetition) for at in it.placements] for it in mine],
-        "signals": [[(it.name, signal.name, signal.start, signal.length, signal.order) for signal in it.signals] for it in mine],
+        "frames": [(it.name, it.node) for it in mine],
+        "placements": [(it.name, it.node, at.slot, at.channels, at.base, at.repetition) for it in mine for at in it.placements],
+        "signals": [(it.name, signal.name, signal.start, signal.length, signal.order) for it in mine for signal in it.signals],
     }
-    parts = [(kind, part) for kind in HEADERS for part in parted(rows[kind])]
-    for number, (kind, part) in enumerate(parts):
-        yield f"part{number:02}_{kind}.csv", "".join(f"{line}\n" for line in [HEADERS[kind], *(",".join(map(str, row)) for row in part)])
-
-
-def parted(groups):
-    """The rows of frames in parts of at most so many rows. Those of one frame stay together."""
-    part = []
-    for group in groups:
-        if len(part) + len(group) > ROWS:
-            yield part
-            part = []
-        part = part + group
-    if part:
-        yield part
+    for number, (kind, part) in enumerate((kind, part) for kind in rows for part in parts(rows[kind])):
+        yield f"part{number:02}_{kind}.csv", text_of(kind, part)

@@ -1,4 +1,5 @@
 """XML as it is written: an element inside the other, a leaf on a line."""
+import io
 from xml.sax.saxutils import escape, quoteattr
 
 
@@ -19,6 +20,10 @@ class Markup:
 
     def leaf(self, tag, text, **attributes):
         self.file.write(f"{self.indent}<{tag}{written(attributes)}>{escape(str(text))}</{tag}>\n")
+
+    def lines(self, lines):
+        """Lines that were written before."""
+        self.file.writelines(f"{self.indent}{line}\n" for line in lines)
 
     def name(self, text):
         self.leaf("SHORT-NAME", text)
@@ -49,6 +54,13 @@ class Opened:
         for tag in reversed(self.tags):
             markup.indent = markup.indent[:-2]
             markup.file.write(f"{markup.indent}</{tag}>\n")
+
+
+def lines_of(work):
+    """The lines that a call writes to a markup."""
+    file = io.StringIO()
+    work(Markup(file))
+    return file.getvalue().splitlines()
 
 
 def written(attributes):

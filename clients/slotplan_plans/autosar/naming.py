@@ -7,10 +7,11 @@ from collections import Counter
 from ..plan import Node
 
 
-def distinct(wanted):
-    """A short name for each key: its own name, or its longer one where several have its own; a number stands behind one that is taken."""
-    holders = Counter(own.lower() for own, _ in wanted.values())
-    found, taken = {}, set()
+def distinct(wanted, others=()):
+    """A short name for each key: its own name, or its longer one where several have its own; a number stands behind one that is taken. The names of
+    others, in small letters, are taken."""
+    holders = Counter(own.lower() for own, _ in wanted.values()) + Counter(others)
+    found, taken = {}, set(others)
     for alone in True, False:
         for key, (own, longer) in wanted.items():
             if (holders[own.lower()] == 1) is alone:
@@ -29,26 +30,37 @@ def free(wanted, taken):
 
 
 class Names:
-    """The short names of a plan: of suppliers by name, of nodes, of frames by their key, and of signals by that and their name."""
+    """The short names of a plan: of suppliers by name, of nodes, of frames by their key, and of signals by that and their name. The packages of
+    suppliers lie at a path, and other frames and signals may have names already."""
 
-    def __init__(self, plan):
+    types = "/Types"
+
+    def __init__(self, plan, cluster, suppliers="/Suppliers", frames=(), signals=()):
+        self.cluster, self.suppliers = cluster, suppliers
         self.supplier = distinct({name: (name, name) for name in plan.cluster.suppliers})
         self.node = distinct({it: (it.name, f"{it.supplier}_{it.name}") for it in plan.nodes})
-        self.frame = distinct({it.key: (it.name, "_".join(it.key)) for it in plan.frames})
-        signals = [(frame, signal.name) for frame in plan.frames for signal in frame.signals]
-        self.signal = distinct({(*frame.key, name): (name, f"{self.frame[frame.key]}_{name}") for frame, name in signals})
+        self.frame = distinct({it.key: (it.name, "_".join(it.key)) for it in plan.frames}, frames)
+        own = [(frame, signal.name) for frame in plan.frames for signal in frame.signals]
+        self.signal = distinct({(*frame.key, name): (name, f"{self.frame[frame.key]}_{name}") for frame, name in own}, signals)
+
+    def of_channel(self, channel, name):
+        """The path of an element of a channel."""
+        return f"/Cluster/{self.cluster}/Channel_{channel}/{name}"
+
+    def package(self, supplier, name):
+        return f"{self.suppliers}/{self.supplier[supplier]}/{name}"
 
     def ecu_path(self, node):
-        return f"/Suppliers/{self.supplier[node.supplier]}/Ecus/{self.node[node]}"
+        return f"{self.package(node.supplier, 'Ecus')}/{self.node[node]}"
 
     def frame_path(self, frame):
-        return f"/Suppliers/{self.supplier[frame.supplier]}/Frames/{self.frame[frame.key]}"
+        return f"{self.package(frame.supplier, 'Frames')}/{self.frame[frame.key]}"
 
     def pdu_path(self, frame):
-        return f"/Suppliers/{self.supplier[frame.supplier]}/Pdus/{self.frame[frame.key]}"
+        return f"{self.package(frame.supplier, 'Pdus')}/{self.frame[frame.key]}"
 
     def signal_path(self, frame, signal, package="Signals"):
-        return f"/Suppliers/{self.supplier[frame.supplier]}/{package}/{self.of_signal(frame, signal)}"
+        return f"{self.package(frame.supplier, package)}/{self.of_signal(frame, signal)}"
 
     def of_signal(self, frame, signal):
         return self.signal[(*frame.key, signal.name)]

@@ -34,16 +34,20 @@ class Parts:
         self.idle, self.payload_bytes = idle(plan), plan.cluster.payload_bits // 8
 
     def write(self, supplier):
-        frames = [it for it in self.plan.frames if it.supplier == supplier]
-        signals = [(frame, signal) for frame in frames for signal in frame.signals]
         with self.markup.of("AR-PACKAGE"):
             self.markup.name(self.names.supplier[supplier])
             with self.markup.of("AR-PACKAGES"):
                 self.package("Ecus", self.ecu, [(it,) for it in self.plan.nodes if it.supplier == supplier])
-                self.package("Frames", self.frame, [(it,) for it in frames])
-                self.package("Pdus", self.pdu, [(it,) for it in frames])
-                self.package("Signals", self.signal, signals)
-                self.package("SystemSignals", self.system_signal, signals)
+                self.sent(supplier)
+
+    def sent(self, supplier):
+        """The packages of what the supplier sends."""
+        frames = [it for it in self.plan.frames if it.supplier == supplier]
+        signals = [(frame, signal) for frame in frames for signal in frame.signals]
+        self.package("Frames", self.frame, [(it,) for it in frames])
+        self.package("Pdus", self.pdu, [(it,) for it in frames])
+        self.package("Signals", self.signal, signals)
+        self.package("SystemSignals", self.system_signal, signals)
 
     def package(self, name, work, rows):
         with self.markup.of("AR-PACKAGE"):
@@ -120,8 +124,8 @@ class Parts:
             out.leaf("DATA-TYPE-POLICY", "OVERRIDE")
             out.leaf("LENGTH", signal.length)
             with out.of("NETWORK-REPRESENTATION-PROPS", "SW-DATA-DEF-PROPS-VARIANTS", "SW-DATA-DEF-PROPS-CONDITIONAL"):
-                out.ref("BASE-TYPE-REF", "SW-BASE-TYPE", f"/Types/uint{next(width for width in WIDTHS if signal.length <= width)}")
-                out.ref("COMPU-METHOD-REF", "COMPU-METHOD", "/Types/Identical")
+                out.ref("BASE-TYPE-REF", "SW-BASE-TYPE", f"{self.names.types}/uint{next(width for width in WIDTHS if signal.length <= width)}")
+                out.ref("COMPU-METHOD-REF", "COMPU-METHOD", f"{self.names.types}/Identical")
             out.ref("SYSTEM-SIGNAL-REF", "SYSTEM-SIGNAL", self.names.signal_path(frame, signal, "SystemSignals"))
 
     def system_signal(self, frame, signal):

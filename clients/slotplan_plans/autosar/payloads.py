@@ -1,5 +1,5 @@
 """Reads what a frame's payload holds: its PDUs, and the signals that are mapped to them."""
-from ..plan import Signal
+from .found import FoundSignal
 
 ORDERS = {"MOST-SIGNIFICANT-BYTE-LAST": "little", "MOST-SIGNIFICANT-BYTE-FIRST": "big", "OPAQUE": "little"}
 # PDUs whose signals are all mapped to them.
@@ -25,6 +25,7 @@ class Payloads:
     def pdu(self, here, frame, mapping):
         """Of a PDU in big order the mapping names bit 7 of the first byte; some tools write its bit 0."""
         path, pdu = self.target(mapping, "PDU-REF")
+        frame.pdus.append(path)
         place = self.tree.number(mapping, "START-POSITION", 0)
         self.update_bit(here, frame, mapping, path, 0)
         what = f"{here}: PDU {path} from bit {place}"
@@ -35,7 +36,7 @@ class Payloads:
         elif pdu.tag in PLAIN:
             self.plain(here, frame, pdu, place - place % 8)
         else:
-            self.opaque(what, frame, pdu, place - place % 8)
+            self.opaque(what, frame, path, place - place % 8)
 
     def plain(self, here, frame, pdu, first):
         if first == 0 and self.tree.seen(pdu, "LENGTH") == str(self.payload_bytes):
@@ -45,18 +46,19 @@ class Payloads:
         for mapping in pdu.iter("I-SIGNAL-TO-I-PDU-MAPPING"):
             self.mapping(here, frame, mapping, first)
 
-    def opaque(self, what, frame, pdu, first):
+    def opaque(self, what, frame, path, first):
         """A PDU whose content is not known bit by bit becomes a signal, so that its bits stay its own."""
+        pdu = self.tree.at(path)
         length = self.tree.number(pdu, "LENGTH", 0)
         self.note("changed", what, f"{pdu.tag}: its content is not told bit by bit, so its {length} bytes become one signal")
-        frame.signals.append(Signal(first, 8 * length, "little", self.tree.text(pdu, "SHORT-NAME")))
+        frame.signals.append(FoundSignal(first, 8 * length, "little", self.tree.text(pdu, "SHORT-NAME"), path))
 
     def update_bit(self, here, frame, mapping, path, first):
         """An update bit uses a bit of the payload, so it becomes a signal."""
         place = self.tree.number(mapping, "UPDATE-INDICATION-BIT-POSITION")
         if place is not None:
             name = f"{path.rpartition('/')[2]}_update"
-            frame.signals.append(Signal(first + place, 1, "little", name))
+            frame.signals.append(FoundSignal(first + place, 1, "little", name, path, "update"))
             self.note("changed", f"{here}: update bit {first + place} of {path}", f"it becomes the signal {name}")
 
     def mapping(self, here, frame, mapping, first):
@@ -75,7 +77,7 @@ class Payloads:
         else:
             if order == "OPAQUE":
                 self.note("changed", what, "it is OPAQUE, bytes without an order; it becomes little")
-            frame.signals.append(Signal(first + start, self.length(signal), ORDERS[order], self.name(signal)))
+            frame.signals.append(FoundSignal(first + start, self.length(signal), ORDERS[order], self.name(signal), path))
 
     def name(self, signal):
         return dict(self.tree.told(signal, "name")).get("name") or self.tree.text(signal, "SHORT-NAME")

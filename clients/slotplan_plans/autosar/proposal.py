@@ -1,55 +1,39 @@
 """What was found in a description as a plan of the register, which takes all of it. What does not fit is noted."""
-import re
 from collections import Counter, defaultdict
 from dataclasses import replace
 
 from ..bits import bits
 from ..faults import Fault
 from ..plan import Cluster, Frame, Grant, Node, Placement, Plan, Signal, Variant
-from .found import Note
+from .found import FoundSignal, Note
+from .known import Known, Row
+from .register_names import NAME, Names
 
-NAME = re.compile("[A-Za-z][A-Za-z0-9_]{0,31}")
-LONGEST_NAME, LONGEST_SIGNAL = 32, 64
+LONGEST_SIGNAL = 64
 SUPPLIERS, NODES, FRAMES, PLACEMENTS, SIGNALS = 64, 64, 256, 8, 64
 # A signal that is longer than the longest payload is not parted.
 PAYLOAD_BITS = 16 * 127
 
 
-class Names:
-    """Names of the register in place of a file's: at most 32 letters, digits and underscores, a letter first, each once."""
-
-    def __init__(self):
-        self.taken = set()
-
-    def new(self, wanted):
-        form = re.sub("[^A-Za-z0-9_]", "_", wanted)
-        form = form if form[:1].isalpha() else f"x{form}"
-        name, number = form[:LONGEST_NAME], 1
-        while name in self.taken:
-            number += 1
-            end = f"_{number}"
-            name = form[: LONGEST_NAME - len(end)] + end
-        self.taken.add(name)
-        return name
-
-
 class Proposal:
-    """Makes a plan of what was found. `table` has a supplier for an ECU, by its path or its name, or an empty one that leaves the ECU out."""
+    """Makes a plan of what was found. `table` has a supplier for an ECU, by its path or its name, or an empty one that leaves the ECU out. What is
+    `known` has the names that it had before. `paths` has the path of each frame of the plan, and `rows` the names of all that was found."""
 
-    def __init__(self, found, table, variant=None):
-        self.found, self.table, self.notes = found, table, list(found.notes)
+    def __init__(self, found, table, variant=None, known=None):
+        self.found, self.table, self.known, self.notes = found, table, known or Known(), list(found.notes)
         self.variant = self.variant_name(variant)
-        self.supplier_names, self.nodes = {}, {}
+        self.supplier_names, self.nodes, self.rows = {}, {}, []
         self.plan = self.made()
 
     def note(self, kind, what, why):
         self.notes.append(Note(kind, what, why))
 
-    def new_name(self, names, what, wanted):
+    def new_name(self, names, what, wanted, known=None):
         """A name of the register in place of a file's."""
-        name = names.new(wanted)
+        name = names.new(wanted, known)
         if name != wanted:
-            self.note("changed", what, f"it is called {name}: {wanted} is no name of the register, or another has it")
+            why = "so it was called before" if name == known else f"{wanted} is no name of the register, or another has it"
+            self.note("changed", what, f"it is called {name}: {why}")
         return name
 
     def variant_name(self, given):
@@ -64,19 +48,20 @@ class Proposal:
     def made(self):
         self.name_suppliers(self.suppliers())
         frames = self.frames()
+        self.paths = {frame.key: path for path, frame in frames.items()}
         lanes = self.lanes(frames)
         self.idle(lanes)
         placed = self.placed(frames, lanes)
-        made = [replace(frame, placements=tuple(placed[path]), signals=tuple(self.signals(path))) for path, frame in frames.items()]
+        made = [replace(frame, placements=tuple(placed[path]), signals=tuple(self.signals(path, frame))) for path, frame in frames.items()]
         cluster = Cluster(self.found.channels, self.found.figures, tuple(sorted(self.supplier_names.values())))
         grants = sorted(Grant(slot, channel, node.supplier, node.name) for (slot, channel), node in lanes.items())
         return Plan(cluster, Variant(self.variant, None, 1, False), tuple(sorted(self.nodes.values())), tuple(grants), tuple(sorted(made)))
 
     def suppliers(self):
-        """The supplier of each ECU: as the table has it, else as the file tells it."""
+        """The supplier of each ECU: as the table has it, else as it was known before, else as the file tells it."""
         told = {}
         for path, ecu in self.found.ecus.items():
-            told[path] = self.table.get(path, self.table.get(path.rpartition("/")[2], ecu.supplier))
+            told[path] = self.table.get(path, self.table.get(path.rpartition("/")[2], self.known.supplier(path) or ecu.supplier))
             if ecu.supplier is not None and told[path] != ecu.supplier:
                 self.note("changed", path, f"the table of suppliers gives it {told[path] or 'none'}, and the file {ecu.supplier}")
         missing = sorted(path for path, supplier in told.items() if supplier is None)
@@ -89,11 +74,13 @@ class Proposal:
 
     def name_suppliers(self, told):
         """Names the suppliers, and the nodes of each."""
-        names, spaces = Names(), defaultdict(Names)
+        names = Names()
         for supplier in sorted({*self.found.suppliers, *filter(None, told.values())}):
             self.supplier_names[supplier] = self.new_name(names, f"supplier {supplier}", supplier)
         if len(self.supplier_names) > SUPPLIERS:
             raise Fault(f"there are {len(self.supplier_names)} suppliers; the register takes {SUPPLIERS}")
+        named = {path: self.known.node(path, self.supplier_names.get(told[path])) for path in self.found.ecus}
+        spaces = self.spaces((told[path], name) for path, name in named.items() if name)
         for path, ecu in sorted(self.found.ecus.items()):
             supplier = told[path]
             if not supplier:
@@ -101,12 +88,21 @@ class Proposal:
             elif len(spaces[supplier].taken) == NODES:
                 self.note("left out", path, f"{supplier} has {NODES} nodes already")
             else:
-                self.nodes[path] = Node(self.supplier_names[supplier], self.new_name(spaces[supplier], path, ecu.name))
+                node = Node(self.supplier_names[supplier], self.new_name(spaces[supplier], path, ecu.name, named[path]))
+                self.nodes[path] = node
+                self.rows.append(Row("ecu", path, "", node.supplier, "", node.name))
+
+    def spaces(self, known):
+        """The names of each supplier, of which those that are known are kept."""
+        kept = defaultdict(set)
+        for supplier, name in known:
+            kept[supplier].add(name)
+        return defaultdict(Names, {supplier: Names(names) for supplier, names in kept.items()})
 
     def frames(self):
         """The frames that one node sends, by path, as yet without rows."""
-        made, spaces = {}, defaultdict(Names)
-        payload = 2 * self.found.figures["payload_words"]
+        made, payload = {}, 2 * self.found.figures["payload_words"]
+        spaces = self.spaces(self.known.frames[path] for path in self.found.frames if path in self.known.frames)
         for path, frame in sorted(self.found.frames.items()):
             if why := self.no_sender(frame):
                 self.note("left out", path, f"{why}; it has {frame.length} bytes, {len(frame.timings)} timings and {len(frame.signals)} signals")
@@ -115,7 +111,10 @@ class Proposal:
             if len(spaces[node.supplier].taken) == FRAMES:
                 self.note("left out", path, f"{node.supplier} has {FRAMES} frames already")
                 continue
-            made[path] = Frame(node.supplier, self.new_name(spaces[node.supplier], path, frame.name), node.name)
+            named = self.new_name(spaces[node.supplier], path, frame.name, self.known.frame(path, node.supplier))
+            made[path] = Frame(node.supplier, named, node.name)
+            self.rows.append(Row("frame", path, "", node.supplier, "", named))
+            self.rows += (Row("pdu", pdu, "", node.supplier, named, "") for pdu in frame.pdus if pdu not in self.becoming(frame))
             if frame.length != payload:
                 self.note("not kept", path, f"its length of {frame.length} bytes; in the register each frame has {payload}")
         return made
@@ -160,10 +159,11 @@ class Proposal:
                 cells = [(cycle, channel) for cycle in range(it.base, self.found.figures["cycles"], it.repetition) for channel in it.channels]
                 taken = next(((it.slot, *cell) for cell in cells if (it.slot, *cell) in filled), None)
                 what = f"{path}: slot {it.slot} on {it.channels}, base {it.base}, repetition {it.repetition}"
-                if any(lanes[it.slot, channel] != Node(frame.supplier, frame.node) for channel in it.channels):
-                    self.note("left out", what, "another node is granted the slot")
+                if other := next((lanes[it.slot, at] for at in it.channels if lanes[it.slot, at] != Node(frame.supplier, frame.node)), None):
+                    self.note("left out", what, f"another node is granted the slot: {name_of(other)} holds it, and not {name_of(frame)}")
                 elif taken:
-                    self.note("left out", what, f"in cycle {taken[1]} on {taken[2]} {filled[taken]} is sent")
+                    why = f"in cycle {taken[1]} on {taken[2]} {filled[taken]} is sent, and so would be {path}: a cell has one frame"
+                    self.note("left out", what, why)
                 elif len(placed[path]) == PLACEMENTS:
                     self.note("left out", what, f"the frame has {PLACEMENTS} placements already")
                 else:
@@ -185,17 +185,33 @@ class Proposal:
         found = {"A": on["A"] - both, "AB": both, "B": on["B"] - both}
         return sorted(Placement(slot, channels, *cycles) for channels, timings in found.items() for slot, *cycles in timings)
 
-    def signals(self, path):
+    def becoming(self, frame):
+        """The paths of the PDUs of a frame that became signals."""
+        return {it.path for it in frame.signals if not it.part and it.path in frame.pdus}
+
+    def signals(self, path, frame):
         """The signals of a frame, by their first bit."""
-        names, used, kept = Names(), {}, []
-        for it in sorted(piece for it in self.found.frames[path].signals for piece in self.pieces(path, it)):
+        pieces = sorted(piece for it in self.found.frames[path].signals for piece in self.pieces(path, it))
+        called = self.called(frame.key, pieces)
+        names, used, kept, pdus = Names(filter(None, called)), {}, [], self.found.frames[path].pdus
+        for it, known in zip(pieces, called):
             what = f"{path}: {told(it)}"
             if why := self.no_room(it, used, len(kept)):
                 self.note("left out", what, why)
             else:
-                kept.append(replace(it, name=self.new_name(names, what, it.name)))
-                used.update(dict.fromkeys(bits(it), kept[-1].name))
+                name = self.new_name(names, what, it.name, known)
+                kept.append(Signal(it.start, it.length, it.order, name))
+                used.update(dict.fromkeys(bits(it), name))
+                self.rows.append(Row("pdu" if it.path in pdus else "signal", it.path, it.part, *frame.key, name))
         return kept
+
+    def called(self, key, pieces):
+        """The names by which the signals of a frame are known, or none."""
+        counts, found = Counter(), []
+        for it in pieces:
+            found.append(self.known.signal(key, it, counts[it.path, it.part]))
+            counts[it.path, it.part] += 1
+        return found
 
     def no_room(self, it, used, count):
         """Why a signal has no place in its frame, or nothing."""
@@ -216,11 +232,13 @@ class Proposal:
         starts = places[::LONGEST_SIGNAL]
         self.note("changed", f"{path}: {told(it)}", f"it becomes {len(starts)} signals of at most {LONGEST_SIGNAL} bits, {it.name}_0 and so on")
         lengths = [min(LONGEST_SIGNAL, it.length - before) for before in range(0, it.length, LONGEST_SIGNAL)]
-        return [Signal(start, length, it.order, f"{it.name}_{number}") for number, (start, length) in enumerate(zip(starts, lengths))]
+        pieces = enumerate(zip(starts, lengths))
+        return [FoundSignal(start, length, it.order, f"{it.name}_{number}", it.path, str(number)) for number, (start, length) in pieces]
 
 
-def name_of(node):
-    return f"{node.supplier}.{node.name}"
+def name_of(it):
+    """The name of a node, or of the one that sends a frame."""
+    return f"{it.supplier}.{it.name if isinstance(it, Node) else it.node}"
 
 
 def told(signal):

@@ -1,57 +1,61 @@
 """Reads the FlexRay cluster of a system description: its figures, its channels, its ECUs, and each frame that it sends."""
+from collections import defaultdict
+
 from ..faults import Fault
+from . import figures
 from .found import Ecu, Found, FoundFrame, Note
 from .payloads import Payloads
 from .sending import Sending
 from .tree import Tree, whole
+from .variation import Variation
 
 # The register's figures but `dynamic_macroticks` and `cycles`, and the elements that have them.
 FIGURES = {
     "static_slots": "NUMBER-OF-STATIC-SLOTS", "slot_macroticks": "STATIC-SLOT-DURATION", "symbol_macroticks": "SYMBOL-WINDOW",
     "idle_macroticks": "NETWORK-IDLE-TIME", "macroticks_per_cycle": "MACRO-PER-CYCLE", "payload_words": "PAYLOAD-LENGTH-STATIC",
 }
-# What the register takes of each.
-RANGES = {
-    "static_slots": (2, 1023), "slot_macroticks": (1, 16000), "dynamic_macroticks": (0, 16000), "symbol_macroticks": (0, 16000),
-    "idle_macroticks": (1, 16000), "macroticks_per_cycle": (1, 16000), "payload_words": (0, 127), "cycles": (8, 64),
-}
 
 
-def read(paths, cluster=None):
-    """What the files tell of their FlexRay cluster; of that with this name or path, where there are several."""
-    return Reader(Tree(paths)).found(cluster)
+def read(paths, cluster=None, texts=None, senders=None, labels=()):
+    """What the files tell of their FlexRay cluster; of that with this name or path, where there are several. `texts` has the bytes of files that
+    are not written yet. `senders` has the ECU of triggerings of which the files do not tell it; `labels` are the variation points that hold."""
+    tree = Tree(paths, texts)
+    return Reader(tree, Variation(tree, labels).notes(), senders).found(cluster)
 
 
 class Reader:
-    """Reads a tree. What is not read of it is noted in the end."""
+    """Reads a tree. What is not read of it is noted in the end. `channels` has the elements of the channels by letter, `connectors` the paths of
+    an ECU's connectors by the ECU and letter, and `triggerings` those of a frame by its path and letter."""
 
-    def __init__(self, tree):
-        self.tree, self.notes, self.ecus, self.frames = tree, [], {}, {}
+    def __init__(self, tree, notes=(), senders=None):
+        self.tree, self.notes, self.ecus, self.frames = tree, list(notes), {}, {}
+        self.channels, self.connectors, self.triggerings, self.senders = {}, {}, defaultdict(list), senders or {}
 
     def note(self, kind, what, why):
         self.notes.append(Note(kind, what, why))
 
     def found(self, wanted):
         tree = self.tree
-        cluster = self.cluster(wanted)
+        self.of = cluster = self.cluster(wanted)
         conditional = self.conditional(cluster)
-        figures = self.figures(conditional)
+        counted = self.figures(conditional)
         told = tree.told(cluster, "variant", "supplier")
-        channels = self.channels(conditional)
+        self.channels = channels = self.channels_of(conditional)
         self.connected(channels)
-        sending = Sending(self, figures)
+        sending = Sending(self, counted, self.senders)
         for letter in sorted(channels):
             for triggering in channels[letter].iter("FLEXRAY-FRAME-TRIGGERING"):
                 sending.triggering(letter, triggering)
+        sending.rest()
         self.unplaced()
-        payloads = Payloads(self, figures)
+        payloads = Payloads(self, counted)
         for path, frame in self.frames.items():
             payloads.frame(path, frame)
         comment = self.comment(cluster, conditional)
         self.rest()
         variant = next((value for key, value in told if key == "variant"), None)
         suppliers = [value for key, value in told if key == "supplier"]
-        return Found("".join(sorted(channels)), figures, variant, suppliers, self.ecus, self.frames, self.notes, comment)
+        return Found("".join(sorted(channels)), counted, variant, suppliers, self.ecus, self.frames, self.notes, comment, self)
 
     def cluster(self, wanted):
         clusters = [(self.tree.path_of[it], it) for it in self.tree.of_kind("FLEXRAY-CLUSTER") if it in self.tree.path_of]
@@ -67,35 +71,17 @@ class Reader:
         """What holds of the cluster. Of several forms the file leaves open which one does."""
         forms = cluster.findall("FLEXRAY-CLUSTER-VARIANTS/FLEXRAY-CLUSTER-CONDITIONAL")
         if len(forms) != 1:
-            raise Fault(f"the cluster has {len(forms)} FLEXRAY-CLUSTER-CONDITIONAL; one can be read")
+            raise Fault(f"the cluster has {len(forms)} FLEXRAY-CLUSTER-CONDITIONAL; one can be read, and --variant-of chooses by a label")
         return forms[0]
 
     def figures(self, conditional):
         number = lambda tag: self.tree.number(conditional, tag)
-        figures = {key: number(tag) for key, tag in FIGURES.items()}
-        figures["symbol_macroticks"] = figures["symbol_macroticks"] or 0
-        missing = [FIGURES[key] for key, value in figures.items() if value is None]
-        if missing:
-            raise Fault(f"the cluster has no {' and no '.join(missing)}")
-        greatest = number("CYCLE-COUNT-MAX")
-        figures["cycles"] = 64 if greatest is None else greatest + 1
-        used = figures["static_slots"] * figures["slot_macroticks"] + figures["symbol_macroticks"] + figures["idle_macroticks"]
-        figures["dynamic_macroticks"] = figures["macroticks_per_cycle"] - used
-        if figures["dynamic_macroticks"] < 0:
-            raise Fault(f"the segments of the cluster take {used} macroticks, and a cycle has {figures['macroticks_per_cycle']}")
-        for key, (least, most) in RANGES.items():
-            if not least <= figures[key] <= most or key == "cycles" and figures[key] % 2:
-                raise Fault(f"{key} would be {figures[key]}; the register takes {least} to {most}{', an even number' if key == 'cycles' else ''}")
-        self.minislots(number("NUMBER-OF-MINISLOTS") or 0, number("MINISLOT-DURATION") or 0, figures["dynamic_macroticks"])
-        return figures
+        found = figures.whole({key: number(tag) for key, tag in FIGURES.items()}, FIGURES, number("CYCLE-COUNT-MAX"))
+        if why := figures.minislots(number("NUMBER-OF-MINISLOTS") or 0, number("MINISLOT-DURATION") or 0, found):
+            self.note("not kept", "minislots", why)
+        return found
 
-    def minislots(self, count, length, room):
-        if count * length > room:
-            raise Fault(f"{count} minislots of {length} macroticks do not fit into the {room} that the other segments leave")
-        if count or length:
-            self.note("not kept", "minislots", f"{count} of {length} macroticks; the register has the length of the dynamic segment alone")
-
-    def channels(self, conditional):
+    def channels_of(self, conditional):
         """The channels by letter."""
         found = {}
         for channel in conditional.iterfind("PHYSICAL-CHANNELS/FLEXRAY-PHYSICAL-CHANNEL"):
@@ -120,6 +106,7 @@ class Reader:
                     self.note("left out", path, f"a connector of channel {letter} that belongs to no ECU of this file")
                 else:
                     self.ecu(ecu)
+                    self.connectors.setdefault((ecu, letter), path)
 
     def ecu(self, path):
         """The ECU of this path, which is read the first time."""

@@ -1,4 +1,8 @@
 """Reads when frames are sent, and by which ECUs: the triggerings of a channel."""
+from collections import defaultdict
+
+from ..faults import Fault
+from .figures import unfit
 from .found import Timing, folded
 from .tree import plain, whole
 
@@ -8,24 +12,27 @@ FALSE = "false", "0"
 class Sending:
     """Reads triggerings. What they send is added to the reader's frames."""
 
-    def __init__(self, reader, figures):
+    def __init__(self, reader, figures, table):
         self.reader, self.tree, self.note = reader, reader.tree, reader.note
-        self.slots, self.cycles = figures["static_slots"], figures["cycles"]
-        self.senders_of = {}
+        self.figures, self.cycles = figures, figures["cycles"]
+        self.senders_of, self.table, self.used = {}, table, set()
 
     def triggering(self, letter, triggering):
         here = self.tree.path_of[triggering]
         leaf = triggering.find("FRAME-REF")
         path, frame = ("", None) if leaf is None else self.tree.follow(leaf)
-        timings = self.timings(here, letter, triggering)
+        timings, elements = self.timings(here, letter, triggering)
         if frame is None or frame.tag != "FLEXRAY-FRAME":
             self.note("left out", here, f"its frame {path} is not in this file" if path else "it names no frame")
             return
         self.flags(here, triggering)
+        self.reader.triggerings[path, letter].append(triggering)
         if timings:
             found = self.reader.frame(path)
             found.timings += timings
-            senders = self.senders(triggering)
+            for timing, its in elements.items():
+                found.elements.setdefault(timing, []).extend(its)
+            senders = self.senders(triggering) or self.named(here)
             found.senders |= senders
             if not senders:
                 self.note("not kept", here, "no port OUT says which ECU sends it")
@@ -37,8 +44,8 @@ class Sending:
             self.note("not kept", here, "its length may change from cycle to cycle (ALLOW-DYNAMIC-L-SDU-LENGTH)")
 
     def timings(self, here, letter, triggering):
-        """The timings in the static segment. Single cycles are put together by slot."""
-        found, single = [], {}
+        """The timings in the static segment, and the elements of each. Single cycles are put together by slot."""
+        found, elements, single = [], defaultdict(list), defaultdict(lambda: defaultdict(list))
         timings = list(triggering.iter("FLEXRAY-ABSOLUTELY-SCHEDULED-TIMING"))
         if not timings:
             self.note("left out", here, "it has no ABSOLUTELY-SCHEDULED-TIMING")
@@ -47,13 +54,18 @@ class Sending:
             base, repetition, cycle = self.cycle_of(timing)
             values = [("slot", f"{slot} on {letter}"), ("cycle", cycle), ("base", base), ("repetition", repetition)]
             what = ", ".join(f"{key} {value}" for key, value in values if value is not None)
-            if why := self.unfit(slot, base, repetition, cycle):
+            if why := unfit(self.figures, slot, base, repetition, cycle):
                 self.note("left out", f"{here}: {what}", why)
             elif cycle is not None:
-                single.setdefault(slot, []).append(cycle)
+                single[slot][cycle].append(timing)
             else:
                 found.append(Timing(letter, slot, base, repetition))
-        return found + [Timing(letter, slot, *pair) for slot, cycles in single.items() for pair in folded(cycles, self.cycles)]
+                elements[found[-1]].append(timing)
+        for slot, cycles in single.items():
+            for base, repetition in folded(cycles, self.cycles):
+                found.append(Timing(letter, slot, base, repetition))
+                elements[found[-1]] += (it for cycle in range(base, self.cycles, repetition) for it in cycles[cycle])
+        return found, elements
 
     def cycle_of(self, timing):
         """Base and repetition of a timing, or its one cycle; none for what it does not have. The leaf in CYCLE-REPETITION has the same name."""
@@ -62,20 +74,6 @@ class Sending:
             text = self.tree.text(repeated, "CYCLE-REPETITION").removeprefix("CYCLE-REPETITION-")
             return self.tree.number(repeated, "BASE-CYCLE"), whole(text) if text else None, None
         return None, None, self.tree.number(counted, "CYCLE-COUNTER") if counted is not None else None
-
-    def unfit(self, slot, base, repetition, cycle):
-        """Why a timing is none of the static segment of this cluster, or nothing."""
-        if slot > self.slots:
-            return f"it lies in the dynamic segment: the static one has {self.slots} slots"
-        if slot < 1:
-            return "it has no SLOT-ID from 1 on"
-        if cycle is not None:
-            return "" if 0 <= cycle < self.cycles else f"the cluster has {self.cycles} cycles"
-        if base is None or repetition is None:
-            return "it has no cycle, or no base and repetition"
-        if repetition < 1 or self.cycles % repetition or not 0 <= base < repetition:
-            return f"that is no base and repetition of {self.cycles} cycles"
-        return ""
 
     def senders(self, triggering):
         """The ECUs that have a port OUT of the triggering; where it has none, of its PDUs."""
@@ -87,6 +85,24 @@ class Sending:
                     self.tree.follow(leaf)
                     found |= ecus
         return found
+
+    def named(self, here):
+        """The ECU that the table of senders has for a triggering, by its path or its name, where it has one."""
+        key = next((it for it in (here, here.rpartition("/")[2]) if it in self.table), None)
+        if key is None:
+            return set()
+        self.used.add(key)
+        ecus = [self.tree.path_of[it] for it in self.tree.of_kind("ECU-INSTANCE") if it in self.tree.path_of]
+        found = [path for path in ecus if self.table[key] in (path, path.rpartition("/")[2])]
+        if len(found) != 1:
+            raise Fault(f"the table of senders gives {here} the ECU {self.table[key]!a:.200}: the file has {len(found) or 'none'} of that name")
+        self.reader.ecu(found[0])
+        return set(found)
+
+    def rest(self):
+        """Notes the rows of the table of senders that were of no use."""
+        for key in sorted(self.table.keys() - self.used):
+            self.note("not kept", f"{key} of the table of senders", "no such triggering is without a sender in the file")
 
     def ecus_out(self, leaves):
         """The ECUs to whose ports OUT these references lead. A port IN is a receiver's, and does not count as read."""

@@ -1,14 +1,16 @@
 """AUTOSAR files as one tree: its elements by path, its references, and which of its leaves were read."""
+import io
 import xml.etree.ElementTree as ET
-from collections import Counter
+from collections import Counter, defaultdict
 from decimal import Decimal, InvalidOperation
 
 from ..faults import Fault
+from .references import References
 
 # Kinds of elements that are told of by where they stand, even where they have no name.
 PLACED = {"FLEXRAY-CLUSTER", "FLEXRAY-PHYSICAL-CHANNEL", "FLEXRAY-FRAME-TRIGGERING", "FLEXRAY-FRAME", "ECU-INSTANCE"}
 # Attributes that say nothing of their own: where a reference leads, and whose special data it is.
-KNOWN = {"DEST", "GID"}
+KNOWN = {"DEST", "GID", "BASE"}
 # The top of a file of release 4, whichever of its schemas it follows.
 TOP = "{http://autosar.org/schema/r4.0}AUTOSAR"
 # More than any number of a plan.
@@ -39,18 +41,22 @@ def plain(text):
 class Tree:
     """The elements of AUTOSAR files. A description may be parted into several; a path is the short names from a file's top down."""
 
-    def __init__(self, paths):
+    def __init__(self, paths, texts=None):
+        self.paths, self.texts = list(map(str, paths)), texts or {}
         self.read, self.by_path, self.path_of, self.followed = set(), {}, {}, set()
         self.doubles, self.passed = [], Counter()
-        self.roots = [self.parsed(path) for path in paths]
+        self.relative, self.whole = {}, {}
+        self.roots = [self.parsed(path) for path in self.paths]
         for root in self.roots:
             self.walk(root)
+        if self.relative:
+            References(self).resolve()
 
     def parsed(self, path):
         """A file's top. Tags lose their name space, and elements the white space between them: it would take half the memory."""
         bare = {}
         try:
-            for _, element in ET.iterparse(path):
+            for _, element in ET.iterparse(io.BytesIO(self.texts[path]) if path in self.texts else path):
                 tag = element.tag
                 element.tag = bare.get(tag) or bare.setdefault(tag, tag.rpartition("}")[2])
                 if len(element):
@@ -82,6 +88,8 @@ class Tree:
                 self.passed[f"attribute {name}"] += 1
         if element.get("DEST") is not None and not len(element):
             text = element.text
+            if not plain(text).startswith("/"):
+                self.relative[element] = element.get("BASE")
             element.clear()
             element.text = text
 
@@ -99,6 +107,21 @@ class Tree:
             elif element.tag in PLACED:
                 self.path_of[element] = f"{path}/{element.tag}"
             waiting += [(child, path) for child in reversed(element) if len(child)]
+
+    def take_out(self, parent, element):
+        """An element counts no more. Places in a file are counted by all elements that it has."""
+        for root in self.roots:
+            if root not in self.whole:
+                self.whole[root] = list(root.iter())
+        parent.remove(element)
+        for inner in element.iter():
+            path = self.path_of.pop(inner, None)
+            if path is not None and self.by_path.get(path) is inner:
+                del self.by_path[path]
+
+    def order(self, root):
+        """All elements of a file in their order."""
+        return self.whole.get(root) or root.iter()
 
     def of_kind(self, tag):
         return [element for root in self.roots for element in root.iter(tag)]
@@ -147,6 +170,16 @@ class Tree:
             return []
         groups = (group for group in data.iterfind("SDGS/SDG") if group.get("GID") == "slotplan")
         return [(row.get("GID"), self.own(row)) for group in groups for row in group.findall("SD") if row.get("GID") in keys]
+
+    def referring(self):
+        """The leaves that refer to each path, each with the element in which it stands."""
+        found = defaultdict(list)
+        for root in self.roots:
+            for element in root.iter():
+                for child in element:
+                    if not len(child) and (text := plain(child.text)).startswith("/"):
+                        found[text].append((child, element))
+        return found
 
     def unread(self):
         """How many leaves of each kind were not read, by the kind of the nearest named element and their own. A name by which a reference led, be it

@@ -23,7 +23,7 @@ class Options(NamedTuple):
 
 def write(file, plan, options=Options()):
     """Writes the plan to a file that is open for text."""
-    markup, names = Markup(file, "  "), Names(plan)
+    markup, names = Markup(file, "  "), Names(plan, options.cluster)
     bus, parts = Bus(markup, plan, names, options), Parts(markup, plan, names)
     file.write(HEAD)
     with markup.of("AR-PACKAGES"):
@@ -51,22 +51,26 @@ def system(markup, plan, names, options):
         markup.name("System")
         markup.leaf("CATEGORY", "SYSTEM_DESCRIPTION")
         with markup.of("FIBEX-ELEMENTS"):
-            for kind, path in members(plan, names, options):
-                with markup.of("FIBEX-ELEMENT-REF-CONDITIONAL"):
-                    markup.ref("FIBEX-ELEMENT-REF", kind, path)
+            member(markup, "FLEXRAY-CLUSTER", f"/Cluster/{options.cluster}")
+            for node in plan.nodes:
+                member(markup, "ECU-INSTANCE", names.ecu_path(node))
+            for frame in plan.frames:
+                members(markup, frame, names)
         markup.leaf("SYSTEM-VERSION", "1.0.0")
 
 
-def members(plan, names, options):
-    """The kind and path of each element of the system."""
-    yield "FLEXRAY-CLUSTER", f"/Cluster/{options.cluster}"
-    for node in plan.nodes:
-        yield "ECU-INSTANCE", names.ecu_path(node)
-    for frame in plan.frames:
-        yield "FLEXRAY-FRAME", names.frame_path(frame)
-        yield "I-SIGNAL-I-PDU", names.pdu_path(frame)
-        for signal in frame.signals:
-            yield "I-SIGNAL", names.signal_path(frame, signal)
+def member(markup, kind, path):
+    """An element of the system."""
+    with markup.of("FIBEX-ELEMENT-REF-CONDITIONAL"):
+        markup.ref("FIBEX-ELEMENT-REF", kind, path)
+
+
+def members(markup, frame, names):
+    """A frame, its PDU and its signals as elements of the system."""
+    member(markup, "FLEXRAY-FRAME", names.frame_path(frame))
+    member(markup, "I-SIGNAL-I-PDU", names.pdu_path(frame))
+    for signal in frame.signals:
+        member(markup, "I-SIGNAL", names.signal_path(frame, signal))
 
 
 def types(markup):
