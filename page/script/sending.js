@@ -5,6 +5,7 @@ import {goneCount, goneList, isSameGone, rowsGone} from "./gone.js";
 import {looked} from "./looking.js";
 import {bySomebody, placementsText} from "./meanwhile.js";
 import {attempt, confirmed, inTurn, say} from "./messages.js";
+import {tookWishes} from "./proposing.js";
 import {reread} from "./reading.js";
 import {isName, readFates} from "./reports.js";
 import {done} from "./steps.js";
@@ -45,19 +46,26 @@ export async function takeFile(desk, blob) {
     return;
   }
   const bytes = await blob.arrayBuffer().catch(() => null);
-  if (bytes) await takeLooked(desk, await looked(blob.name, new Uint8Array(bytes)));
-  else say("bad", `${blob.name} cannot be read. If another program has it open, close it there, and choose it again.`);
+  const file = bytes && await looked(blob.name, new Uint8Array(bytes));
+  if (file && (file.kind || !tookWishes(desk, file))) await takeLooked(desk, file);
+  else if (!bytes) say("bad", `${blob.name} cannot be read. If another program has it open, close it there, and choose it again.`);
 }
 
 // Takes a file that was looked at or mended, and tries it.
-export async function takeLooked(desk, file) {
-  desk.file = file && Object.assign(file, {way: "import", parts: null, part: 0, fates: null, gone: [], shown: [], onlyRefused: false});
+export async function takeLooked(desk, file, way = "import") {
+  desk.file = file && Object.assign(file, {way, parts: null, part: 0, fates: null, gone: [], shown: [], onlyRefused: false});
   if (file) {
     divide(file);
     file.label = suggestedLabel(file);
   }
   desk.tell("file");
   await tryFile(desk);
+}
+
+// The rows that were proposed are tried as a file of placements.
+export function takeProposal(desk, bytes, replaces) {
+  const records = recordsOf(new TextDecoder().decode(bytes));
+  return takeLooked(desk, {name: "proposal.csv", bytes, records, kind: "placements", fault: "", mend: null, notes: [], sheets: null}, replaces ? "replace" : "import");
 }
 
 function divide(file) {

@@ -556,6 +556,7 @@ const REFUSALS = {
   29: [\"BadRow\", \"A row of the file is refused, and nothing of it was carried out.\", \"\"],
   30: [\"BadKey\", \"The key does not have the form of a key.\", \"8 to 64 letters and digits.\"],
   31: [\"KeyTaken\", \"Somebody has this key already.\", \"Choose another one.\"],
+  32: [\"NoRoom\", \"No placement is left for the wish.\", \"A greater repetition, or a slot more, may help.\"],
 };
 
 const nameOfRefusal = number => REFUSALS[number]?.[0];
@@ -836,6 +837,9 @@ class Register {
     return answerOf(\"try\", await this.ask(replaces ? \"PUT\" : \"POST\", `variants/${variant}/tries${isWhole ? \"/whole\" : \"\"}`, file, false));
   }
 
+  // Where wishes would go.
+  async proposed(variant, file, replaces) { return answerOf(\"propose\", await this.ask(replaces ? \"PUT\" : \"POST\", `variants/${variant}/proposals`, file, false)); }
+
   async imported(variant, label, file) {
     return answerOf(\"imported\", await this.ask(\"POST\", `variants/${variant}/imports/${label}`, file));
   }
@@ -858,7 +862,7 @@ function parsed(text) {
 // An answer that says this word; imports and replacements say how many rows they have. After another one a change may have been carried out.
 function answerOf(word, text) {
   const answer = parsed(text), isOwn = answer?.ok === word && (!word.endsWith(\"ed\") || Number.isInteger(answer.rows));
-  if (!isOwn) throw Object.assign(new Strange(\"The server's answer is none of the register's.\"), {isChange: word !== \"try\"});
+  if (!isOwn) throw Object.assign(new Strange(\"The server's answer is none of the register's.\"), {isChange: word !== \"try\" && word !== \"propose\"});
   return answer;
 }
 
@@ -883,6 +887,8 @@ const FORMS = {
   cluster: form(\"(\\\\w+) (AB|A|B|\\\\d{1,10}|NAME)\"),
   variant: form(`NAME (-|${NAME}) (\\\\d{1,2}) (open|released)`),
   node: form(\"NAME\" + OWNER),
+  wish: form(\"(\\\\d{4,}) (\\\\d\\\\d) (?:NAME,NAME,(\\\\d{1,4}),(AB|A|B),(\\\\d{1,2}),(\\\\d{1,2})|(\\\\w{1,20}))\"),
+  lack: form(\"LACK NAME (AB|A|B) (\\\\d{4})\"),
   fate: form(\"(\\\\d{4,}) (\\\\d\\\\d) (\\\\w{1,20})(?: (\\\\d\\\\d) ([AB]) NAME| (\\\\d{4}) NAME)?\"),
 };
 
@@ -964,6 +970,19 @@ function readFates(answer) {
     }
     return fate;
   });
+}
+
+// A proposal: of each wish its record's number, and its placement or the refusal; and what is lacking, by nodes and channels.
+function readProposal(answer) {
+  if (!Array.isArray(answer.lines)) throw new Strange(\"The answer to a proposal has no lines.\");
+  const lines = answer.lines.map(String), isLack = line => line.startsWith(\"LACK \");
+  const lacks = lines.filter(isLack).map(line => fieldsOf(FORMS.lack, line)).map(([node, channels, lack]) => ({node, channels, lack: Number(lack)}));
+  const rows = lines.filter(line => !isLack(line)).map(line => {
+    const [record, number, frame, node, slot, channels, base, repetition, word] = fieldsOf(FORMS.wish, line), no = Number(number);
+    if ((frame !== undefined) !== (no === 0) || (no !== 0 && nameOfRefusal(no) !== word)) throw new Strange(`The server sent a line that no proposal has: ${short(line)}`);
+    return {record: Number(record), no, placement: no ? null : {frame, node, slot: Number(slot), channels, base: Number(base), repetition: Number(repetition)}};
+  });
+  return {rows, lacks};
 }
 
 function rowOf(line, me) {
@@ -2049,7 +2068,7 @@ const EMPTY = {
   register: null, isIntegrator: false, me: \"\", cluster: null, nodes: [], variants: [],
   variant: null, plan: null, difference: null,
   frame: null, placement: null, lane: null, found: null,
-  room: null, granting: null, draft: null, file: null, view: \"plan\", busy: 0, unansweredKey: \"\",
+  room: null, granting: null, draft: null, file: null, wishes: null, view: \"plan\", busy: 0, unansweredKey: \"\",
 };
 
 class Desk {
@@ -2319,9 +2338,7 @@ async function askDrop(desk, frame) {
     + \"Undo brings them back.\";
   if (await confirmed(`Drop ${frame.name}?`, text, \"Drop it\")) dropFrame(desk, frame.name);
 }
-";
 
-pub const PROGRAM_3: &str = "
 // ---- differences.js
 
 // The view of differences: what a variant has that another one has not, and the other way round.
@@ -2376,7 +2393,9 @@ function rowText(desk, row) {
   if (row.kind === \"signal\") return bitsText(row);
   return row.gap === Infinity ? \"never sent\" : desk.times.text(row.gap);
 }
+";
 
+pub const PROGRAM_3: &str = "
 // ---- gone.js
 
 // What a file would take away that takes the place of what was there: rows that the register has, and the file has not.
@@ -2695,6 +2714,176 @@ function cleaned(records) {
 
 const HEADERS_WIDE = Object.fromEntries(Object.entries(HEADERS).map(([header, kind]) => [kind, header.split(\",\").length]));
 
+// ---- wishes.js
+
+// Wishes: frames with the channels and the repetition that each wants, as they are typed, pasted or dropped; and what is proposed for them.
+
+const WISHES = [\"frame\", \"node\", \"channels\", \"repetition\"];
+const NAMES = {frame: /^frame(s|_name| name)?$/, node: /^(node|ecu|sender)s?$/, channels: /^channels?$/, repetition: /^(cycle )?repetition$/, gap: /^(greatest |largest |max )?gap|^(cycle|period|send)[ _]?time|^period|^cycle[ _]?time/};
+const UNITS = [[\"ms\", /\\bms\\b|millisecond/], [\"cycles\", /\\bcycles?\\b(?! ?time)/], [\"macroticks\", /\\bmacroticks?\\b|\\bmt\\b/]];
+const unitIn = text => UNITS.find(([, form]) => form.test(text))?.[0] ?? null;
+
+// Which column is which, by the names above them.
+function columnsOf(header) {
+  const heads = header.map(head => head.trim().toLowerCase().replace(/[_()[\\]]/g, \" \").replace(/ +/g, \" \").trim());
+  const found = Object.fromEntries(Object.entries(NAMES).map(([name, form]) => [name, heads.findIndex(head => form.test(head))]));
+  return {...found, unit: found.gap < 0 ? null : unitIn(heads[found.gap])};
+}
+
+// Whether a file's header is one of wishes, and of nothing else.
+function isOfWishes(header) {
+  const {frame, channels, repetition, gap} = columnsOf(header), heads = header.map(head => head.trim().toLowerCase());
+  return frame >= 0 && channels >= 0 && (repetition >= 0 || gap >= 0) && !heads.includes(\"base\") && !heads.includes(\"slot\");
+}
+
+// A longest gap in macroticks, or why it is not known.
+function macroticksOf(text, unit, {cluster, times}) {
+  const number = Number(text.replace(/[^\\d.,]/g, \"\").replace(\",\", \".\")), own = unitIn(text.toLowerCase()) ?? unit;
+  if (!(number > 0)) return {fault: `\"${short(text)}\" is no gap.`};
+  if (own === \"ms\" && !times.microseconds) return {fault: \"Choose milliseconds above, and say how long a macrotick is.\"};
+  if (own === \"cycles\") return {gap: number * cluster.macroticks_per_cycle};
+  return own === \"ms\" ? {gap: number * 1000 / times.microseconds} : own === \"macroticks\" ? {gap: number}
+    : {fault: `${number} has no unit: ms, macroticks or cycles.`};
+}
+
+// The greatest repetition that keeps a gap; below a cycle how many slots are wanted.
+function repetitionFor(gap, cluster) {
+  const fit = divisors(cluster.cycles).findLast(number => number * cluster.macroticks_per_cycle <= gap + 1e-6);
+  if (fit) return {repetition: fit};
+  const slots = Math.ceil(cluster.macroticks_per_cycle / gap - 1e-9);
+  return {fault: `It is shorter than a cycle, so it needs ${slots} slots in each: ask for ${slots} placements of repetition 1.`};
+}
+
+function repetitionOf(record, columns, desk) {
+  const own = columns.repetition < 0 ? \"\" : (record[columns.repetition] ?? \"\").trim();
+  if (own) return /^\\d{1,2}$/.test(own) ? {repetition: Number(own)} : {fault: `\"${short(own)}\" is no repetition.`};
+  const {gap, fault} = macroticksOf((record[columns.gap] ?? \"\").trim(), columns.unit, desk);
+  return fault ? {fault} : repetitionFor(gap, desk.cluster);
+}
+
+// The wishes of a text, as of a spreadsheet's columns: of each its fields, what was asked in place of a repetition, and what is wrong.
+function wishesIn(text, desk) {
+  const comma = [\"\\t\", \";\", \",\"].find(one => text.split(\"\\n\", 1)[0].includes(one)) ?? \",\";
+  const [header, ...records] = recordsOf(text, comma);
+  if (!header || !isOfWishes(header)) return {wishes: [], fault: `The first line names the columns: ${WISHES.join(\", \")}; in place of repetition also gap or cycle time, with ms, macroticks or cycles.`};
+  const columns = columnsOf(header), field = (record, name) => (record[columns[name]] ?? \"\").trim();
+  const wishes = records.filter(record => record.some(one => one.trim())).map(record => {
+    const frame = field(record, \"frame\"), channels = field(record, \"channels\").toUpperCase().replace(/[^AB]/g, \"\");
+    const node = columns.node < 0 ? \"\" : field(record, \"node\"), {repetition = null, fault = \"\"} = repetitionOf(record, columns, desk);
+    return {frame, node: node || (desk.plan.frameNamed(desk.me, frame)?.node ?? \"\"), channels, repetition, asked: columns.gap < 0 ? \"\" : field(record, \"gap\"), fault};
+  });
+  return {wishes, fault: wishes.length ? \"\" : \"There is no wish below the first line.\"};
+}
+
+const fileOfWishes = wishes => fileOf([WISHES, ...wishes.map(({frame, node, channels, repetition}) => [frame, node, channels, String(repetition)])]);
+
+// The file that a proposal makes: its placements.
+const placementsFile = rows => fileOf([[\"frame\", \"node\", \"slot\", \"channels\", \"base\", \"repetition\"],
+  ...rows.filter(({placement}) => placement).map(({placement: {frame, node, slot, channels, base, repetition}}) => [frame, node, slot, channels, base, repetition].map(String))]);
+
+// What came of the wishes, in a sentence: `stay` are those whose placement is there already.
+function proposalText({rows, lacks}, plan, me, replaces) {
+  const fits = rows.filter(({placement}) => placement), places = new Set(plan.frames.filter(({supplier}) => supplier === me).flatMap(frame => frame.placements.map(one => frame.name + placeText(one))));
+  const stay = replaces ? fits.filter(({placement}) => places.has(placement.frame + placeText(placement))).length : 0, stays = replaces ? ` ${grouped(stay)} ${stay === 1 ? \"stays where it is\" : \"stay where they are\"}.` : \"\";
+  if (fits.length === rows.length) return `${rows.length > 1 ? `All ${grouped(rows.length)} fit` : \"It fits\"}.${stays}`;
+  return [`${grouped(fits.length)} of ${grouped(rows.length)} fit.`, ...lacks.map(lackText)].join(\" \") + stays;
+}
+
+const lackText = ({node, channels, lack}) => `Node ${node} needs ${plural(lack, \"slot\")} more on ${channels === \"AB\" ? \"A and B\" : channels}.`;
+
+// A mail to the integrator that asks for the slots that are lacking.
+const lackMail = (lacks, {variant, me}) => [`Dear integrator,`, \"\", `for ${variant} the wishes of ${me} do not all find room. Please grant us:`,
+  ...lacks.map(({node, channels, lack}) => `- ${plural(lack, \"slot\")}, empty in all cycles, on ${channels === \"AB\" ? \"A and B\" : channels}, for node ${node}`), \"\", \"Thank you.\"].join(\"\\n\");
+
+// ---- proposing.js
+
+// The card of wishes: what is typed, pasted or dropped there is tried on the plan, and what would come of it is shown. Nothing is sent by it.
+
+// The card's content: a text of wishes, what was read in it, and what was proposed in which variant.
+const wishesOf = (text, replaces) => ({text, replaces, list: [], fault: \"\", proposal: null, variant: null});
+
+// Takes a text of wishes, and forgets what was proposed for others.
+function takeWishes(desk, text) {
+  desk.wishes = wishesOf(text, desk.wishes?.replaces ?? false);
+  desk.tell(\"file\", \"pending\");
+}
+
+// Whether a file that was looked at has wishes: then it is taken so.
+function tookWishes(desk, file) {
+  const records = file.sheet?.records ?? file.sheets?.[0]?.records ?? recordsOf(new TextDecoder().decode(file.bytes), [\"\\t\", \";\", \",\"].find(one => file.records[0]?.join(\",\").includes(one)) ?? \",\");
+  if (!records[0] || !isOfWishes(records[0])) return false;
+  takeWishes(desk, records.map(record => record.join(\"\\t\")).join(\"\\n\"));
+  return true;
+}
+
+// The placements that are proposed in the variant that is shown, which the plan outlines.
+const proposedIn = ({wishes, variant}) => wishes?.proposal && wishes.variant === variant
+  ? wishes.proposal.rows.map(({placement}) => placement).filter(Boolean) : [];
+
+// Asks where the wishes would go. Rows that are no wish are left out, and told.
+const propose = (desk, without = new Set()) => inTurn(desk, () => attempt(desk, async () => {
+  const {text, replaces} = desk.wishes, read = wishesIn(text, desk), list = read.wishes.filter(({frame}) => !without.has(frame));
+  const sent = list.filter(({fault}) => !fault);
+  Object.assign(desk.wishes, {list, fault: read.fault || (sent.length > MOST_ROWS ? `At most ${MOST_ROWS} wishes go at once; these are ${grouped(sent.length)}.` : \"\"), proposal: null, variant: desk.variant});
+  if (!desk.wishes.fault && sent.length) {
+    const {rows, lacks} = readProposal(await desk.register.proposed(desk.variant, fileOfWishes(sent), replaces));
+    sent.forEach((wish, at) => { wish.row = rows.find(({record}) => record === at + 2); });
+    desk.wishes.proposal = {rows, lacks};
+  }
+  desk.tell(\"file\", \"pending\");
+}, \"Looking where the wishes fit ...\"));
+
+const EXAMPLE = \"frame\\tnode\\tchannels\\tcycle time ms\\nwheel_speed\\tbrake_unit\\tA\\t10\";
+
+function wishesCard(desk, take) {
+  const wishes = desk.wishes ??= wishesOf(\"\", false);
+  const area = make(\"textarea\", {id: \"wishes-text\", rows: 5, spellcheck: \"false\", autocapitalize: \"none\", placeholder: EXAMPLE, \"aria-label\": \"Wishes\"});
+  area.value = wishes.text;
+  area.addEventListener(\"input\", () => { wishes.text = area.value; });
+  const way = (value, replaces, words) => make(\"label\", {class: \"check\"}, make(\"input\", {type: \"radio\", name: \"way\", value, checked: wishes.replaces === replaces,
+    onchange: () => { wishes.replaces = replaces; }}), words);
+  return make(\"form\", {class: \"card\", novalidate: \"\", onsubmit: event => { event.preventDefault(); propose(desk); }}, make(\"h2\", {}, \"Propose where frames go\"),
+    note(\"A line for each wish, as copied from a spreadsheet, below the names of its columns: frame, node, channels, and repetition, or gap or cycle time \"
+      + \"with ms, macroticks or cycles. Such a file may be dropped too. Nothing is changed by a proposal.\"), area,
+    make(\"div\", {class: \"row\", role: \"radiogroup\", \"aria-label\": \"What the wishes may move\"}, way(\"propose\", false, \"beside what is there\"),
+      way(\"propose-anew\", true, \"in place of what these frames have\")),
+    row(make(\"button\", {type: \"submit\", class: \"main\", id: \"propose\"}, \"Propose\")), wishes.list.length || wishes.fault ? proposalBox(desk, wishes, take) : \"\");
+}
+
+function proposalBox(desk, wishes, take) {
+  const {proposal, fault, list, replaces} = wishes, faulty = list.filter(one => one.fault).length;
+  if (fault || !proposal) return make(\"div\", {id: \"proposed\"}, make(\"p\", {class: \"fault\", role: \"alert\"}, fault || \"No row is a wish that can be asked.\"), list.length ? wishTable(desk, list) : \"\");
+  const {rows, lacks} = proposal, homeless = rows.filter(({placement}) => !placement), fits = rows.length - homeless.length;
+  const again = () => propose(desk, new Set(list.filter(({row}) => row && !row.placement).map(({frame}) => frame)));
+  const isOffered = fits && !(replaces && homeless.length);
+  return make(\"div\", {id: \"proposed\"}, make(\"p\", {}, make(\"strong\", {}, proposalText(proposal, desk.plan, desk.me, replaces)),
+    faulty ? ` ${plural(faulty, \"row\")} of the text ${faulty === 1 ? \"was\" : \"were\"} not asked.` : \"\"),
+    row(isOffered ? button(`Try ${fits === 1 ? \"this row\" : `these ${grouped(fits)} rows`}`, () => take(placementsFile(rows), replaces), {class: \"main\", id: \"take-proposal\"}) : \"\",
+      homeless.length && replaces ? button(\"Propose without the frames that have no room\", again) : \"\", button(\"Forget it\", () => takeWishes(desk, \"\"))),
+    lacks.length ? lackBox(desk, lacks) : \"\", wishTable(desk, list));
+}
+
+function lackBox(desk, lacks) {
+  const area = make(\"textarea\", {id: \"lack\", rows: 5, readonly: \"\", \"aria-label\": \"A text to mail to the integrator\"});
+  area.value = lackMail(lacks, desk);
+  const copy = async () => {
+    area.select();
+    try { await navigator.clipboard.writeText(area.value); say(\"good\", \"The text is copied.\"); } catch { say(\"warn\", \"Press Ctrl+C: the text is chosen.\"); }
+  };
+  return [area, row(button(\"Copy it for a mail\", copy))];
+}
+
+const wishTable = (desk, list) => longTable([\"frame\", \"node\", \"channels\", \"asked\", [\"repetition\", \"num\"], \"where\"], list, wish => tableRow([
+  wish.frame, wish.node, wish.channels, wish.asked, [wish.repetition ?? \"\", \"num\"], whereCell(desk, wish)], wish.fault || !wish.row?.placement ? \"bad\" : \"\"));
+
+function whereCell(desk, {fault, row: found}) {
+  if (fault) return fault;
+  if (!found) return \"\";
+  if (!found.placement) return found.no === 32 ? \"no room\" : explained({no: found.no});
+  const {slot, channels, base} = found.placement;
+  return make(\"span\", {}, longPlaceText(found.placement), \" \", button(\"Show\", () => desk.reveal(slot, channels[0], base), {\"aria-label\": `Show slot ${slot} ${channels}`}));
+}
+
 // ---- sending.js
 
 // A file on its way to the register: it is looked at, tried row by row, and carried out, in parts where it is too large for one.
@@ -2734,19 +2923,26 @@ async function takeFile(desk, blob) {
     return;
   }
   const bytes = await blob.arrayBuffer().catch(() => null);
-  if (bytes) await takeLooked(desk, await looked(blob.name, new Uint8Array(bytes)));
-  else say(\"bad\", `${blob.name} cannot be read. If another program has it open, close it there, and choose it again.`);
+  const file = bytes && await looked(blob.name, new Uint8Array(bytes));
+  if (file && (file.kind || !tookWishes(desk, file))) await takeLooked(desk, file);
+  else if (!bytes) say(\"bad\", `${blob.name} cannot be read. If another program has it open, close it there, and choose it again.`);
 }
 
 // Takes a file that was looked at or mended, and tries it.
-async function takeLooked(desk, file) {
-  desk.file = file && Object.assign(file, {way: \"import\", parts: null, part: 0, fates: null, gone: [], shown: [], onlyRefused: false});
+async function takeLooked(desk, file, way = \"import\") {
+  desk.file = file && Object.assign(file, {way, parts: null, part: 0, fates: null, gone: [], shown: [], onlyRefused: false});
   if (file) {
     divide(file);
     file.label = suggestedLabel(file);
   }
   desk.tell(\"file\");
   await tryFile(desk);
+}
+
+// The rows that were proposed are tried as a file of placements.
+function takeProposal(desk, bytes, replaces) {
+  const records = recordsOf(new TextDecoder().decode(bytes));
+  return takeLooked(desk, {name: \"proposal.csv\", bytes, records, kind: \"placements\", fault: \"\", mend: null, notes: [], sheets: null}, replaces ? \"replace\" : \"import\");
 }
 
 function divide(file) {
@@ -2860,7 +3056,8 @@ function showFiles(desk) {
     refill(byId(\"view-files\"), down, make(\"p\", {}, why));
     return;
   }
-  refill(byId(\"view-files\"), card(\"Send a file\", dropZone(desk), file ? fileBox(desk, file) : \"\"), down);
+  refill(byId(\"view-files\"), card(\"Send a file\", dropZone(desk), file ? fileBox(desk, file) : \"\"),
+    wishesCard(desk, (bytes, replaces) => takeProposal(desk, bytes, replaces)), down);
 }
 
 function dropZone(desk) {
@@ -3151,7 +3348,9 @@ function paintMark(ink, sheet, x, cycle, isNew, isEmpty) {
   fillBox(ink, isNew ? GREEN : RED, middle[0] - 3.5, middle[1] - 0.8, 7, 1.6);
   if (isNew) fillBox(ink, GREEN, middle[0] - 0.8, middle[1] - arm, 1.6, arm * 2);
 }
+";
 
+pub const PROGRAM_4: &str = "
 // ---- cells.js
 
 // A cell of the plan that was pointed at: what is there, and what it is in words.
@@ -3201,9 +3400,7 @@ function changes(desk, {lane, cycle}) {
   const {from} = desk.difference;
   return (change.now ? ` New since ${from}.` : \"\") + (change.then ? ` In ${from} ${change.then.frame} is sent here.` : \"\");
 }
-";
 
-pub const PROGRAM_4: &str = "
 // ---- sheet.js
 
 // Where each slot and cycle of a plan stands on a sheet: that of the window, or one to print. Cycles go down, slots across.
@@ -3351,6 +3548,18 @@ function paintPending(ink, {sheet, desk}) {
       const y = sheet.y(cycle), tall = sheet.height(cycle);
       fillBox(ink, \"#ffd98a\", stretch.x + 1, y + 1, stretch.wide - 1, tall - 1);
       if (sheet.width >= 6) write(ink, \"...\", stretch.x + stretch.wide / 2, y + tall / 2 - 1, \"#4a3200\", 10, \"center\", \"bold\");
+    }
+  }
+}
+
+// What is proposed for wishes, as outlines over what is there.
+function paintProposed(ink, {sheet, desk}) {
+  for (const placement of proposedIn(desk)) {
+    const stretch = sheet.stretch(placement.slot, placement.channels);
+    if (!stretch) continue;
+    for (const cycle of desk.plan.cyclesOf(placement)) {
+      strokeBox(ink, \"#fff\", 4, stretch.x + 1.5, sheet.y(cycle) + 1.5, stretch.wide - 2, sheet.height(cycle) - 2);
+      strokeBox(ink, \"#7a1fa2\", 2, stretch.x + 1.5, sheet.y(cycle) + 1.5, stretch.wide - 2, sheet.height(cycle) - 2);
     }
   }
 }
@@ -3513,6 +3722,7 @@ class Grid {
       paintColumns(ink, this, part);
       paintRoom(ink, this, part);
       paintPending(ink, this);
+      paintProposed(ink, this);
       paintPicked(ink, this);
       paintChosen(ink, this);
       if (document.activeElement === canvas) paintCursor(ink, this);
