@@ -71,11 +71,11 @@ question_of (rows.PlacementRecords _) = Some (of_variant (Export header.Placemen
 question_of (rows.SignalRecords _) = Some (of_variant (Export header.Signals field.Part))
 question_of (rows.Difference _) = Some (Difference field.Variant field.From)
 question_of (rows.Fates _) = None
-question_of (rows.Proposal _) = None
+question_of (rows.Proposal _ _) = None
 
 -- the word of a file that is answered by rows: that of a proposal, else of a trial
 abbrev pub word_of_file : ReportRows → List ℕ
-word_of_file (rows.Proposal _) = codes "propose"
+word_of_file (rows.Proposal _ _) = codes "propose"
 word_of_file _ = codes "try"
 
 -- the name of the report that has these rows: the word by which it is asked for

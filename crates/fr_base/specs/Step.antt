@@ -21,7 +21,8 @@ use Rattle.fr_base.specs.Cluster.{Cluster, keys_of}
 use Rattle.fr_base.specs.Layouts.{LayoutData, has_signal, with_signal, without_signal, admits_signal}
 use Rattle.fr_base.specs.ImportRows.{header_of_body, rows_of_body, all_rows_of_body}
 use Rattle.fr_base.specs.Queries.{reply}
-pub use Rattle.fr_base.specs.OwnRows.{OwnRows, own_rows}
+pub use Rattle.fr_base.specs.OwnRows.{OwnRows}
+unfoldable pub use Rattle.fr_base.specs.OwnRows.{own_rows}
 use Rattle.fr_base.specs.Wishes.{wishes_of_body}
 use Rattle.fr_base.specs.Proposals.{proposal}
 use Rattle.fr_base.specs.Names.{same_text}
@@ -447,7 +448,7 @@ propose p b d replace = do
   refuse Limit when nat_lt MAX_IMPORT_BYTES (length d.body)
   Ok (record {
     book = b;
-    answer = answer.Report false (shows.Proposal (proposal (own_rows p b d.supplier variant) replace (wishes_of_body p d.body)));
+    answer = answer.Report false (shows.Proposal replace (proposal (own_rows p b d.supplier variant) replace (wishes_of_body p d.body)));
   })
 
 -- ---- the step

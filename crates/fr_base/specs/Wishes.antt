@@ -1,7 +1,7 @@
 -- Wishes: what the bytes of a file of wishes say. The first record is the header `frame,node,channels,repetition`. Each further
 -- record is a wish, that a frame have one more placement with these channels and this repetition, or its own refusal; a refused one keeps none after it
 -- from being read. There are at most 512.
-use Rattle.std.specs.Prelude.{ℕ, suc, ◌+◌, ◌==◌, Bool, not, List, [], ◌∷◌, length, take, codes, nat_lt, if◌then◌else◌, Result, Ok, Err}
+use Rattle.std.specs.Prelude.{ℕ, suc, ◌+◌, ◌==◌, Bool, false, not, List, [], ◌∷◌, length, take, codes, nat_lt, if◌then◌else◌, Result, Ok, Err}
 use Rattle.std.specs.Cmp.Lexicographic.{pointwise}
 use Rattle.fr_base.specs.Refusing.{◌>>=◌, ◌>>◌, refuse◌when◌}
 use Rattle.fr_base.specs.Names.{same_text}

@@ -65,8 +65,8 @@ pub enum ReportRows {
     Difference(Rows<DifferenceRow>),
     /// What would become of each row of a file, by its line.
     Fates(Rows<FateRow>),
-    /// What is proposed for a file of wishes.
-    Proposal(Proposal),
+    /// What is proposed for a file of wishes, and whether it is to replace what the frames have that they name.
+    Proposal { replaces: bool, proposal: Proposal },
 }
 
 // It is written out, so that a caller does not prove again how each kind of answer is dropped.
@@ -127,7 +127,7 @@ impl ReportRows {
             ReportRows::SignalRecords(_) => forms::EXPORT_SIGNALS,
             ReportRows::Difference(_) => forms::DIFF,
             ReportRows::Fates(_) => forms::TRY,
-            ReportRows::Proposal(_) => forms::PROPOSE,
+            ReportRows::Proposal { .. } => forms::PROPOSE,
         }
     }
 }

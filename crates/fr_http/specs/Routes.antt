@@ -57,6 +57,8 @@ method_of_delivery (purpose.Import label) = Post
 method_of_delivery (purpose.Replacement whole) = Put
 method_of_delivery (purpose.Trial (manner.Replace whole)) = Put
 method_of_delivery (purpose.Trial manner.Import) = Post
+method_of_delivery (purpose.Proposal true) = Put
+method_of_delivery (purpose.Proposal false) = Post
 
 abbrev pub method_of : Route → Method
 method_of Commands = Post
@@ -135,6 +137,7 @@ table =
     ∷ (codes "/v1/variants/{variant}/rows/whole", One (Deliver (purpose.Replacement true)))
     ∷ (codes "/v1/variants/{variant}/tries", Two (Deliver (purpose.Trial manner.Import)) (Deliver (purpose.Trial (manner.Replace false))))
     ∷ (codes "/v1/variants/{variant}/tries/whole", One (Deliver (purpose.Trial (manner.Replace true))))
+    ∷ (codes "/v1/variants/{variant}/proposals", Two (Deliver (purpose.Proposal false)) (Deliver (purpose.Proposal true)))
     ∷ (codes "/v1/variants/{variant}/picture", One (Picture false))
     ∷ (codes "/v1/variants/{variant}/since/{from}/picture", One (Picture true))
     ∷ []

@@ -25,7 +25,7 @@ pub enum Route {
     Advice(Subject),
     /// The body is a request.
     Commands,
-    /// The body is a file of rows that is delivered. The label of an import stands in the path.
+    /// The body is a file of rows or wishes that is delivered. The label of an import stands in the path.
     Deliver(Purpose<PathName>),
     /// A query. Each name and number in it stands in the path.
     Query(Query<PathName, PathName>),
@@ -57,7 +57,7 @@ impl Route {
     }
 }
 
-// The method by which a file of rows is delivered: an import adds, and a replacement puts rows in place of others.
+// The method by which a file is delivered: an import adds, and a replacement puts rows in place of others.
 fn method_of_delivery(how: Purpose<PathName>) -> Method
     ensures { result ≡ method_of_delivery how }
 {
@@ -65,11 +65,13 @@ fn method_of_delivery(how: Purpose<PathName>) -> Method
         Purpose::Import { .. }
         | Purpose::Trial {
             manner: Manner::Import,
-        } => Method::Post,
+        }
+        | Purpose::Proposal { replace: false } => Method::Post,
         Purpose::Replacement { .. }
         | Purpose::Trial {
             manner: Manner::Replace { .. },
-        } => Method::Put,
+        }
+        | Purpose::Proposal { replace: true } => Method::Put,
     }
 }
 
@@ -213,9 +215,16 @@ fn trial(manner: Manner) -> Route
     Route::Deliver(Purpose::Trial { manner })
 }
 
+// The route for a file of wishes.
+fn proposal(replace: bool) -> Route
+    ensures { result ≡ Route.Deliver (Purpose.Proposal replace) }
+{
+    Route::Deliver(Purpose::Proposal { replace })
+}
+
 /// What each path leads to, by the pattern that it matches.
 #[tactic(auto, unfolding(crate::specs::Routes::table))]
-pub(crate) fn routes() -> [(&'static str, Resource); 27]
+pub(crate) fn routes() -> [(&'static str, Resource); 28]
     ensures { map (λ entry. (entry.0.now, entry.1)) result ≡ table }
 {
     use Resource::{One, Two};
@@ -291,6 +300,10 @@ pub(crate) fn routes() -> [(&'static str, Resource); 27]
             deliver(Purpose::Trial {
                 manner: Manner::Replace { whole: true },
             }),
+        ),
+        (
+            "/v1/variants/{variant}/proposals",
+            Two(proposal(false), proposal(true)),
         ),
         (
             "/v1/variants/{variant}/picture",

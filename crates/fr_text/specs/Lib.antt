@@ -10,6 +10,7 @@ pub mod Words
 pub mod RoomLines
 pub mod FateLines
 pub mod Report
+pub mod ProposalFiles
 pub mod Styles
 pub mod AnswerText
 pub mod Writing
