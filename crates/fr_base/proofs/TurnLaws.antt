@@ -64,7 +64,7 @@ IsChain [] = Unit {0}
 IsChain (r ∷ rs) = DividesEach r rs × IsChain rs
 
 -- what is given in these wishes' turns, with more wishes behind
-abbrev given_and : List Given → List Wish → List Wish
+abbrev pub given_and : List Given → List Wish → List Wish
 given_and given more = placed_wishes given ++ more
 
 module _ (own : OwnRows) (m : Name) (cs : Channels) (count : is_cycle_count own.params.cycles ≡ true) (has : IsTrue (list_all (has_channel own.params.channels) (channels_in cs))) where

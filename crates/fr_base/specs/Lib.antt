@@ -65,3 +65,4 @@ pub mod FateLaws
 pub mod RefusedRooms
 pub mod RunLaws
 pub mod Fits
+pub mod ProposalLaws

@@ -113,6 +113,7 @@ pub use laws::load_is_told;
 pub use laws::load_shows_each_lane;
 pub use laws::load_shows_own_lanes;
 pub use laws::new_is_old_edited;
+pub use laws::no_room_is_certain;
 pub use laws::no_room_where_released;
 pub use laws::nothing_differs_from_itself;
 pub use laws::nothing_is_gone_and_new;
