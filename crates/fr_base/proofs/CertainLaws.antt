@@ -352,7 +352,7 @@ module _ (own : OwnRows) (reads : List WishRead) (first : ℕ) (numbered : AreNu
 -- ---- the law
 
 -- a slot that is held has channels of the cluster
-held-has : (c : Cluster) (b : Book) (s v n : Name) (x : Variant) (cs : Channels) (ss : List ℕ) → IsSound c b → get b.variants v ≡ Some x → list_any (holds (own_rows c.params b s x) n cs) ss ≡ true → IsTrue (list_all (has_channel c.params.channels) (channels_in cs))
+pub held-has : (c : Cluster) (b : Book) (s v n : Name) (x : Variant) (cs : Channels) (ss : List ℕ) → IsSound c b → get b.variants v ≡ Some x → list_any (holds (own_rows c.params b s x) n cs) ss ≡ true → IsTrue (list_all (has_channel c.params.channels) (channels_in cs))
 unfolding own_rows
 held-has c b s v n x cs [] sound found h = absurd (true≢false (sym h))
 held-has c b s v n x cs (slot ∷ ss) sound found h = elim (cases_Bool (holds (own_rows c.params b s x) n cs slot)) [
@@ -364,7 +364,7 @@ held-has c b s v n x cs (slot ∷ ss) sound found h = elim (cases_Bool (holds (o
   | inr other ↦ held-has c b s v n x cs ss sound found (rw other at h)
 ]
 
-sound-count : (c : Cluster) (b : Book) → IsSound c b → is_cycle_count c.params.cycles ≡ true
+pub sound-count : (c : Cluster) (b : Book) → IsSound c b → is_cycle_count c.params.cycles ≡ true
 sound-count c b sound = counted_cycles c.params sound.cluster.params
 
 pub certain : NoRoomIsCertain

@@ -1,5 +1,5 @@
 -- Laws of proposals. Where the repetitions of a node's wishes are a chain, a wish has no room exactly where it does not fit.
-use Rattle.std.specs.Prelude.{◌≡◌, ◌⊎◌, ◌↔◌, ℕ, ◌%◌, ◌==◌, Bool, true, false, not, List, [], ◌∷◌, ◌++◌, map, filter, find, is_some, is_none, length, Option, Some, None, option_map, Result, Ok, Err, IsTrue}
+use Rattle.std.specs.Prelude.{◌≡◌, ◌⊎◌, ◌↔◌, ℕ, ◌%◌, ◌==◌, Bool, true, false, not, List, [], ◌∷◌, ◌++◌, map, filter, find, is_some, is_none, length, Option, Some, None, option_map, Result, Ok, Err, IsTrue, IsFalse}
 use Rattle.std.specs.List.{AllByRecursion, filter_map, list_all}
 use Rattle.fr_base.specs.Tables.{get}
 use Rattle.fr_base.specs.Cluster.{Cluster}
@@ -11,7 +11,15 @@ use Rattle.fr_base.specs.RefusedWishes.{asked_of}
 use Rattle.fr_base.specs.Proposals.{filled_places, is_of_node, judged_wishes, proposal}
 use Rattle.fr_base.specs.Sound.{IsSound}
 use Rattle.fr_base.specs.Fits.{Fit}
+use Rattle.fr_base.specs.ExportedLaws.{File, ReadsAs, MayBeKept}
+use Rattle.fr_base.specs.Step.{knows, step}
+use Rattle.fr_base.specs.declared.actor.Actor.TheVariants.{Supplier}
+use Rattle.fr_base.specs.declared.answer.Answer.TheVariants.{Imported}
+use Rattle.fr_base.specs.declared.delivery.Purpose.TheVariants as purpose
+use Rattle.fr_base.specs.declared.request.Request.TheVariants.{Deliver}
 use Rattle.fr_base.specs.declared.channel.Channels.{Channels}
+use Rattle.fr_base.specs.declared.import.Row.{Row}
+use Rattle.fr_base.specs.declared.import.Row.TheVariants.{Place}
 use Rattle.fr_base.specs.declared.name.Name.{Name}
 use Rattle.fr_base.specs.declared.placement.Placement.{Placement}
 use Rattle.fr_base.specs.declared.proposal.Proposal.{Proposal}
@@ -38,6 +46,15 @@ AreChain (r ∷ rs) = AllByRecursion (OneDivides r) rs × AreChain rs
 -- the node's wishes that are not refused, in the order of lines
 abbrev pub asked_of_node : OwnRows → Bool → List WishRead → Name → List Asked
 asked_of_node own replace reads n = filter (is_of_node n) (asked_of (judged_wishes own replace reads))
+
+-- the record of a placement that is told, as a row of a file
+abbrev pub record_of : Result ProposedPlacement Refusal → Option Row
+record_of (Ok placed) = Some (Place placed.frame placed.node placed.placement)
+record_of (Err refusal) = None
+
+-- the records of a proposal, in the order of the wishes
+abbrev pub records_told : Proposal → List Row
+records_told told = filter_map (λ row. record_of row.proposed) told.rows
 
 -- what is told of a line
 abbrev pub told_at : Proposal → ℕ → Option (Result ProposedPlacement Refusal)
@@ -79,3 +96,13 @@ NoRoomIsCertain = (c : Cluster) (b : Book) (s v n : Name) (x : Variant) (body : 
     AreChain (map (λ a. a.wish.repetition) wishes) → in_turn c.params wishes ≡ before ++ asked ∷ after →
     (told_at told asked.line ≡ Some (Err NoRoom))
     ↔ ¬ Fit own (there_and own told asked.wish.channels before) (placed_on told asked.wish.channels before ++ asked.wish ∷ [])
+
+-- ---- what is proposed is accepted
+
+-- In a sound book a supplier that is known asks for a proposal for an open variant, without `replace`. The records of the proposal are the rows of a file, which
+-- may be kept under its label. The import of it into this variant is answered Imported, with as many rows as there are records.
+abbrev pub ProposalIsImported : Type 0
+ProposalIsImported = (c : Cluster) (b : Book) (s v : Name) (x : Variant) (body : List ℕ) (file : File) → IsSound c b → IsTrue (knows b (Supplier s)) → get b.variants v ≡ Some x → IsFalse x.released →
+    let records = records_told (proposal (own_rows c.params b s x) false (wishes_of_body c.params body)) in
+    ReadsAs c.params file.body records → MayBeKept b s (file ∷ []) →
+    (step c b (Supplier s) (Deliver v (purpose.Import file.label) file.body)).answer ≡ Imported (length records)
