@@ -1,7 +1,7 @@
 -- What is proposed is accepted: the import of a proposal's records is done.
-use Rattle.std.proofs.Common.{◌≡◌, ◌≢◌, ◌⊎◌, ◌<◌, ◌≤◌, ◌∙◌, ℕ, suc, Bool, true, false, List, [], ◌∷◌, map, length, Option, Some, None, option_map, Result, Ok, IsTrue, refl, sym, ap, subst, inl, inr, arith}
-use Rattle.std.specs.List.{AllByRecursion, list_all}
-use Rattle.fr_base.specs.Tables.{Table, get, contains, len, each}
+use Rattle.std.proofs.Common.{◌≡◌, ◌<◌, ◌∙◌, suc, false, List, [], ◌∷◌, map, length, Some, option_map, Result, Ok, IsTrue, refl, ap, inl, inr, arith}
+use Rattle.std.specs.List.{list_all}
+use Rattle.fr_base.specs.Tables.{get, len}
 use Rattle.fr_base.specs.Keys.{owned}
 use Rattle.fr_base.specs.Cells.{slots_of}
 use Rattle.fr_base.specs.Channels.{channels_in, has_channel}
@@ -30,7 +30,7 @@ use Rattle.fr_base.proofs.TurnOrder.{Pairs, each-of, of-each}
 use Rattle.fr_base.proofs.GivenLaws.{the_judged, all_given, asked-by_line, wish-admitted}
 use Rattle.fr_base.proofs.CertainLaws.{held-has, sound-count}
 use Rattle.fr_base.proofs.GivenPlaces.{placed-stands, placed-apart}
-use Rattle.fr_base.proofs.AcceptedRuns.{IsAlong, Passes, runs}
+use Rattle.fr_base.proofs.AcceptedRuns.{IsAlong, runs}
 
 same-length : (reads : List RowRead) (rows : List Row) → map (λ r. r.row) reads ≡ map Ok rows → length reads ≡ length rows
 same-length [] [] e = refl

@@ -1,19 +1,19 @@
 -- The placements of a proposal, row by row: each is accepted where those before it stand.
-use Rattle.std.proofs.Common.{◌≡◌, ◌≢◌, ◌⊎◌, ◌<◌, ◌≤◌, ◌+◌, ◌∙◌, ℕ, zero, suc, Bool, true, false, not, cond, nat_le, List, [], ◌∷◌, ◌++◌, map, filter, find, flat_map, length, Option, Some, None, option_map, is_some, Result, Ok, Err, IsTrue, refl, sym, ap, subst, inl, inr, arith, true≢false}
+use Rattle.std.proofs.Common.{◌≡◌, ◌⊎◌, ◌<◌, ◌≤◌, ◌+◌, ◌∙◌, ℕ, Bool, true, false, not, cond, nat_le, List, [], ◌∷◌, ◌++◌, map, flat_map, length, Option, Some, None, option_map, is_some, Result, Ok, Err, IsTrue, refl, sym, ap, subst, inl, inr, arith, true≢false}
 use Rattle.std.specs.Prelude.{⊤}
-use Rattle.std.specs.List.{AllByRecursion, cons_option, filter_map, list_any}
+use Rattle.std.specs.List.{AllByRecursion, cons_option, filter_map}
 use Rattle.std.proofs.lemmas.Bool.{cases_Bool}
 use Rattle.std.proofs.lemmas.Bool.Decides.{nat_tests}
 use Rattle.fr_base.specs.Refusing.{◌>>=◌, ◌>>◌, ◌or◌, refuse◌when◌}
-use Rattle.fr_base.specs.Tables.{Table, Becomes, empty, get, contains, len, insert, each, settle}
-use Rattle.fr_base.specs.Keys.{owned, channel_slots, placement_order}
+use Rattle.fr_base.specs.Tables.{Table, Becomes, empty, get, contains, len, insert, settle}
+use Rattle.fr_base.specs.Keys.{owned, placement_order}
 use Rattle.fr_base.specs.Cells.{Cell, cells_of, has_cell}
 use Rattle.fr_base.specs.Schedule.{fill, first_taken}
 use Rattle.fr_base.specs.Names.{same_text}
 use Rattle.fr_base.specs.Book.{Frame, Sender, Variant, Book, is_of, own, own_grants, granted, placements_of, schedule_of}
 use Rattle.fr_base.specs.OwnRows.{OwnRows, own_rows}
 use Rattle.fr_base.specs.Fittest.{is_free}
-use Rattle.fr_base.specs.RefusedWishes.{Counted, counted_frames, one_more, count_wish, has_another_node, is_full, judged, judge, asked_at, asked_of}
+use Rattle.fr_base.specs.RefusedWishes.{Counted, one_more, count_wish, has_another_node, is_full, judged, judge, asked_at, asked_of}
 use Rattle.fr_base.specs.Proposals.{filled_places, place_at, proposal_row}
 use Rattle.fr_base.specs.Fits.{MayStand}
 use Rattle.fr_base.specs.Sound.{IsSoundVariant}
@@ -26,8 +26,8 @@ use Rattle.fr_base.specs.declared.name.Name.{Name}
 use Rattle.fr_base.specs.declared.params.Params.{Params}
 use Rattle.fr_base.specs.declared.placement.Placement.{Placement}
 use Rattle.fr_base.specs.declared.refusal.Refusal.{Refusal}
-use Rattle.fr_base.specs.declared.refusal.Refusal.TheVariants.{NoNode, Exists, NodeDiffers, NotGranted, Limit}
-use Rattle.fr_base.specs.declared.request.FrameChange.TheVariants.{Add, Place}
+use Rattle.fr_base.specs.declared.refusal.Refusal.TheVariants.{NoNode, NodeDiffers, NotGranted, Limit}
+use Rattle.fr_base.specs.declared.request.FrameChange.TheVariants.{Place}
 use Rattle.fr_base.specs.ProposalLaws.{record_of}
 use Rattle.fr_base.specs.declared.proposal.Given.{Given}
 use Rattle.fr_base.specs.declared.wish.Asked.{Asked}
@@ -42,8 +42,8 @@ use Rattle.fr_base.proofs.AloneCells.{same_text-itself, first_taken-own, first_t
 use Rattle.fr_base.proofs.AloneChanges.{own-granted}
 use Rattle.fr_base.proofs.Filling.{free-cells}
 use Rattle.fr_base.proofs.SettledRows.{other_frame, settle-other}
-use Rattle.fr_base.proofs.FrameRuns.{past_when, past_unless, having, rows_at, change_in, framed_in, act_in, change-is, place_test, place-is, run_in}
-use Rattle.fr_base.proofs.FreeCells.{free-empty, empty-free}
+use Rattle.fr_base.proofs.FrameRuns.{past_when, past_unless, change_in, framed_in, act_in, change-is, place_test, place-is, run_in}
+use Rattle.fr_base.proofs.FreeCells.{free-empty}
 use Rattle.fr_base.proofs.GivenPlaces.{AreDisjoint}
 use Rattle.fr_base.proofs.AskedLines.{Member}
 use Rattle.fr_base.proofs.GivenLaws.{IsAdmitted, judged-admitted}

@@ -1,15 +1,13 @@
 -- Lines of wishes: each line of a file is told once, so a wish that is not refused is found by its line.
-use Rattle.std.proofs.Common.{◌≡◌, ◌≢◌, ◌⊎◌, ◌<◌, ◌≤◌, ◌+◌, ◌∙◌, ℕ, zero, suc, Bool, true, false, cond, List, [], ◌∷◌, ◌++◌, map, filter, find, flat_map, take, length, Option, Some, None, option_map, Result, Ok, Err, refl, sym, ap, subst, inl, inr, arith, true≢false}
-use Rattle.std.specs.Prelude.{◌==◌}
-use Rattle.std.specs.List.{cons_option, filter_map}
-use Rattle.std.proofs.lemmas.Bool.{cases_Bool, and_parts, eqb-true, eq-eqb, ne_eqb}
-use Rattle.fr_base.specs.Refusing.{◌>>=◌, ◌>>◌, refuse◌when◌}
+use Rattle.std.proofs.Common.{◌≡◌, ◌⊎◌, ◌≤◌, ◌+◌, ◌∙◌, ℕ, zero, suc, Bool, true, false, List, [], ◌∷◌, ◌++◌, filter, flat_map, take, Some, None, Result, Ok, Err, refl, sym, ap, subst, inl, inr, arith, true≢false}
+use Rattle.std.specs.List.{cons_option}
+use Rattle.std.proofs.lemmas.Bool.{cases_Bool}
 use Rattle.fr_base.specs.Tables.{Table}
 use Rattle.fr_base.specs.Keys.{owned}
 use Rattle.fr_base.specs.ImportRows.{records_of}
 use Rattle.fr_base.specs.OwnRows.{OwnRows}
-use Rattle.fr_base.specs.Wishes.{spells_wishes, wish_at, wishes_from, wishes_below, wishes_of_records, wishes_of_body}
-use Rattle.fr_base.specs.RefusedWishes.{Counted, count_wish, admits_wish, judged, judge, asked_at, asked_of}
+use Rattle.fr_base.specs.Wishes.{spells_wishes, wishes_from, wishes_below, wishes_of_records, wishes_of_body}
+use Rattle.fr_base.specs.RefusedWishes.{Counted, count_wish, judged, judge, asked_at, asked_of}
 use Rattle.fr_base.specs.declared.limits.TheConstants.{MAX_ROWS}
 use Rattle.fr_base.specs.declared.params.Params.{Params}
 use Rattle.fr_base.specs.declared.refusal.Refusal.{Refusal}

@@ -1,8 +1,7 @@
 -- Without `replace`, where the repetitions of a node's wishes are a chain, a wish has no room exactly where it does not fit.
-use Rattle.std.proofs.Common.{◌≡◌, ◌≢◌, ◌⊎◌, ◌↔◌, ◌<◌, ◌≤◌, ◌+◌, ◌*◌, ◌%◌, ◌∙◌, ℕ, zero, suc, Bool, true, false, not, cond, List, [], ◌∷◌, ◌++◌, map, filter, flat_map, Option, Some, None, option_map, is_some, Result, Ok, Err, IsTrue, refl, sym, ap, subst, inl, inr, arith, true≢false, append_assoc, append-nil}
+use Rattle.std.proofs.Common.{◌≡◌, ◌↔◌, ◌<◌, ◌≤◌, ◌+◌, ◌*◌, ◌%◌, ◌∙◌, ℕ, true, false, not, cond, List, [], ◌∷◌, ◌++◌, map, filter, Option, Some, None, is_some, Err, IsTrue, refl, sym, ap, subst, inl, inr, arith, true≢false, append_assoc}
 use Rattle.std.specs.List.{AllByRecursion, cons_option, filter_map, list_all, list_any}
-use Rattle.std.proofs.lemmas.Bool.{cases_Bool, cases_order, and_parts}
-use Rattle.std.proofs.lemmas.List.{map-append}
+use Rattle.std.proofs.lemmas.Bool.{cases_Bool, cases_order}
 use Rattle.std.proofs.lemmas.Nat.{mod-mul-add}
 use Rattle.fr_base.specs.Tables.{get}
 use Rattle.fr_base.specs.Channels.{channels_in, has_channel}
@@ -13,10 +12,10 @@ use Rattle.fr_base.specs.OwnRows.{OwnRows, own_rows}
 use Rattle.fr_base.specs.Wishes.{wishes_of_body}
 use Rattle.fr_base.specs.Turns.{in_turn, with_place, fittest_for, take_places, filled_by, places_given}
 use Rattle.fr_base.specs.RefusedWishes.{asked_of, frames_beside, holds}
-use Rattle.fr_base.specs.Proposals.{filled_places, held_slots, place_at, given_wishes, judged_wishes, proposal}
+use Rattle.fr_base.specs.Proposals.{held_slots, place_at, proposal}
 use Rattle.fr_base.specs.Sound.{IsSound}
 use Rattle.fr_base.specs.Fits.{Fit}
-use Rattle.fr_base.specs.ProposalLaws.{OneDivides, AreChain, asked_of_node, told_at, placement_told, has_placement, is_on, placements_told, there_and, placed_on, NoRoomIsCertain}
+use Rattle.fr_base.specs.ProposalLaws.{OneDivides, AreChain, told_at, placement_told, has_placement, is_on, placements_told, there_and, placed_on, NoRoomIsCertain}
 use Rattle.fr_base.specs.declared.channel.Channels.{Channels}
 use Rattle.fr_base.specs.declared.channel.Channels.TheVariants as channels
 use Rattle.fr_base.specs.declared.name.Name.{Name}
@@ -24,8 +23,6 @@ use Rattle.fr_base.specs.declared.params.Params.{Params}
 use Rattle.fr_base.specs.declared.placement.Placement.{Placement}
 use Rattle.fr_base.specs.declared.proposal.Given.{Given}
 use Rattle.fr_base.specs.declared.proposal.Proposal.{Proposal}
-use Rattle.fr_base.specs.declared.proposal.ProposedPlacement.{ProposedPlacement}
-use Rattle.fr_base.specs.declared.refusal.Refusal.{Refusal}
 use Rattle.fr_base.specs.declared.refusal.Refusal.TheVariants.{NoRoom}
 use Rattle.fr_base.specs.declared.wish.Asked.{Asked}
 use Rattle.fr_base.specs.declared.wish.Wish.{Wish}
@@ -37,10 +34,8 @@ use Rattle.fr_base.proofs.SoundTables.{only-stood}
 use Rattle.fr_base.proofs.SoundRows.{holder-is, all_more}
 use Rattle.fr_base.proofs.AskedLines.{Member, member-filter, member-front, member-back, AreNumbered, body-numbered}
 use Rattle.fr_base.proofs.ClassSwaps.{DividesEach}
-use Rattle.fr_base.proofs.FitPlaces.{AreOf}
-use Rattle.fr_base.proofs.FittestLaws.{each-append}
-use Rattle.fr_base.proofs.TurnOrder.{Pairs, pairs-append, pairs-filter, pairs-member, each-of, of-each, IsBefore, same_kind-is, kind-same, turn-member, turn_of}
-use Rattle.fr_base.proofs.TurnLaws.{wishes_of, placed_wishes, given_and, filled_after, take-append, IsChain, AreInOrder, takes-nothing}
+use Rattle.fr_base.proofs.TurnOrder.{Pairs, pairs-filter, pairs-member, each-of, of-each, IsBefore, same_kind-is, kind-same, turn-member, turn_of}
+use Rattle.fr_base.proofs.TurnLaws.{wishes_of, placed_wishes, given_and, filled_after, take-append, AreInOrder, takes-nothing}
 use Rattle.fr_base.proofs.GivenLaws.{the_judged, of_node, all_given, taken, there, asked-taken, taken-asked, taken-at, told-is, wish-admitted, turn-asked, turns-before, proposed_for}
 
 -- ---- those before on other channels come first

@@ -1,11 +1,11 @@
 -- Wishes of one node for the same channels fit beside what is filled exactly where places fit in its slots. So it does not matter where the first of them
 -- goes, if its repetition divides those of the others.
-use Rattle.std.proofs.Common.{◌≡◌, ◌<◌, ◌≤◌, ◌+◌, ◌*◌, ◌%◌, ◌∙◌, ℕ, zero, suc, Bool, true, false, ◌&&◌, List, [], ◌∷◌, ◌++◌, map, Option, None, nat_le, nat_lt, IsTrue, refl, sym, ap, subst, inl, inr, arith, true≢false}
+use Rattle.std.proofs.Common.{◌≡◌, ◌<◌, ◌≤◌, ◌+◌, ◌*◌, ◌%◌, ◌∙◌, ℕ, suc, true, ◌&&◌, List, [], ◌∷◌, ◌++◌, map, None, nat_le, nat_lt, IsTrue, refl, sym, ap, subst, inl, inr, arith, true≢false}
 use Rattle.std.specs.List.{list_all}
 use Rattle.std.proofs.lemmas.Bool.{and_parts, cases_Bool, cases_lt}
 use Rattle.std.proofs.lemmas.Bool.Decides.{nat_tests}
 use Rattle.std.proofs.lemmas.Nat.{mod-mul-add}
-use Rattle.fr_base.specs.Cells.{Cell, has_cell}
+use Rattle.fr_base.specs.Cells.{has_cell}
 use Rattle.fr_base.specs.Channels.{channels_in, has_channel}
 use Rattle.fr_base.specs.Cycles.{are_cycles, is_cycle_count, is_repetition}
 use Rattle.fr_base.specs.Schedule.{fill}
@@ -13,7 +13,6 @@ use Rattle.fr_base.specs.Room.{placed}
 use Rattle.fr_base.specs.Book.{granted}
 use Rattle.fr_base.specs.OwnRows.{OwnRows}
 use Rattle.fr_base.specs.RefusedWishes.{holds}
-use Rattle.fr_base.specs.Sound.{FitsCluster}
 use Rattle.fr_base.specs.Fits.{MayStand, FitBeside, Fit}
 use Rattle.fr_base.specs.declared.channel.Channel.{Channel}
 use Rattle.fr_base.specs.declared.channel.Channel.TheVariants as channel
@@ -24,7 +23,7 @@ use Rattle.fr_base.specs.declared.placement.Placement.{Placement}
 use Rattle.fr_base.specs.declared.wish.Wish.{Wish}
 use Rattle.fr_base.proofs.ClassSwaps.{DividesEach}
 use Rattle.fr_base.proofs.SlotSwaps.{HasGoodCycles, BesidePlace, FitsIn, ArePositive, other_place}
-use Rattle.fr_base.proofs.FreeCells.{cell, IsIn, cell-is_in, is_in-cell, free-empty, empty-free, empty-both, both-empty, one-empty, one-lacks}
+use Rattle.fr_base.proofs.FreeCells.{cell, cell-is_in, is_in-cell, free-empty, empty-free, empty-both, both-empty, one-empty, one-lacks}
 
 -- with more good cycles it fits too
 pub fits-alike : (w n : ℕ) (G H : ℕ → ℕ → Type 0) → ((s c : ℕ) → c < n → G s c → H s c) → (rs : List ℕ) (ps : List (ℕ × ℕ)) → FitsIn w n G rs ps → FitsIn w n H rs ps

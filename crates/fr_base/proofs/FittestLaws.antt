@@ -1,12 +1,12 @@
 -- The fittest place is a free one of the slots that are looked at, and there is none only where none of them has a free place.
-use Rattle.std.proofs.Common.{◌≡◌, ◌⊎◌, ◌<◌, ◌≤◌, ◌+◌, ◌∙◌, ℕ, zero, suc, Bool, true, false, cond, List, [], ◌∷◌, ◌++◌, map, filter, flat_map, Option, Some, None, option_map, refl, sym, ap, subst, inl, inr, arith, true≢false}
+use Rattle.std.proofs.Common.{◌≡◌, ◌⊎◌, ◌<◌, ◌≤◌, ◌+◌, ◌∙◌, ℕ, zero, suc, Bool, true, List, [], ◌∷◌, ◌++◌, map, filter, flat_map, Option, Some, None, option_map, refl, sym, ap, subst, inl, inr, arith, true≢false}
 use Rattle.std.specs.declared.cmp.Ordering.{Ordering}
 use Rattle.std.specs.declared.cmp.Ordering.TheVariants.{Less, Equal, Greater}
 use Rattle.std.specs.Ordering.{min_by_ordering}
 use Rattle.std.specs.List.{AllByRecursion, range_with_len}
 use Rattle.std.proofs.lemmas.Bool.{cases_Bool, cases_eq}
 use Rattle.fr_base.specs.Room.{placed, places_on}
-use Rattle.fr_base.specs.Fittest.{lesser, least, is_free, free_places, rated, rated_cmp, Rated, fittest_of, fittest}
+use Rattle.fr_base.specs.Fittest.{lesser, least, is_free, free_places, rated, rated_cmp, fittest_of, fittest}
 use Rattle.fr_base.specs.declared.channel.Channels.{Channels}
 use Rattle.fr_base.specs.declared.name.Name.{Name}
 use Rattle.fr_base.specs.declared.params.Params.{Params}

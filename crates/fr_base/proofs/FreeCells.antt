@@ -1,5 +1,5 @@
 -- Where a placement is free: none of the cells that it has is filled. Which cells a placement has, and what is free beside one more.
-use Rattle.std.proofs.Common.{◌≡◌, ◌⊎◌, ◌<◌, ◌%◌, ℕ, Bool, true, false, ◌&&◌, ◌||◌, not, cond, eqb, List, [], ◌∷◌, ◌++◌, Option, Some, None, refl, sym, ap, subst, ◌∙◌, inl, inr, arith, true≢false, Ordering, Less, Equal, Greater}
+use Rattle.std.proofs.Common.{◌≡◌, ◌⊎◌, ◌<◌, ◌%◌, ℕ, Bool, true, false, ◌&&◌, ◌||◌, eqb, List, [], ◌∷◌, ◌++◌, Option, Some, None, refl, sym, ap, ◌∙◌, inl, inr, arith, true≢false, Ordering, Less, Equal, Greater}
 use Rattle.std.specs.Prelude.{is_none}
 use Rattle.std.specs.Ordering.{nat_cmp, is_eq, ordering_then}
 use Rattle.std.specs.Cmp.{nat_cmp_is}
@@ -7,7 +7,7 @@ use Rattle.std.specs.List.{list_any}
 use Rattle.std.proofs.lemmas.Bool.{and_right, and_parts, cases_Bool, cases_order, eq-eqb, ne_eqb, eqb-true}
 use Rattle.fr_base.specs.Cells.{Cell, cells_in, cells_of, has_cell, same_cell}
 use Rattle.fr_base.specs.Channels.{channel_number, channels_in, has_channel}
-use Rattle.fr_base.specs.Cycles.{cycles_of, has_cycle, selects}
+use Rattle.fr_base.specs.Cycles.{cycles_of, has_cycle}
 use Rattle.fr_base.specs.Schedule.{fill, first_taken}
 use Rattle.fr_base.specs.Fittest.{is_free}
 use Rattle.fr_base.specs.declared.channel.Channel.{Channel}

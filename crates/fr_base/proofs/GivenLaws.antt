@@ -1,12 +1,12 @@
 -- What wishes are given is told at their lines: in turn each takes the fittest place beside those before it.
-use Rattle.std.proofs.Common.{◌≡◌, ◌≢◌, ◌⊎◌, ◌<◌, ◌≤◌, ◌+◌, ◌%◌, ◌∙◌, ℕ, zero, suc, Bool, true, false, not, cond, List, [], ◌∷◌, ◌++◌, map, filter, find, flat_map, Option, Some, None, option_map, is_some, Result, Ok, Err, IfOk, IsTrue, refl, sym, ap, subst, inl, inr, arith, true≢false}
-use Rattle.std.specs.Prelude.{◌==◌, ⊤}
+use Rattle.std.proofs.Common.{◌≡◌, ◌≢◌, ◌⊎◌, ◌≤◌, ◌∙◌, ℕ, suc, Bool, true, false, List, [], ◌∷◌, ◌++◌, map, find, flat_map, Option, Some, None, option_map, is_some, Result, Ok, Err, IfOk, IsTrue, refl, sym, ap, subst, inl, inr, arith, true≢false}
+use Rattle.std.specs.Prelude.{◌==◌}
 use Rattle.std.specs.Ordering.{eq_by_cmp}
 use Rattle.std.specs.Option.{option_and_then}
-use Rattle.std.specs.List.{AllByRecursion, cons_option, filter_map, list_any}
+use Rattle.std.specs.List.{cons_option, list_any}
 use Rattle.std.specs.FinMap.Entries as entries
-use Rattle.std.proofs.lemmas.Bool.{cases_Bool, and_parts, eqb-true, eq-eqb, ne_eqb}
-use Rattle.fr_base.specs.Refusing.{◌>>=◌, ◌>>◌, ◌or◌, refuse◌when◌}
+use Rattle.std.proofs.lemmas.Bool.{cases_Bool, eqb-true, eq-eqb, ne_eqb}
+use Rattle.fr_base.specs.Refusing.{◌>>=◌, ◌or◌}
 use Rattle.fr_base.specs.Tables.{Table, get, contains}
 use Rattle.fr_base.specs.Keys.{owned}
 use Rattle.fr_base.specs.Cells.{slots_of}
@@ -15,13 +15,12 @@ use Rattle.fr_base.specs.OwnRows.{OwnRows}
 use Rattle.fr_base.specs.Turns.{in_turn, with_place, fittest_for, take_places, take_turns}
 use Rattle.fr_base.specs.RefusedWishes.{Counted, counted_frames, frames_beside, count_wish, holds, has_another_node, is_full, admits_wish, judged, judge, asked_at, asked_of}
 use Rattle.fr_base.specs.Proposals.{held_slots, given_to, given_all, is_of_node, node_names, place_at, proposal_row, proposal_of, proposal, judged_wishes, given_wishes, filled_places}
-use Rattle.fr_base.specs.ProposalLaws.{told_at, placement_told, asked_of_node}
+use Rattle.fr_base.specs.ProposalLaws.{told_at, asked_of_node}
 use Rattle.fr_base.specs.declared.channel.Channels.{Channels}
 use Rattle.fr_base.specs.declared.name.Name.{Name}
 use Rattle.fr_base.specs.declared.params.Params.{Params}
 use Rattle.fr_base.specs.declared.placement.Placement.{Placement}
 use Rattle.fr_base.specs.declared.proposal.Given.{Given}
-use Rattle.fr_base.specs.declared.proposal.ProposalRow.{ProposalRow}
 use Rattle.fr_base.specs.declared.proposal.ProposedPlacement.{ProposedPlacement}
 use Rattle.fr_base.specs.declared.refusal.Refusal.{Refusal}
 use Rattle.fr_base.specs.declared.refusal.Refusal.TheVariants.{NoNode, NodeDiffers, NotGranted, Limit, NoRoom}
@@ -30,11 +29,10 @@ use Rattle.fr_base.specs.declared.wish.Wish.{Wish}
 use Rattle.fr_base.specs.declared.wish.WishRead.{WishRead}
 use Rattle.fr_base.proofs.SoundRefusing.{gives_each, gives_then, gives_unless, gives_when, gives_when_last}
 use Rattle.fr_base.proofs.SoundRows.{same_text-is}
-use Rattle.fr_base.proofs.SoundTables.{same_some}
 use Rattle.fr_base.proofs.AloneCells.{same_text-itself}
 use Rattle.fr_base.proofs.TableLaws.{equal}
-use Rattle.fr_base.proofs.AskedLines.{Member, member-filter, member-kept, member-flat, AreNumbered, judge-numbered, IsRead, asked-read, line-from, one-asked}
-use Rattle.fr_base.proofs.TurnOrder.{Pairs, pairs-filter, pairs-member, each-of, of-each, IsBefore, AreByLine, turns-in_order, turn-member, turn_of}
+use Rattle.fr_base.proofs.AskedLines.{Member, member-filter, AreNumbered, judge-numbered, IsRead, asked-read, line-from, one-asked}
+use Rattle.fr_base.proofs.TurnOrder.{Pairs, pairs-filter, each-of, of-each, IsBefore, AreByLine, turns-in_order, turn-member, turn_of}
 
 -- ---- what is not refused
 

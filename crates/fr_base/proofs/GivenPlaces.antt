@@ -1,6 +1,5 @@
 -- What wishes are given may stand where the supplier's frames are, and no two of them share a cell.
-use Rattle.std.proofs.Common.{◌≡◌, ◌≢◌, ◌⊎◌, ◌<◌, ◌%◌, ◌∙◌, ℕ, Bool, true, false, cond, List, [], ◌∷◌, ◌++◌, map, filter, find, flat_map, Option, Some, None, IsTrue, refl, sym, ap, subst, inl, inr, true≢false}
-use Rattle.std.specs.Prelude.{◌==◌}
+use Rattle.std.proofs.Common.{◌≡◌, ◌≢◌, ◌⊎◌, ◌<◌, ◌%◌, ◌∙◌, ℕ, Bool, true, List, [], ◌∷◌, ◌++◌, find, Option, Some, None, IsTrue, refl, sym, ap, subst, inl, inr, true≢false}
 use Rattle.std.specs.Option.{option_and_then}
 use Rattle.std.specs.List.{AllByRecursion, list_all}
 use Rattle.std.proofs.lemmas.Bool.{cases_Bool, eqb-true}
@@ -8,7 +7,6 @@ use Rattle.fr_base.specs.Tables.{get}
 use Rattle.fr_base.specs.Cells.{Cell, has_cell}
 use Rattle.fr_base.specs.Channels.{channels_in, has_channel}
 use Rattle.fr_base.specs.Cycles.{is_cycle_count}
-use Rattle.fr_base.specs.Schedule.{fill}
 use Rattle.fr_base.specs.Book.{Holder, granted, held_by_node}
 use Rattle.fr_base.specs.Names.{same_text}
 use Rattle.fr_base.specs.OwnRows.{OwnRows}
@@ -16,8 +14,6 @@ use Rattle.fr_base.specs.Turns.{in_turn, with_place, fittest_for, take_places, t
 use Rattle.fr_base.specs.RefusedWishes.{asked_of}
 use Rattle.fr_base.specs.Fits.{MayStand}
 use Rattle.fr_base.specs.Proposals.{held_slots, given_to, given_all, node_names, place_at}
-use Rattle.fr_base.specs.declared.channel.Channel.{Channel}
-use Rattle.fr_base.specs.declared.channel.Channels.{Channels}
 use Rattle.fr_base.specs.declared.name.Name.{Name}
 use Rattle.fr_base.specs.declared.placement.Placement.{Placement}
 use Rattle.fr_base.specs.declared.proposal.Given.{Given}

@@ -1,8 +1,8 @@
 -- The cells of several slots are one row: of slots below w, cell c * w + s is cycle c of slot s. So what holds of classes of a row holds of places, a slot and
 -- a base each: it does not matter which free place the first of some repetitions gets, where it divides the others.
-use Rattle.std.proofs.Common.{◌≡◌, ◌≢◌, ◌<◌, ◌+◌, ◌*◌, ◌/◌, ◌%◌, ◌∙◌, ℕ, zero, suc, List, [], ◌∷◌, map, sym, ap, subst, arith}
+use Rattle.std.proofs.Common.{◌≡◌, ◌<◌, ◌+◌, ◌*◌, ◌/◌, ◌%◌, ◌∙◌, ℕ, zero, suc, List, [], ◌∷◌, map, sym, ap, subst, arith}
 use Rattle.std.proofs.lemmas.Nat.{mul-add-lt, mod_below, div-add-mod', div_below, div-mul-add, mod-mul-add, same_from_place}
-use Rattle.fr_base.proofs.ClassSwaps.{Fits, Beside, IsWithin, DividesEach, exchange, multiple}
+use Rattle.fr_base.proofs.ClassSwaps.{Fits, Beside, DividesEach, exchange, multiple}
 
 -- each of the place's cycles is a good one of its slot
 abbrev pub HasGoodCycles : ℕ → (ℕ → ℕ → Type 0) → ℕ → ℕ × ℕ → Type 0

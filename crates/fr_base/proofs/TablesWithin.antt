@@ -1,7 +1,7 @@
 -- A table whose keys all stand in another has no more rows.
-use Rattle.std.proofs.Common.{◌≡◌, ◌≤◌, ◌+◌, ◌∙◌, ℕ, suc, Bool, true, false, cond, List, [], ◌∷◌, length, Option, Some, None, is_some, Less, Equal, Greater, refl, sym, ap, subst, inl, inr, arith, true≢false}
+use Rattle.std.proofs.Common.{◌≡◌, ◌≤◌, ◌∙◌, true, false, List, [], ◌∷◌, length, is_some, Less, Greater, sym, ap, subst, inl, inr, arith, true≢false}
 use Rattle.std.specs.Prelude.{T}
-use Rattle.std.specs.Ordering.{is_eq, eq_by_cmp}
+use Rattle.std.specs.Ordering.{eq_by_cmp}
 use Rattle.std.specs.FinMap.Entries.{find, is_sorted, below_all}
 use Rattle.std.proofs.lemmas.Bool.{cases_Bool}
 use Rattle.fr_base.specs.TableRows.{first, second}

@@ -1,7 +1,7 @@
 -- Wishes of one node for the same channels, whose repetitions are a chain, take places in turn: each finds none exactly where it does not fit together with those
 -- before it that found one.
-use Rattle.std.proofs.Common.{◌≡◌, ◌⊎◌, ◌↔◌, ◌<◌, ◌≤◌, ◌+◌, ◌%◌, ◌∙◌, ℕ, zero, suc, Bool, true, false, ◌&&◌, cond, List, [], ◌∷◌, ◌++◌, map, filter, flat_map, Option, Some, None, is_some, IsTrue, refl, sym, ap, subst, inl, inr, arith, true≢false, append_assoc, append-nil}
-use Rattle.std.specs.List.{AllByRecursion, filter_map, list_all, range_with_len}
+use Rattle.std.proofs.Common.{◌≡◌, ◌↔◌, ◌<◌, ◌≤◌, ◌+◌, ◌%◌, ◌∙◌, ℕ, true, List, [], ◌∷◌, ◌++◌, map, filter, Option, Some, None, is_some, IsTrue, refl, sym, ap, subst, arith, append_assoc, append-nil}
+use Rattle.std.specs.List.{AllByRecursion, list_all}
 use Rattle.fr_base.specs.Cells.{slots_of}
 use Rattle.fr_base.specs.Channels.{channels_in, has_channel}
 use Rattle.fr_base.specs.Cycles.{is_cycle_count}
@@ -9,7 +9,7 @@ use Rattle.fr_base.specs.Room.{placed}
 use Rattle.fr_base.specs.Book.{granted}
 use Rattle.fr_base.specs.OwnRows.{OwnRows}
 use Rattle.fr_base.specs.Fittest.{is_free, fittest}
-use Rattle.fr_base.specs.Turns.{with_place, fittest_for, take_places, filled_by, places_given}
+use Rattle.fr_base.specs.Turns.{with_place, fittest_for, take_places, places_given}
 use Rattle.fr_base.specs.RefusedWishes.{holds}
 use Rattle.fr_base.specs.Proposals.{held_slots}
 use Rattle.fr_base.specs.Fits.{MayStand, FitBeside, Fit}
@@ -21,8 +21,8 @@ use Rattle.fr_base.specs.declared.proposal.Given.{Given}
 use Rattle.fr_base.specs.declared.wish.Asked.{Asked}
 use Rattle.fr_base.specs.declared.wish.Wish.{Wish}
 use Rattle.fr_base.proofs.ClassSwaps.{DividesEach}
-use Rattle.fr_base.proofs.FitPlaces.{AreOf, repetitions, AreDivisors, others-fit, set_of, divisor_within, base_below}
-use Rattle.fr_base.proofs.FittestLaws.{In, in-range, in-filter, each-range, each-filter, IsFound, fittest-found, fittest-missed}
+use Rattle.fr_base.proofs.FitPlaces.{AreOf, repetitions, AreDivisors, others-fit, set_of, base_below}
+use Rattle.fr_base.proofs.FittestLaws.{In, in-range, in-filter, each-range, each-filter, fittest-found, fittest-missed}
 
 -- ---- one turn after the other
 

@@ -1,5 +1,5 @@
 -- The order of turns: by kind of channels, then repetition, then line.
-use Rattle.std.proofs.Common.{◌≡◌, ◌≢◌, ◌⊎◌, ◌<◌, ◌≤◌, ◌+◌, ◌%◌, ◌∙◌, ℕ, zero, suc, Bool, true, false, not, cond, List, [], ◌∷◌, ◌++◌, map, filter, flat_map, refl, sym, ap, subst, inl, inr, arith, true≢false}
+use Rattle.std.proofs.Common.{◌≡◌, ◌⊎◌, ◌<◌, ◌≤◌, ◌+◌, ◌%◌, ◌∙◌, ℕ, zero, suc, Bool, true, List, [], ◌∷◌, ◌++◌, filter, flat_map, refl, sym, ap, subst, inl, inr, arith}
 use Rattle.std.specs.Prelude.{◌==◌}
 use Rattle.std.specs.List.{AllByRecursion, range_with_len}
 use Rattle.std.proofs.lemmas.Bool.{cases_Bool, and_parts, eqb-true, eq-eqb}
@@ -10,8 +10,8 @@ use Rattle.fr_base.specs.declared.channel.Channels.{Channels}
 use Rattle.fr_base.specs.declared.channel.Channels.TheVariants as channels
 use Rattle.fr_base.specs.declared.params.Params.{Params}
 use Rattle.fr_base.specs.declared.wish.Asked.{Asked}
-use Rattle.fr_base.proofs.AskedLines.{Member, member-flat, member-filter, flat-member, member-kept}
-use Rattle.fr_base.proofs.FittestLaws.{each-append, each-filter, each-flat, each-range}
+use Rattle.fr_base.proofs.AskedLines.{Member, member-flat, member-filter}
+use Rattle.fr_base.proofs.FittestLaws.{each-append, each-filter, each-range}
 
 -- ---- pairs
 

@@ -1,6 +1,6 @@
 -- Fits: wishes of one supplier fit beside what is filled, where there is a placement for each, with its channels and repetition, such that Place of each for its
 -- frame, one after the other, meets neither NotGranted nor CellTaken.
-use Rattle.std.specs.Prelude.{◌≡◌, ℕ, ◌%◌, List, [], ◌∷◌, ◌++◌, map, IsTrue}
+use Rattle.std.specs.Prelude.{◌≡◌, List, [], ◌∷◌, ◌++◌, IsTrue}
 use Rattle.fr_base.specs.Book.{granted}
 use Rattle.fr_base.specs.Fittest.{is_free}
 use Rattle.fr_base.specs.OwnRows.{OwnRows}

@@ -1,6 +1,6 @@
 -- Laws of proposals. Where the repetitions of a node's wishes are a chain, a wish has no room exactly where it does not fit.
-use Rattle.std.specs.Prelude.{◌≡◌, ◌⊎◌, ◌↔◌, ℕ, ◌%◌, ◌==◌, Bool, true, false, not, List, [], ◌∷◌, ◌++◌, map, filter, find, is_some, is_none, length, Option, Some, None, option_map, Result, Ok, Err, IsTrue, IsFalse}
-use Rattle.std.specs.List.{AllByRecursion, filter_map, list_all}
+use Rattle.std.specs.Prelude.{◌≡◌, ◌⊎◌, ◌↔◌, ℕ, ◌%◌, ◌==◌, Bool, false, not, List, [], ◌∷◌, ◌++◌, map, filter, find, is_some, length, Option, Some, None, option_map, Result, Ok, Err, IsTrue, IsFalse}
+use Rattle.std.specs.List.{AllByRecursion, filter_map}
 use Rattle.fr_base.specs.Tables.{get}
 use Rattle.fr_base.specs.Cluster.{Cluster}
 use Rattle.fr_base.specs.Book.{Book, Variant}
