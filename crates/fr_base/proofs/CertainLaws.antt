@@ -91,7 +91,7 @@ add_none : (b r : ℕ) → b ≡ 0 * r + b
 add_none b r = omega arith
 
 -- what is not above another number and divides it or is divided by it, divides it
-divides-up : (q r : ℕ) → 0 < q → q ≤ r → OneDivides q r → r % q ≡ 0
+pub divides-up : (q r : ℕ) → 0 < q → q ≤ r → OneDivides q r → r % q ≡ 0
 divides-up q r some up h = elim h [
   | inl divides ↦ divides
   | inr divided ↦ elim (cases_order q r) [
@@ -113,7 +113,7 @@ chain-each (w ∷ ws) x r h at = elim at [
   | inr later ↦ chain-each ws x r h.1 later
 ]
 
-chain-of : (ws : List Asked) (x y : Asked) → AreChain (map (λ a. a.wish.repetition) ws) → Member x ws → Member y ws → 0 < x.wish.repetition → OneDivides x.wish.repetition y.wish.repetition
+pub chain-of : (ws : List Asked) (x y : Asked) → AreChain (map (λ a. a.wish.repetition) ws) → Member x ws → Member y ws → 0 < x.wish.repetition → OneDivides x.wish.repetition y.wish.repetition
 chain-of [] x y h at in_too some = absurd at
 chain-of (w ∷ ws) x y h at in_too some = elim at [
   | inl here ↦ elim in_too [

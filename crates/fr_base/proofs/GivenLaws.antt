@@ -175,7 +175,7 @@ pairs-from_map [] h = tt
 pairs-from_map (x ∷ xs) h =
     (each-of _ xs (λ g at. of-each (λ b. x.asked.line ≢ b.line) (map (λ g. g.asked) xs) g.asked h.0 (member-map (λ g. g.asked) g xs at)), pairs-from_map xs h.1)
 
-not_before_itself : (a b : Asked) → a ≡ b → IsBefore a b → ⊥
+pub not_before_itself : (a b : Asked) → a ≡ b → IsBefore a b → ⊥
 not_before_itself a b e h = elim h [
   | inl less ↦ omega (arith, less, ap (λ (z : Asked). turn_of z.wish.channels) e)
   | inr more ↦ elim more.1 [
@@ -223,7 +223,7 @@ module _ (own : OwnRows) (reads : List WishRead) (first : ℕ) (numbered : AreNu
   pub taken-asked : (n : Name) (g : Given) → Member g (taken n) → Member g.asked (in_turn own.params (of_node n))
   taken-asked n g at = subst (Member g.asked) (asked-taken own.params (held_slots own n) there (in_turn own.params (of_node n))) (member-map (λ g. g.asked) g (taken n) at)
 
-  own_lines : (n : Name) → HaveOwnLines (taken n)
+  pub own_lines : (n : Name) → HaveOwnLines (taken n)
   own_lines n =
       pairs-from_map (taken n) (subst (Pairs (λ a b. a.line ≢ b.line)) (sym (asked-taken own.params (held_slots own n) there (in_turn own.params (of_node n))))
       (pairs-lines (in_turn own.params (of_node n)) (λ a b at in_too same. one-wish a b (turn-asked n a at).0 (turn-asked n b in_too).0 same) (turns-before n)))

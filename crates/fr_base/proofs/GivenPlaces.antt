@@ -35,7 +35,7 @@ abbrev pub AreDisjoint : Placement → Placement → Type 0
 AreDisjoint q r = (c : Cell) → has_cell q c ≡ true → has_cell r c ≡ true → ⊥
 
 -- beside fewer placements it may stand too
-stands-fewer : (own : OwnRows) (filled more : List (Name × Placement)) (wish : Wish) (q : Placement) → MayStand own (filled ++ more) wish q → MayStand own filled wish q
+pub stands-fewer : (own : OwnRows) (filled more : List (Name × Placement)) (wish : Wish) (q : Placement) → MayStand own (filled ++ more) wish q → MayStand own filled wish q
 stands-fewer own filled more wish q h = record {
   fits = h.fits;
   channels = h.channels;
@@ -45,7 +45,7 @@ stands-fewer own filled more wish q h = record {
 }
 
 -- and has no cell of those
-stands-apart : (own : OwnRows) (filled : List (Name × Placement)) (f : Name) (r : Placement) (wish : Wish) (q : Placement) → MayStand own (filled ++ (f, r) ∷ []) wish q → AreDisjoint r q
+pub stands-apart : (own : OwnRows) (filled : List (Name × Placement)) (f : Name) (r : Placement) (wish : Wish) (q : Placement) → MayStand own (filled ++ (f, r) ∷ []) wish q → AreDisjoint r q
 stands-apart own filled f r wish q h c in_r in_q =
     true≢false (sym in_r ∙ one-lacks f r c (empty-both filled ((f, r) ∷ []) c (free-empty (filled ++ (f, r) ∷ []) q h.free c in_q)).1)
 

@@ -1,6 +1,6 @@
 -- Laws of proposals. Where the repetitions of a node's wishes are a chain, a wish has no room exactly where it does not fit.
-use Rattle.std.specs.Prelude.{◌≡◌, ◌⊎◌, ◌↔◌, ℕ, ◌%◌, ◌==◌, Bool, false, not, List, [], ◌∷◌, ◌++◌, map, filter, find, is_some, length, Option, Some, None, option_map, Result, Ok, Err, IsTrue, IsFalse}
-use Rattle.std.specs.List.{AllByRecursion, filter_map}
+use Rattle.std.specs.Prelude.{◌≡◌, ◌⊎◌, ◌↔◌, ℕ, ◌%◌, ◌==◌, Bool, true, false, not, List, [], ◌∷◌, ◌++◌, map, filter, find, is_some, length, Option, Some, None, option_map, Result, Ok, Err, IsTrue, IsFalse}
+use Rattle.std.specs.List.{AllByRecursion, AllZip, filter_map}
 use Rattle.fr_base.specs.Tables.{get}
 use Rattle.fr_base.specs.Cluster.{Cluster}
 use Rattle.fr_base.specs.Book.{Book, Variant}
@@ -23,6 +23,7 @@ use Rattle.fr_base.specs.declared.import.Row.TheVariants.{Place}
 use Rattle.fr_base.specs.declared.name.Name.{Name}
 use Rattle.fr_base.specs.declared.placement.Placement.{Placement}
 use Rattle.fr_base.specs.declared.proposal.Proposal.{Proposal}
+use Rattle.fr_base.specs.declared.proposal.ProposalRow.{ProposalRow}
 use Rattle.fr_base.specs.declared.proposal.ProposedPlacement.{ProposedPlacement}
 use Rattle.fr_base.specs.declared.refusal.Refusal.{Refusal}
 use Rattle.fr_base.specs.declared.refusal.Refusal.TheVariants.{NoRoom}
@@ -106,3 +107,27 @@ ProposalIsImported = (c : Cluster) (b : Book) (s v : Name) (x : Variant) (body :
     let records = records_told (proposal (own_rows c.params b s x) false (wishes_of_body c.params body)) in
     ReadsAs c.params file.body records → MayBeKept b s (file ∷ []) →
     (step c b (Supplier s) (Deliver v (purpose.Import file.label) file.body)).answer ≡ Imported (length records)
+
+-- the row is of the wish: of its line; and where it has a placement, its text and the rows did not refuse the wish, whose frame, node, channels and repetition
+-- it has
+pub record IsRowOf (read : WishRead) (row : ProposalRow) : Type 0 where
+  pub line : row.line ≡ read.line
+  pub placed : (placed : ProposedPlacement) → row.proposed ≡ Ok placed →
+      (read.wish ≡ Ok (record { frame = placed.frame; node = placed.node; channels = placed.placement.channels; repetition = placed.placement.cycles.repetition }))
+
+-- The rows of a proposal stand in the order of the wishes. Each record has its wish's frame, node, channels and repetition.
+abbrev pub RowsAreTheirWishes : Type 0
+RowsAreTheirWishes = (c : Cluster) (b : Book) (s v : Name) (x : Variant) (body : List ℕ) → IsSound c b → get b.variants v ≡ Some x →
+    let reads = wishes_of_body c.params body in
+    AllZip IsRowOf reads (proposal (own_rows c.params b s x) false reads).rows
+
+-- In a sound book, without `replace`, of a node whose wishes are all for the same channels and have repetitions that are a chain: each has a placement exactly
+-- where they all fit beside what is there.
+abbrev pub AllAreGivenWhereAllFit : Type 0
+AllAreGivenWhereAllFit = (c : Cluster) (b : Book) (s v n : Name) (x : Variant) (cs : Channels) (body : List ℕ) → IsSound c b → get b.variants v ≡ Some x →
+    let own = own_rows c.params b s x in
+    let reads = wishes_of_body c.params body in
+    let told = proposal own false reads in
+    let wishes = asked_of_node own false reads n in
+    AllByRecursion (λ a. a.wish.channels ≡ cs) wishes → AreChain (map (λ a. a.wish.repetition) wishes) →
+    AllByRecursion (λ a. has_placement told a ≡ true) wishes ↔ Fit own (filled_places own.frames) (map (λ a. a.wish) wishes)
