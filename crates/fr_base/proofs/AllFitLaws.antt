@@ -80,12 +80,12 @@ abbrev nowhere : Placement
 nowhere = record { slot = 0; channels = channels.A; cycles = record { count = 0; base = 0; repetition = 0 } }
 
 -- where these placements put the wishes, by their lines
-abbrev way_of : List Asked → List Placement → Asked → Placement
+abbrev pub way_of : List Asked → List Placement → Asked → Placement
 way_of [] qs a = nowhere
 way_of (b ∷ asked) [] a = nowhere
 way_of (b ∷ asked) (q ∷ qs) a = cond (b.line == a.line) q (way_of asked qs a)
 
-abbrev HaveLines : List Asked → Type 0
+abbrev pub HaveLines : List Asked → Type 0
 HaveLines = Pairs (λ (a b : Asked). a.line ≢ b.line)
 
 same-way : (own : OwnRows) (filled : List (Name × Placement)) (way other : Asked → Placement) (asked : List Asked) → AllByRecursion (λ a. way a ≡ other a) asked → IsWay own filled way asked → IsWay own filled other asked
@@ -105,7 +105,7 @@ beside-way own filled f q way (a ∷ asked) h =
     let rest = beside-way own filled f q way asked h.1 in
     ((stands-fewer own filled ((f, q) ∷ []) a.wish (way a) h.0, rest.0), (stands-apart own filled f q a.wish (way a) h.0, rest.1))
 
-fit-way : (own : OwnRows) (filled : List (Name × Placement)) (asked : List Asked) (qs : List Placement) → HaveLines asked → FitBeside own filled (wishes_of asked) qs → IsWay own filled (way_of asked qs) asked
+pub fit-way : (own : OwnRows) (filled : List (Name × Placement)) (asked : List Asked) (qs : List Placement) → HaveLines asked → FitBeside own filled (wishes_of asked) qs → IsWay own filled (way_of asked qs) asked
 fit-way own filled [] qs lines fits = record { stand = tt; apart = tt }
 fit-way own filled (a ∷ asked) [] lines fits = absurd fits
 fit-way own filled (a ∷ asked) (q ∷ qs) lines fits =
@@ -140,7 +140,7 @@ one-of_two way (x ∷ xs) a b pairs at in_too differ = elim at [
 ]
 
 -- a way for some wishes is one for others that are among them
-way-among : (own : OwnRows) (filled : List (Name × Placement)) (way : Asked → Placement) (asked : List Asked) → IsWay own filled way asked → (xs : List Asked) → ((x : Asked) → Member x xs → Member x asked) → HaveLines xs → IsWay own filled way xs
+pub way-among : (own : OwnRows) (filled : List (Name × Placement)) (way : Asked → Placement) (asked : List Asked) → IsWay own filled way asked → (xs : List Asked) → ((x : Asked) → Member x xs → Member x asked) → HaveLines xs → IsWay own filled way xs
 way-among own filled way asked h [] among lines = record { stand = tt; apart = tt }
 way-among own filled way asked h (x ∷ xs) among lines =
     let rest = way-among own filled way asked h xs (λ y at. among y (inr at)) lines.1 in
@@ -152,7 +152,7 @@ way-among own filled way asked h (x ∷ xs) among lines =
 -- ---- where all fit, each takes a place
 
 module _ (own : OwnRows) (m : Name) (cs : Channels) (count : is_cycle_count own.params.cycles ≡ true) (has : IsTrue (list_all (has_channel own.params.channels) (channels_in cs))) where
-  all-take : (filled : List (Name × Placement)) (asked : List Asked) → AreInOrder own m cs count has (wishes_of asked) → Fit own filled (wishes_of asked) → AllByRecursion (λ g. is_some g.place ≡ true) (take_places own.params (held_slots own m) filled asked)
+  pub all-take : (filled : List (Name × Placement)) (asked : List Asked) → AreInOrder own m cs count has (wishes_of asked) → Fit own filled (wishes_of asked) → AllByRecursion (λ g. is_some g.place ≡ true) (take_places own.params (held_slots own m) filled asked)
   unfolding take_places
   all-take filled [] h fit = tt
   all-take filled (a ∷ asked) h fit =
@@ -196,14 +196,14 @@ module _ (own : OwnRows) (m : Name) (cs : Channels) (count : is_cycle_count own.
 add_none : (b r : ℕ) → b ≡ 0 * r + b
 add_none b r = omega arith
 
-within-range : (r n : ℕ) → 0 < n → n % r ≡ 0 → r ≤ n
+pub within-range : (r n : ℕ) → 0 < n → n % r ≡ 0 → r ≤ n
 within-range r n some divides = elim (cases_lt n r) [
   | inl less ↦ let none : n ≡ 0 = sym (ap (λ k. k % r) (add_none n r) ∙ mod-mul-add 0 r n less) ∙ divides in absurd (omega (arith, none, some))
   | inr more ↦ more
 ]
 
 -- a wish whose repetition is one of the cluster has a turn
-turn-of : (p : Params) (wishes : List Asked) (a : Asked) → Member a wishes → is_repetition p.cycles a.wish.repetition ≡ true → 0 < p.cycles → Member a (in_turn p wishes)
+pub turn-of : (p : Params) (wishes : List Asked) (a : Asked) → Member a wishes → is_repetition p.cycles a.wish.repetition ≡ true → 0 < p.cycles → Member a (in_turn p wishes)
 unfolding in_turn turns_on
 turn-of p wishes a at valid some =
     let parts = and_parts (nat_le 1 a.wish.repetition) ((p.cycles % a.wish.repetition) == 0) valid in
@@ -223,27 +223,27 @@ turn-of p wishes a at valid some =
     member-in k (x ∷ xs) h = elim h [ inl here ↦ inl here | inr later ↦ inr (member-in k xs later) ]
 
 module _ (own : OwnRows) (reads : List WishRead) (first : ℕ) (numbered : AreNumbered first reads) (count : is_cycle_count own.params.cycles ≡ true) (n : Name) (cs : Channels)
-    (fits : (a : Asked) → Member a (asked_of (the_judged own reads first numbered)) → IsTrue (list_all (has_channel own.params.channels) (channels_in a.wish.channels))) where
+    (fits : (a : Asked) → Member a (asked_of (the_judged own false reads first numbered)) → IsTrue (list_all (has_channel own.params.channels) (channels_in a.wish.channels))) where
   abbrev wishes : List Asked
-  wishes = of_node own reads first numbered n
+  wishes = of_node own false reads first numbered n
 
   abbrev turns : List Asked
   turns = in_turn own.params wishes
 
   abbrev at_first : List (Name × Placement)
-  at_first = there own reads first numbered
+  at_first = there own false reads first numbered
 
   abbrev told : Proposal
   told = proposal own false reads
 
-  asked-one : (a : Asked) → Member a wishes → Member a (asked_of (the_judged own reads first numbered))
-  asked-one a at = (member-filter (is_of_node n) a (asked_of (the_judged own reads first numbered)) at).0
+  asked-one : (a : Asked) → Member a wishes → Member a (asked_of (the_judged own false reads first numbered))
+  asked-one a at = (member-filter (is_of_node n) a (asked_of (the_judged own false reads first numbered)) at).0
 
   node-one : (a : Asked) → Member a wishes → a.wish.node ≡ n
-  node-one a at = same_text-is a.wish.node n (member-filter (is_of_node n) a (asked_of (the_judged own reads first numbered)) at).1
+  node-one a at = same_text-is a.wish.node n (member-filter (is_of_node n) a (asked_of (the_judged own false reads first numbered)) at).1
 
   wish-lines : HaveLines wishes
-  wish-lines = lines-of wishes (pairs-filter (λ (x y : Asked). x.line < y.line) (is_of_node n) (asked_of (the_judged own reads first numbered)) (asked-by_line first (the_judged own reads first numbered) (judge-numbered own (counted_frames (frames_beside own false reads)) first reads numbered)))
+  wish-lines = lines-of wishes (pairs-filter (λ (x y : Asked). x.line < y.line) (is_of_node n) (asked_of (the_judged own false reads first numbered)) (asked-by_line first (the_judged own false reads first numbered) (judge-numbered own (counted_frames (frames_beside own false reads)) first reads numbered)))
     where
       one : (x : Asked) (xs : List Asked) → AllByRecursion (λ y. x.line < y.line) xs → AllByRecursion (λ y. x.line ≢ y.line) xs
       one x [] h = tt
@@ -253,30 +253,30 @@ module _ (own : OwnRows) (reads : List WishRead) (first : ℕ) (numbered : AreNu
       lines-of (x ∷ xs) h = (one x xs h.0, lines-of xs h.1)
 
   turn-lines : HaveLines turns
-  turn-lines = lines-of turns (λ x at. at) (turns-before own reads first numbered n)
+  turn-lines = lines-of turns (λ x at. at) (turns-before own false reads first numbered n)
     where
       lines-of : (xs : List Asked) → ((x : Asked) → Member x xs → Member x turns) → Pairs IsBefore xs → HaveLines xs
       lines-of [] among h = tt
       lines-of (x ∷ xs) among h =
-          (each-of (λ y. x.line ≢ y.line) xs (λ y at same. not_before_itself x y (one-wish own reads first numbered x y (turn-asked own reads first numbered n x (among x (inl refl))).0 (turn-asked own reads first numbered n y (among y (inr at))).0 same) (of-each (IsBefore x) xs y h.0 at)),
+          (each-of (λ y. x.line ≢ y.line) xs (λ y at same. not_before_itself x y (one-wish own false reads first numbered x y (turn-asked own false reads first numbered n x (among x (inl refl))).0 (turn-asked own false reads first numbered n y (among y (inr at))).0 same) (of-each (IsBefore x) xs y h.0 at)),
           lines-of xs (λ y at. among y (inr at)) h.1)
 
   -- what is told of a wish that has a placement
-  placed-told : (a : Asked) → Member a wishes → has_placement told a ≡ true → (q : Placement) × (place_at (all_given own reads first numbered) a.line ≡ Some q)
-  placed-told a at h = go (place_at (all_given own reads first numbered) a.line) refl (sym (ap (λ o. is_some (placement_told o)) (told-is own reads first numbered a (asked-one a at))) ∙ h)
+  placed-told : (a : Asked) → Member a wishes → has_placement told a ≡ true → (q : Placement) × (place_at (all_given own false reads first numbered) a.line ≡ Some q)
+  placed-told a at h = go (place_at (all_given own false reads first numbered) a.line) refl (sym (ap (λ o. is_some (placement_told o)) (told-is own false reads first numbered a (asked-one a at))) ∙ h)
     where
-      go : (place : Option Placement) → place_at (all_given own reads first numbered) a.line ≡ place → is_some (placement_told (Some (proposed_for own reads first numbered a.wish place))) ≡ true → (q : Placement) × (place_at (all_given own reads first numbered) a.line ≡ Some q)
+      go : (place : Option Placement) → place_at (all_given own false reads first numbered) a.line ≡ place → is_some (placement_told (Some (proposed_for own false reads first numbered a.wish place))) ≡ true → (q : Placement) × (place_at (all_given own false reads first numbered) a.line ≡ Some q)
       go None e k = absurd (true≢false (sym k))
       go (Some q) e k = (q, e)
 
-  told-placed : (a : Asked) → Member a wishes → (q : Placement) → place_at (all_given own reads first numbered) a.line ≡ Some q → has_placement told a ≡ true
-  told-placed a at q e = ap (λ o. is_some (placement_told o)) (told-is own reads first numbered a (asked-one a at) ∙ ap (λ place. Some (proposed_for own reads first numbered a.wish place)) e)
+  told-placed : (a : Asked) → Member a wishes → (q : Placement) → place_at (all_given own false reads first numbered) a.line ≡ Some q → has_placement told a ≡ true
+  told-placed a at q e = ap (λ o. is_some (placement_told o)) (told-is own false reads first numbered a (asked-one a at) ∙ ap (λ place. Some (proposed_for own false reads first numbered a.wish place)) e)
 
   -- where each has a placement, they fit
   given-fit : AllByRecursion (λ a. has_placement told a ≡ true) wishes → Fit own at_first (wishes_of wishes)
   given-fit h =
-      let way : Asked → Placement = λ a. unwrap_or (place_at (all_given own reads first numbered) a.line) nowhere in
-      let put : (a : Asked) → Member a wishes → place_at (all_given own reads first numbered) a.line ≡ Some (way a) =
+      let way : Asked → Placement = λ a. unwrap_or (place_at (all_given own false reads first numbered) a.line) nowhere in
+      let put : (a : Asked) → Member a wishes → place_at (all_given own false reads first numbered) a.line ≡ Some (way a) =
       λ a at. let x = placed-told a at (of-each (λ b. has_placement told b ≡ true) wishes a h at) in x.1 ∙ ap Some (sym (ap (λ o. unwrap_or o nowhere) x.1)) in
       (map way wishes,
       way-fits own at_first way wishes (record {
@@ -297,13 +297,13 @@ module _ (own : OwnRows) (reads : List WishRead) (first : ℕ) (numbered : AreNu
       let turned = way-among own at_first (way_of wishes fit.0) wishes way turns among turn-lines in
       let order = all-in_order own n cs count has wishes chain turns
           (each-of _ turns (λ x in_turns. let its = turn-member own.params wishes x in_turns in (its.0, (node-one x its.0, of-each (λ b. b.wish.channels ≡ cs) wishes x on its.0), its.1)))
-          (turns-before own reads first numbered n) in
+          (turns-before own false reads first numbered n) in
       let all = all-take own n cs count has at_first turns order (map (way_of wishes fit.0) turns, way-fits own at_first (way_of wishes fit.0) turns turned) in
       let cycles = (of-each (λ b. MayStand own at_first b.wish (way_of wishes fit.0 b)) wishes a way.stand at) in
       let turn = turn-of own.params wishes a at (valid a (way_of wishes fit.0 a) cycles) (some_cycle own n cs count has) in
-      let g = given-of (taken own reads first numbered n) a (subst (Member a) (sym (asked-taken own.params (held_slots own n) at_first turns)) turn) in
-      let q = value_of g.0.place (of-each (λ h. is_some h.place ≡ true) (taken own reads first numbered n) g.0 all g.1) in
-      told-placed a at q.0 (ap (λ (z : Asked). place_at (all_given own reads first numbered) z.line) (sym g.2) ∙ taken-at own reads first numbered n g.0 g.1 ∙ q.1)
+      let g = given-of (taken own false reads first numbered n) a (subst (Member a) (sym (asked-taken own.params (held_slots own n) at_first turns)) turn) in
+      let q = value_of g.0.place (of-each (λ h. is_some h.place ≡ true) (taken own false reads first numbered n) g.0 all g.1) in
+      told-placed a at q.0 (ap (λ (z : Asked). place_at (all_given own false reads first numbered) z.line) (sym g.2) ∙ taken-at own reads first numbered n g.0 g.1 ∙ q.1)
     where
       valid : (a : Asked) (q : Placement) → MayStand own at_first a.wish q → is_repetition own.params.cycles a.wish.repetition ≡ true
       valid a q may =
@@ -326,4 +326,4 @@ all_fit c b s v n x cs body sound found on chain =
     let reads = wishes_of_body c.params body in
     let numbered = body-numbered c.params body in
     given-where_fit mine reads numbered.0 numbered.1 (sound-count c b sound) n cs
-    (λ a at. held-has c b s v a.wish.node x a.wish.channels (slots_of c.params) sound found (wish-admitted mine reads numbered.0 numbered.1 a at).1.held) on chain
+    (λ a at. held-has c b s v a.wish.node x a.wish.channels (slots_of c.params) sound found (wish-admitted mine false reads numbered.0 numbered.1 a at).1.held) on chain

@@ -1,5 +1,5 @@
 -- The rows of a proposal are those of its wishes, in their order.
-use Rattle.std.proofs.Common.{◌≡◌, ◌∙◌, ℕ, List, [], ◌∷◌, map, Option, Some, None, Result, Ok, Err, IsTrue, refl, sym, ap, subst}
+use Rattle.std.proofs.Common.{◌≡◌, ◌∙◌, ℕ, false, List, [], ◌∷◌, map, Option, Some, None, Result, Ok, Err, IsTrue, refl, sym, ap, subst}
 use Rattle.std.specs.List.{AllByRecursion, AllZip, cons_option, list_all}
 use Rattle.fr_base.specs.Refusing.{◌>>=◌, ◌or◌}
 use Rattle.fr_base.specs.Tables.{Table, get}
@@ -78,8 +78,8 @@ rows_are_wishes c b s v x body sound found =
     let mine = own_rows c.params b s x in
     let reads = wishes_of_body c.params body in
     let numbered = body-numbered c.params body in
-    let asked = asked_of (the_judged mine reads numbered.0 numbered.1) in
+    let asked = asked_of (the_judged mine false reads numbered.0 numbered.1) in
     let fits : (a : Asked) → Member a asked → IsTrue (list_all (has_channel c.params.channels) (channels_in a.wish.channels)) =
-    λ a at. held-has c b s v a.wish.node x a.wish.channels (slots_of c.params) sound found (wish-admitted mine reads numbered.0 numbered.1 a at).1.held in
-    rows-of mine (all_given mine reads numbered.0 numbered.1) reads (counted_frames (frames_beside mine false reads))
+    λ a at. held-has c b s v a.wish.node x a.wish.channels (slots_of c.params) sound found (wish-admitted mine false reads numbered.0 numbered.1 a at).1.held in
+    rows-of mine (all_given mine false reads numbered.0 numbered.1) reads (counted_frames (frames_beside mine false reads))
     (each-of _ asked (λ a at q e. let may = placed-stands mine reads numbered.0 numbered.1 (sound-count c b sound) fits a q at e in (may.channels, may.repetition)))
