@@ -1,6 +1,7 @@
 //! The cycles in which one slot is filled, as a word for each channel.
 ghost use Rattle.std.specs.Prelude.{◌≡◌, ◌||◌, ◌&&◌, ℕ};
-ghost use Rattle.fr_base.specs.Channels.{has_channel};
+ghost use Rattle.std.specs.List.{list_any};
+ghost use Rattle.fr_base.specs.Channels.{channels_in, has_channel};
 ghost use Rattle.fr_base.specs.Cycles.{has_cycle, is_bit_set};
 ghost use Rattle.fr_base.specs.declared.channel.Channel.{Channel as OneChannel};
 ghost use Rattle.fr_world.specs.Masks.{word_on};
@@ -30,7 +31,10 @@ impl FilledCycles {
     }
 
     /// The cycles that are filled on one of the channels or more.
-    pub(crate) fn on_any(self, channels: Channels) -> u64 {
+    pub(crate) fn on_any(self, channels: Channels) -> u64
+        ensures { (k : ℕ) → is_bit_set result k
+            ≡ list_any (λ x. is_bit_set (word_on x self) k) (channels_in channels) }
+    {
         match channels {
             Channels::A => self.a,
             Channels::AB => self.a | self.b,

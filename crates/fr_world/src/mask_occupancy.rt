@@ -7,7 +7,8 @@ ghost use Rattle.fr_base.specs.Load.{used_cycles};
 ghost use Rattle.fr_base.specs.Schedule.{fill, first_taken};
 ghost use Rattle.fr_world.specs.CycleChannels.{taken_of};
 ghost use Rattle.fr_world.specs.Loads.{lane_of};
-ghost use Rattle.fr_world.specs.Masks.{first_cycle, is_free_on};
+ghost use Rattle.fr_base.specs.declared.channel.Channel.{Channel as OneChannel};
+ghost use Rattle.fr_world.specs.Masks.{AreFilled, first_cycle, is_free_on, word_on};
 
 use crate::cycle_channel::CycleChannel;
 use crate::filled_cycles::FilledCycles;
