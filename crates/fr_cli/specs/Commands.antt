@@ -48,7 +48,7 @@ memory = record (new_rule (codes "memory")) {
   long = Some (codes "memory");
   action = Some Set;
   value_names = 1;
-  defaults = codes "128" ∷ [];
+  defaults = codes "512" ∷ [];
   parser = Some (Signed (pos 1) (pos 1000000));
 }
 

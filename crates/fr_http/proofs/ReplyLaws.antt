@@ -9,7 +9,7 @@ use Rattle.fr_http.specs.Replying.{head_with}
 use Rattle.fr_http.specs.declared.fault.Rejection.{Rejection}
 use Rattle.fr_base.specs.Refusals.{status_of}
 use Rattle.fr_base.specs.declared.refusal.Refusal.{Refusal}
-use Rattle.fr_base.specs.declared.refusal.Refusal.TheVariants.{BadText, UnknownKey, NotYours, BadName, BadCycles, BadSlot, BadChannel, BadSignal, LabelUsed, NoVariant, Released, NotReleased, TooDeep, NoSupplier, NoNode, NoFrame, NoSignal, NoPlacement, Exists, NodeDiffers, NotGranted, InUse, Limit, Taken, CellTaken, OutOfPayload, BitTaken, Unavailable, BadKey, KeyTaken}
+use Rattle.fr_base.specs.declared.refusal.Refusal.TheVariants.{BadText, UnknownKey, NotYours, BadName, BadCycles, BadSlot, BadChannel, BadSignal, LabelUsed, NoVariant, Released, NotReleased, TooDeep, NoSupplier, NoNode, NoFrame, NoSignal, NoPlacement, Exists, NodeDiffers, NotGranted, InUse, Limit, Taken, CellTaken, OutOfPayload, BitTaken, Unavailable, BadKey, KeyTaken, NoRoom}
 
 -- ---- statuses
 
@@ -44,6 +44,7 @@ refusal_has_status (BitTaken bit signal) = (omega arith, omega arith)
 refusal_has_status Unavailable = (omega arith, omega arith)
 refusal_has_status BadKey = (omega arith, omega arith)
 refusal_has_status KeyTaken = (omega arith, omega arith)
+refusal_has_status NoRoom = (omega arith, omega arith)
 
 -- one text at the end, and then another, if there was memory for it
 pub last_adds : {E : Type 0} (r : Result (Unit {0}) E) (old a mid b new : List ℕ) → mid ≡ old ++ a → OnOk r (new ≡ mid ++ b) → OnOk r (new ≡ old ++ (a ++ b))

@@ -234,6 +234,22 @@ pub operations_of_tries :
 unfolding rows
 operations_of_tries = refl
 
+-- a file of wishes: beside what is there where it is posted, and as a replacement where it is put
+pub proposals :
+    map plan_of (
+    head (codes "POST") (codes "/v1/variants/v1/proposals") (length_field (codes "7") ∷ []) ∷ head (codes "PUT") (codes "/v1/variants/v1/proposals") (length_field (codes "7") ∷ [])
+    ∷ head (codes "PUT") (codes "/v1/variants/v1/proposals") [] ∷ head (codes "GET") (codes "/v1/variants/v1/proposals") [] ∷ []
+    )
+    ≡ Ok (record { route = Deliver (purpose.Proposal false); length = 7 }) ∷ Ok (record { route = Deliver (purpose.Proposal true); length = 7 }) ∷ Err LengthRequired ∷ Err (MethodNotAllowed (Either Post Put)) ∷ []
+unfolding rows
+proposals = refl
+
+pub operations_of_proposals :
+    operation_by (Deliver (purpose.Proposal false)) (codes "/v1/variants/v1/proposals") (codes "x") ∷ operation_by (Deliver (purpose.Proposal true)) (codes "/v1/variants/v1/proposals") (codes "x") ∷ []
+    ≡ Ok (operation.Request (request.Deliver (codes "v1") (purpose.Proposal false) (codes "x"))) ∷ Ok (operation.Request (request.Deliver (codes "v1") (purpose.Proposal true) (codes "x"))) ∷ []
+unfolding rows
+operations_of_proposals = refl
+
 -- a file that is sent, or tried, as the whole: by PUT alone
 pub wholes :
     map plan_of (

@@ -6,8 +6,8 @@ ghost use Rattle.fr_base.specs.Book.{own};
 ghost use Rattle.fr_base.specs.Tables.{len};
 ghost use Rattle.fr_office.specs.Carried.{CarriesEdits, OnlyReads, Replies};
 ghost use Rattle.fr_office.specs.Decided.{LeadsTo};
-ghost use Rattle.fr_office.specs.Deliveries.{CarriesActed, CarriesDelivery, CarriesFile, acted_answer, edits_of_file, label_said};
-ghost use Rattle.fr_world.specs.FileDecisions.{is_trial};
+ghost use Rattle.fr_office.specs.Deliveries.{CarriesActed, CarriesDelivery, CarriesFile, acted_answer, edits_of_file, label_said, proposal_answer};
+ghost use Rattle.fr_world.specs.FileDecisions.{is_proposal, is_trial};
 ghost use Rattle.fr_world.specs.Held.{Tells};
 ghost use Rattle.fr_world.specs.ImportLimits.{file_room};
 
@@ -38,10 +38,7 @@ pub(crate) fn deliver<R: Lender>(
     let kept = imports_kept(alloc, records, delivery)?;
     open_page(alloc, records, delivery.supplier, delivery.variant)?;
     admit_file(delivery, kept)?;
-    match delivery.how {
-        Purpose::Proposal { replace } => propose(alloc, records, delivery, replace),
-        _ => decide_rows(alloc, records, delivery),
-    }
+    decide(alloc, records, delivery)
 }
 
 // How many rows the file has, if it is an import that is kept under its label.
@@ -81,6 +78,23 @@ fn imports_kept<R: Records>(
     }
 }
 
+// Does what the file is delivered for, on the page that is lent.
+fn decide<R: Lender>(
+    alloc: Global,
+    records: &mut R,
+    delivery: &Delivery<'_>,
+) -> Result<Answer, Refusal>
+    requires lent { IsSome (R.lent records.old) }
+    requires open { IfSome (R.lent records.old) (λ page. page.released ≡ false) }
+    ensures { IfSome (R.lent records.old)
+        (CarriesFile R.Records delivery.now delivery.now.how records.old records.new result) }
+{
+    match delivery.how {
+        Purpose::Proposal { replace } => propose(alloc, records, delivery, replace),
+        _ => decide_rows(alloc, records, delivery),
+    }
+}
+
 // Tells what is proposed for the wishes of the file, on the page that is lent.
 fn propose<R: Lender>(
     alloc: Global,
@@ -112,6 +126,7 @@ fn decide_rows<R: Lender>(
     records: &mut R,
     delivery: &Delivery<'_>,
 ) -> Result<Answer, Refusal>
+    requires rows { is_proposal delivery.now.how ≡ false }
     requires lent { IsSome (R.lent records.old) }
     requires open { IfSome (R.lent records.old) (λ page. page.released ≡ false) }
     ensures { IfSome (R.lent records.old)
@@ -146,6 +161,7 @@ fn carry_out<R: Lender>(
     rows: u32,
 ) -> Result<Answer, Refusal>
     requires acts { is_trial delivery.now.how ≡ false }
+    requires rows { is_proposal delivery.now.how ≡ false }
     requires lent { IsSome (R.lent records.old) }
     requires leads { IfSome (R.lent records.old) (λ page. LeadsTo page
         (edits_of_file delivery.now delivery.now.how draft.edits.items rows) draft.page) }
@@ -165,9 +181,7 @@ fn carry_out<R: Lender>(
             })?;
             Answer::Imported { rows }
         }
-        Purpose::Replacement { .. } | Purpose::Trial { .. } | Purpose::Proposal { .. } => {
-            Answer::Replaced { rows }
-        }
+        _ => Answer::Replaced { rows },
     };
     records.change_to(alloc, &edits, page)?;
     Ok(answer)

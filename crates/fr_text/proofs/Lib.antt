@@ -6,6 +6,8 @@ pub mod WellFormedLaws
 pub mod FieldsLemmas
 pub mod PickLemmas
 pub mod ImportTextLemmas
+pub mod RecordReading
+pub mod WishTextLemmas
 pub mod WordsLemmas
 pub mod ReportLemmas
 pub mod RoomLemmas

@@ -1,6 +1,6 @@
 -- Proposal's file: what a supplier imports, or replaces with, of a proposal, and what the proposal says beside it.
-use Rattle.std.specs.Prelude.{ℕ, Bool, not, ◌&&◌, List, [], ◌∷◌, ◌++◌, map, Option, Some, None, is_err, Result, Ok, Err, if◌then◌else◌}
-use Rattle.std.specs.List.{filter_map, is_nil, list_any}
+use Rattle.std.specs.Prelude.{ℕ, false, List, [], ◌∷◌, ◌++◌, map, Option, Some, None, is_err, Result, Ok, Err, if◌then◌else◌}
+use Rattle.std.specs.List.{filter_map}
 use Rattle.fr_base.specs.declared.import.Header.TheVariants.{Placements}
 use Rattle.fr_base.specs.declared.proposal.Proposal.{Proposal}
 use Rattle.fr_base.specs.declared.proposal.ProposalRow.{ProposalRow}

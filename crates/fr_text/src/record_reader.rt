@@ -1,5 +1,6 @@
 //! Reads all the records below a header, each by its line.
-ghost use Rattle.std.specs.Prelude.{◌≡◌, ◌+◌, ◌++◌, take, MatchResult};
+ghost use Rattle.std.specs.Prelude.{◌≡◌, ◌+◌, ◌++◌, nat_lt, take, MatchResult};
+ghost use Rattle.fr_base.specs.Refusing.{refuse◌when◌};
 ghost use Rattle.fr_base.specs.declared.limits.TheConstants.{MAX_ROWS};
 ghost use Rattle.fr_text.specs.ImportText.{lines_from};
 
@@ -44,7 +45,10 @@ pub(crate) fn push_all<T: Drop, R: RecordReader<T>>(
 
 /// Refuses a line behind as many as a file may have.
 #[inline(always)]
-pub(crate) fn within(line: u32) -> Result<(), Refusal> {
+#[tactic(auto, unfolding(crate::proofs::RecordReading::limit_open))]
+pub(crate) fn within(line: u32) -> Result<(), Refusal>
+    ensures { result ≡ (refuse Refusal.Limit when nat_lt (MAX_ROWS + 1) line) }
+{
     if line > MAX_ROWS + 1 {
         return Err(Refusal::Limit);
     }

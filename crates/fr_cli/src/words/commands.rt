@@ -152,7 +152,7 @@ fn memory<'a>(alloc: Global) -> Arg<'a>
         .value_name("MIB")
         .help("Keeps pages of at most so many MiB in memory")
         .action(ArgAction::Set)
-        .default_value("128")
+        .default_value("512")
         .value_parser(value_parser!(u32).range(1..=1_000_000))
 }
 
