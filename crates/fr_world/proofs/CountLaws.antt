@@ -96,12 +96,11 @@ module _ (s : Name) where
       by None at = ap (λ t. get t (s, f)) (remove-none frames (s, wish.frame) at) ∙ none at (same_text wish.frame f) refl
 
   len-free : (read : Result Wish Refusal) (frames : Table owned Frame) → len (free_wish s read frames) ≡ len frames
-  unfolding free_wish settle
+  unfolding free_wish settle len get insert
   len-free (Err refusal) frames = refl
   len-free (Ok wish) frames = by (get frames (s, wish.frame)) refl
     where
       by : (o : Option Frame) → get frames (s, wish.frame) ≡ o → len (settle frames (s, wish.frame) (emptied o)) ≡ len frames
-      unfolding len get insert
       by (Some frame) at = length-put owned.compare owned.total (s, wish.frame) (record frame { placements = empty }) frames.rows frames.sorted ∙ ap (λ o. cond (is_some o) (length frames.rows) (length frames.rows + 1)) at
       by None at = ap (λ t. length t.rows) (remove-none frames (s, wish.frame) at)
 
@@ -171,6 +170,7 @@ pub counts-more : (rows : PageData) (freed : Name → Bool) (old new : Counts) (
     → new.frames ≡ cond (is_some there) old.frames (old.frames + 1)
     → ((q : Name) → lookup (is_at (slice_cmp nat_cmp q)) new.wished.entries ≡ cond (is_at (slice_cmp nat_cmp wish.frame) q) (Some one) (lookup (is_at (slice_cmp nat_cmp q)) old.wished.entries))
     → ShowCounts rows freed new (count_wish rows.supplier counted (Ok wish))
+unfolding len get insert
 counts-more rows freed old new counted wish there one shows at is frames puts = record { frames = all; each = each }
   where
     k : Name × Name
@@ -180,7 +180,6 @@ counts-more rows freed old new counted wish there one shows at is frames puts = 
     now = one_more wish (get counted k)
 
     all : len (insert counted k now) ≡ new.frames
-    unfolding len get insert k
     all =
         length-put owned.compare owned.total k now counted.rows counted.sorted
         ∙ (λ i. cond (is_some (at i)) (shows.frames i) (shows.frames i + 1))
@@ -190,12 +189,10 @@ counts-more rows freed old new counted wish there one shows at is frames puts = 
     page_has f = option_map (count_of (freed f)) (get (own_rows_of rows).frames (rows.supplier, f))
 
     by : (f : Name) (b : Bool) → cond b (Some now) (get counted (rows.supplier, f)) ≡ option_or (option_map counted_of (cond b (Some one) (lookup (is_at (slice_cmp nat_cmp f)) old.wished.entries))) (page_has f)
-    unfolding now k page_has
     by f true = ap Some (ap (one_more wish) at ∙ sym is)
     by f false = shows.each f
 
     each : (f : Name) → get (insert counted k now) (rows.supplier, f) ≡ option_or (option_map counted_of (lookup (is_at (slice_cmp nat_cmp f)) new.wished.entries)) (page_has f)
-    unfolding k
     each f =
         get-insert counted k now (rows.supplier, f)
         ∙ ap (λ b. cond b (Some now) (get counted (rows.supplier, f))) (key-test rows.supplier f wish.frame ∙ sym (name-test wish.frame f))

@@ -46,7 +46,7 @@ other-none : (p : Params) (cs ds : Channels) (r : ℕ) (wishes : List Asked) →
 other-none p cs ds r [] all apart = refl
 other-none p cs ds r (asked ∷ wishes) all apart =
     let first = All-head (λ asked. same_kind asked.wish.channels cs ≡ true) asked wishes all in
-    let none : is_for ds r asked ≡ false = ap (λ b. b && (asked.wish.repetition == r)) (apart asked.wish.channels first) in
+    let none : is_for ds r asked ≡ false = ap (λ b. b && eqb asked.wish.repetition r) (apart asked.wish.channels first) in
     rw none (other-none p cs ds r wishes (All-tail (λ asked. same_kind asked.wish.channels cs ≡ true) asked wishes all) apart)
 
 other-turns : (p : Params) (cs ds : Channels) (wishes : List Asked) → All (λ asked. same_kind asked.wish.channels cs ≡ true) wishes → ((e : Channels) → same_kind e cs ≡ true → same_kind e ds ≡ false) → turns_on p wishes ds ≡ []

@@ -94,23 +94,18 @@ impl Counts {
             × ShowCounts page.now (is_freed replace reads.now) self.new
             (count_wish page.now.supplier counted wish)) }
     {
-        let line = read.line;
-        let wish = match read.wish {
-            Ok(wish) => wish,
-            Err(refusal) => {
-                let wish = Err(refusal);
-                return Ok(WishRead { line, wish });
-            }
+        let Ok(wish) = &read.wish else {
+            return Ok(*read);
         };
         let there = self.of(page, replace, reads, wish.frame);
-        match admit(page, &wish, there, self.frames) {
+        match admit(page, wish, &there, self.frames) {
             Ok(counting) => {
                 self.wished.insert(wish.frame, counting.counted)?;
                 self.frames = counting.frames;
-                let wish = Ok(wish);
-                Ok(WishRead { line, wish })
+                Ok(*read)
             }
             Err(refusal) => {
+                let line = read.line;
                 let wish = Err(refusal);
                 Ok(WishRead { line, wish })
             }
@@ -140,15 +135,15 @@ fn count_of(row: &PageFrame, freed: bool) -> Counted
 fn admit(
     page: &Page,
     wish: &Wish,
-    there: Option<Counted>,
+    there: &Option<Counted>,
     frames: usize,
 ) -> Result<Counting, Refusal>
     ensures { (counted : Table owned CountedFrame) → len counted ≡ frames
-        → get counted (page.now.supplier, wish.now.frame) ≡ option_map counted_of there
+        → get counted (page.now.supplier, wish.now.frame) ≡ option_map counted_of there.now
         → MatchResult result
         (λ counting. (admits_wish (own_rows_of page.now) counted wish.now ≡ Ok tt)
-        × (counted_of counting.counted ≡ one_more wish.now (option_map counted_of there))
-        × (counting.frames ≡ (if is_some there then frames else frames + 1)))
+        × (counted_of counting.counted ≡ one_more wish.now (option_map counted_of there.now))
+        × (counting.frames ≡ (if is_some there.now then frames else frames + 1)))
         (λ e. admits_wish (own_rows_of page.now) counted wish.now ≡ Err e) }
 {
     if !has_node(page, wish.node) {
@@ -167,8 +162,8 @@ fn admit(
 }
 
 // Whether what counts of the frame has another node.
-fn is_of_another(there: Option<Counted>, node: Name) -> bool
-    ensures { result ≡ has_another_node node (option_map counted_of there) }
+fn is_of_another(there: &Option<Counted>, node: Name) -> bool
+    ensures { result ≡ has_another_node node (option_map counted_of there.now) }
 {
     match there {
         Some(one) => one.node != node,
@@ -178,11 +173,11 @@ fn is_of_another(there: Option<Counted>, node: Name) -> bool
 
 // What counts with the wish, if there may be one placement more, and one frame more where the frame is
 // not there.
-fn counted_with(wish: &Wish, there: Option<Counted>, frames: usize) -> Option<Counting>
-    ensures { MatchOption result (is_full_at frames (option_map counted_of there) ≡ true)
-        (λ counting. (is_full_at frames (option_map counted_of there) ≡ false)
-        × (counted_of counting.counted ≡ one_more wish.now (option_map counted_of there))
-        × (counting.frames ≡ (if is_some there then frames else frames + 1))) }
+fn counted_with(wish: &Wish, there: &Option<Counted>, frames: usize) -> Option<Counting>
+    ensures { MatchOption result (is_full_at frames (option_map counted_of there.now) ≡ true)
+        (λ counting. (is_full_at frames (option_map counted_of there.now) ≡ false)
+        × (counted_of counting.counted ≡ one_more wish.now (option_map counted_of there.now))
+        × (counting.frames ≡ (if is_some there.now then frames else frames + 1))) }
 {
     match there {
         Some(one) => {

@@ -14,7 +14,8 @@ use Rattle.fr_world.proofs.proposal.turns.Plan.take_alike.Goals.{then-is_for+in_
 pub returns-then-not-any : goal.returns-then-not-any
 returns-then-not-any c on at =
     let t = is_for c.args.kind.channels c.args.kind.repetition in
-    let none : list_any t c.args.wishes.now ≡ false = search (rules, tests) in
+    let found : c.any.result ≡ list_any t c.args.wishes.now = search (rules, tests) in
+    let none : list_any t c.args.wishes.now ≡ false = sym found ∙ c.if-not-any.true in
     subst (Takes c.args.params.now on c.args.self.now.cells c.args.self.now.cells c.args.self.now.given.items c.args.self.now.given.items) (sym (none-kept t c.args.wishes.now none)) (takes-none c.args.params.now on c.args.self.now.cells c.args.self.now.given.items)
 
 pub loop-asked-init : goal.loop-asked-init
