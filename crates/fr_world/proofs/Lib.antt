@@ -69,5 +69,6 @@ pub mod FitLaws
 pub mod SlotFits
 pub mod TurnLaws
 pub mod CountLaws
+pub mod RefusedLaws
 pub mod FreedRows
 pub mod LackSlots
