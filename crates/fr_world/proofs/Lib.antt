@@ -70,5 +70,6 @@ pub mod SlotFits
 pub mod TurnLaws
 pub mod CountLaws
 pub mod RefusedLaws
+pub mod KeepingLaws
 pub mod FreedRows
 pub mod LackSlots
