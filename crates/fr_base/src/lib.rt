@@ -118,6 +118,7 @@ pub use laws::no_room_is_certain;
 pub use laws::no_room_where_released;
 pub use laws::nothing_differs_from_itself;
 pub use laws::nothing_is_gone_and_new;
+pub use laws::nothing_moves_that_need_not;
 pub use laws::one_dependence;
 pub use laws::one_frame_in_a_cell;
 pub use laws::one_too_many_is_limit;

@@ -1,5 +1,5 @@
 //! What holds of the placements that are proposed for wishes.
-ghost use Rattle.fr_base.specs.ProposalLaws.{AllAreGivenWhereAllFit, NoRoomIsCertain, ProposalIsImported, RowsAreTheirWishes};
+ghost use Rattle.fr_base.specs.ProposalLaws.{AllAreGivenWhereAllFit, NoRoomIsCertain, NothingMovesThatNeedNot, ProposalIsImported, RowsAreTheirWishes};
 
 /// Without `replace`, of a node whose wishes have repetitions of which one divides the other: a wish has no room exactly where
 /// it does not fit together with those before it in turn on its channels that have a placement, beside what is there and
@@ -24,4 +24,10 @@ pub fn rows_are_their_wishes()
 /// of them.
 pub fn proposal_is_imported()
     ensures { ProposalIsImported }
+{}
+
+/// Under `replace`, of a node of which the wishes that keep nothing are for the same channels and have repetitions of which
+/// one divides the other: where these fit beside all that is kept, each wish that keeps a placement has it in the proposal.
+pub fn nothing_moves_that_need_not()
+    ensures { NothingMovesThatNeedNot }
 {}
