@@ -49,8 +49,8 @@ kept_all p q (Some v) e = ap (λ b. cond b (Some v) None) (e v)
 
 module _ {V : Type 0} (t : Table owned V) (k : Name × Name) (none : get t k ≡ None) where
   -- a row that is not there is taken out of nothing
-  remove-none : remove t k ≡ t
-  remove-none = same_table _ _ (λ q. get-remove t k q ∙ by q (cases_Bool (eq_by_cmp owned.compare k q)))
+  pub remove-none : remove t k ≡ t
+  remove-none = same_table _ _ (λ q. get-remove owned (λ _ _. true) t k q ∙ by q (cases_Bool (eq_by_cmp owned.compare k q)))
     where
       by : (q : Name × Name) → (eq_by_cmp owned.compare k q ≡ true) ⊎ (eq_by_cmp owned.compare k q ≡ false) → kept (λ j _. not (eq_by_cmp owned.compare k j)) q (get t q) ≡ get t q
       by q (inl same) =
@@ -135,7 +135,10 @@ unfolding len empty
 counts-freed true frame = refl
 counts-freed false frame = refl
 
-counted-freed : (b : Bool) (o : Option Frame) → option_map (λ frame. let c : Counted = record { node = frame.node; placements = len frame.placements } in c) (freed_with b o) ≡ option_map (count_of b) o
+abbrev as_counted : Frame → Counted
+as_counted frame = record { node = frame.node; placements = len frame.placements }
+
+counted-freed : (b : Bool) (o : Option Frame) → option_map as_counted (freed_with b o) ≡ option_map (count_of b) o
 counted-freed b None = refl
 counted-freed b (Some frame) = λ i. Some (record { node = frame.node; placements = counts-freed b frame i })
 
@@ -145,10 +148,10 @@ unfolding counted_frames
 counts-begin rows replace reads counts none all =
     let own = own_rows_of rows in
     record {
-      frames = len-each _ (frames_beside own replace reads) ∙ len-beside own reads replace ∙ sym all;
+      frames = len-each owned as_counted (frames_beside own replace reads) ∙ len-beside own reads replace ∙ sym all;
       each = λ f.
-          get-each _ (frames_beside own replace reads) (rows.supplier, f)
-          ∙ ap (option_map _) (get-beside own reads replace f)
+          get-each owned as_counted (frames_beside own replace reads) (rows.supplier, f)
+          ∙ ap (option_map as_counted) (get-beside own reads replace f)
           ∙ counted-freed (is_freed replace reads f) (get own.frames (rows.supplier, f))
           ∙ ap (λ es. option_or (option_map counted_of (lookup (is_at (slice_cmp nat_cmp f)) es)) (option_map (count_of (is_freed replace reads f)) (get own.frames (rows.supplier, f)))) (sym none);
     }

@@ -14,7 +14,7 @@ use Rattle.fr_base.specs.Keys.{owned, names, placement_order}
 use Rattle.fr_base.specs.Names.{same_text}
 use Rattle.fr_base.specs.Proposals.{filled_places}
 use Rattle.fr_base.specs.RefusedWishes.{emptied, frames_beside, free_wish, free_wishes}
-use Rattle.fr_base.specs.Tables.{Table, empty, get, insert, remove, settle}
+use Rattle.fr_base.specs.Tables.{Table, empty, from_rows, get, insert, remove, settle}
 use Rattle.fr_base.specs.declared.name.Name.{Name}
 use Rattle.fr_base.specs.declared.placement.Placement.{Placement}
 use Rattle.fr_base.specs.declared.refusal.Refusal.{Refusal}
@@ -28,7 +28,7 @@ use Rattle.fr_world.specs.Maps.{table_of, set_of}
 use Rattle.fr_world.specs.Pages.{FrameData, PageData, frame_data, frame_of, frames_data, own_rows_of}
 use Rattle.fr_world.specs.declared.page.PageFrame.{PageFrame}
 use Rattle.fr_world.proofs.CountLaws.{freed_with, get-beside, remove-none}
-use Rattle.fr_world.proofs.KeyLaws.{name_cmp, own_alike, placement_cmp, placements_alike}
+use Rattle.fr_world.proofs.KeyLaws.{name_cmp, own_alike}
 use Rattle.fr_world.proofs.MapLaws.{get-table_of, rows-set_of, rows-table_of}
 
 -- ---- other suppliers' keys
@@ -56,7 +56,7 @@ free-foreign s (read ∷ reads) t k apart = free-foreign s reads (free_wish s re
 
 table-foreign : {U : Type 0} (s : Name) (value : U → book.Frame) (es : List (Name × U)) (k : Name × Name) → same_text k.0 s ≡ false → get (table_of owned (λ f. (s, f)) value es) k ≡ None
 unfolding table_of
-table-foreign s value es k apart = get-from_rows (map (λ e. ((s, e.0), value e.1)) es) k ∙ nowhere es
+table-foreign {U = U} s value es k apart = get-from_rows (map (λ e. ((s, e.0), value e.1)) es) k ∙ nowhere es
   where
     nowhere : (es : List (Name × U)) → find owned.compare k (map (λ e. ((s, e.0), value e.1)) es) ≡ None
     nowhere [] = refl
@@ -79,7 +79,7 @@ lookup-left freed f (e ∷ fs) = elim (cases_Bool (is_at (name_cmp f) e.0)) [
 ]
 
 freed-data : (b : Bool) (o : Option FrameData) → freed_with b (option_map frame_of o) ≡ option_map frame_of (option_map (data_if b) o)
-unfolding data_if set_of
+unfolding data_if set_of from_rows empty
 freed-data b None = refl
 freed-data true (Some d) = refl
 freed-data false (Some d) = refl
@@ -137,21 +137,21 @@ of-set f [] = refl
 of-set f (q ∷ qs) = ap (λ rest. (f, q) ∷ rest) (of-set f qs)
 
 module _ (page : PageData) (replace : Bool) (reads : List WishRead) (es : List (Name × PageFrame)) (shows : frames_data es ≡ page.frames)
-    (rise : IsStrictlySortedBy name_cmp (keys_of page.frames)) (each : All (λ e. IsStrictlySortedBy placement_cmp e.1.placements) page.frames) where
-  one_left : (b : Bool) (e : Name × FrameData) → IsStrictlySortedBy placement_cmp e.1.placements → map {B = Name × Placement} (λ (q : Placement × ⊤). (e.0, q.0)) (frame_of (data_if b e.1)).placements.rows ≡ cond b [] (map (λ q. (e.0, q)) e.1.placements)
-  unfolding data_if set_of
+    (rise : IsStrictlySortedBy name_cmp (keys_of page.frames)) (each : All (λ e. IsStrictlySortedBy placement_order.compare e.1.placements) page.frames) where
+  one_left : (b : Bool) (e : Name × FrameData) → IsStrictlySortedBy placement_order.compare e.1.placements → map {B = Name × Placement} (λ (q : Placement × ⊤). (e.0, q.0)) (frame_of (data_if b e.1)).placements.rows ≡ cond b [] (map (λ q. (e.0, q)) e.1.placements)
+  unfolding data_if set_of from_rows empty
   one_left true e h = refl
-  one_left false e h = ap (map {B = Name × Placement} (λ (q : Placement × ⊤). (e.0, q.0))) (rows-set_of placement_cmp placement_order (λ p. p) placements_alike e.1.placements h) ∙ of-set e.0 e.1.placements
+  one_left false e h = ap (map {B = Name × Placement} (λ (q : Placement × ⊤). (e.0, q.0))) (rows-set_of placement_order.compare placement_order (λ p. p) (λ x y. refl) e.1.placements h) ∙ of-set e.0 e.1.placements
 
-  each_left : (freed : Name → Bool) (fs : List (Name × PageFrame)) → All (λ e. IsStrictlySortedBy placement_cmp e.1.placements) (frames_data fs)
+  each_left : (freed : Name → Bool) (fs : List (Name × PageFrame)) → All (λ e. IsStrictlySortedBy placement_order.compare e.1.placements) (frames_data fs)
       → in_rows (map (λ e. ((page.supplier, e.0), frame_of e.1)) (left_rows freed (frames_data fs))) ≡ filled_entries freed fs
   each_left freed [] h = refl
   each_left freed (e ∷ fs) h =
       let parts = All-pop-front e fs h in
       λ i. one_left (freed e.0) (e.0, frame_data e.1) parts.0 i ++ each_left freed fs parts.1 i
     where
-      All-pop-front : (e : Name × PageFrame) (fs : List (Name × PageFrame)) → All (λ e. IsStrictlySortedBy placement_cmp e.1.placements) (frames_data (e ∷ fs)) → IsStrictlySortedBy placement_cmp e.1.placements.keys × All (λ e. IsStrictlySortedBy placement_cmp e.1.placements) (frames_data fs)
-      All-pop-front e fs h = (All-head (λ e. IsStrictlySortedBy placement_cmp e.1.placements) (e.0, frame_data e.1) (frames_data fs) h, All-tail (λ e. IsStrictlySortedBy placement_cmp e.1.placements) (e.0, frame_data e.1) (frames_data fs) h)
+      All-pop-front : (e : Name × PageFrame) (fs : List (Name × PageFrame)) → All (λ e. IsStrictlySortedBy placement_order.compare e.1.placements) (frames_data (e ∷ fs)) → IsStrictlySortedBy placement_order.compare e.1.placements.keys × All (λ e. IsStrictlySortedBy placement_order.compare e.1.placements) (frames_data fs)
+      All-pop-front e fs h = (All-head (λ e. IsStrictlySortedBy placement_order.compare e.1.placements) (e.0, frame_data e.1) (frames_data fs) h, All-tail (λ e. IsStrictlySortedBy placement_order.compare e.1.placements) (e.0, frame_data e.1) (frames_data fs) h)
 
   pub beside-filled : filled_places (frames_beside (own_rows_of page) replace reads) ≡ filled_entries (is_freed replace reads) es
   unfolding filled_places
@@ -159,4 +159,4 @@ module _ (page : PageData) (replace : Bool) (reads : List WishRead) (es : List (
       ap (λ t. in_rows t.rows) (left_is page replace reads)
       ∙ ap in_rows (rows-table_of name_cmp owned (λ f. (page.supplier, f)) frame_of (own_alike page.supplier) (left_rows (is_freed replace reads) page.frames) (subst (IsStrictlySortedBy name_cmp) (sym (keys-left (is_freed replace reads) page.frames)) rise))
       ∙ ap (λ fs. in_rows (map (λ e. ((page.supplier, e.0), frame_of e.1)) (left_rows (is_freed replace reads) fs))) (sym shows)
-      ∙ each_left (is_freed replace reads) es (subst (All (λ e. IsStrictlySortedBy placement_cmp e.1.placements)) (sym shows) each)
+      ∙ each_left (is_freed replace reads) es (subst (All (λ e. IsStrictlySortedBy placement_order.compare e.1.placements)) (sym shows) each)

@@ -71,3 +71,4 @@ pub mod TurnLaws
 pub mod CountLaws
 pub mod FreedRows
 pub mod LackSlots
+pub mod GivenRows
