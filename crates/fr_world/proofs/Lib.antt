@@ -72,3 +72,4 @@ pub mod CountLaws
 pub mod FreedRows
 pub mod LackSlots
 pub mod GivenRows
+pub mod KeptRows
