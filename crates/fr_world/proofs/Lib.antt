@@ -69,6 +69,7 @@ pub mod FitLaws
 pub mod SlotFits
 pub mod TurnLaws
 pub mod CountLaws
+pub mod RefusedLaws
 pub mod FreedRows
 pub mod LackSlots
 pub mod GivenRows

@@ -1,4 +1,5 @@
 //! Which wishes the supplier's rows refuse.
+ghost use Rattle.std.specs.List.{list_any};
 ghost use Rattle.std.specs.Prelude.{◌≡◌, ◌+◌, [], ◌∷◌, Some, None, Ok, Err, is_some, true, false, IfOk, MatchOption, MatchResult, option_map, if◌then◌else◌};
 ghost use Rattle.fr_base.specs.Keys.{owned};
 ghost use Rattle.fr_base.specs.RefusedWishes.{admits_wish, count_wish, counted_frames, frames_beside, has_another_node, judge, judged, one_more};
@@ -19,7 +20,14 @@ use std::collections::BTreeMap;
 pub(super) fn is_freed(replace: bool, reads: &[WishRead], frame: Name) -> bool
     ensures { result ≡ is_freed replace reads.now frame }
 {
-    replace && reads.iter().any(|read| names(read, frame))
+    replace && are_naming(reads, frame)
+}
+
+// Whether one of the wishes names the frame.
+fn are_naming(reads: &[WishRead], frame: Name) -> bool
+    ensures { result ≡ list_any (λ read. names_frame frame read.wish) reads.now }
+{
+    reads.iter().any(|read| names(read, frame))
 }
 
 // Whether the wish names the frame.
