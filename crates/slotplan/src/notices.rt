@@ -1,4 +1,5 @@
 //! What a server tells on standard error, which never holds the server up.
+ghost use Rattle.std.specs.Prelude.{◌<◌, IsTrue, vec_len};
 
 use libc::net::{self, POLLOUT};
 use libc::types::pollfd;
@@ -54,8 +55,11 @@ impl<'a> Notices<'a> {
 
     /// Tells how often each line came again.
     pub fn end(&mut self) {
-        while let Some(told) = self.told.pop() {
-            self.tell_again(&told);
+        for _ in 0..MOST {
+            match self.told.pop() {
+                Some(told) => self.tell_again(&told),
+                None => return,
+            }
         }
     }
 
@@ -92,7 +96,10 @@ impl<'a> Notices<'a> {
         }
     }
 
-    fn is_over(&self, at: usize, now: Instant) -> bool {
+    // Whether there is a line at this place that was told a second ago or earlier.
+    fn is_over(&self, at: usize, now: Instant) -> bool
+        ensures { IsTrue result → at < vec_len self.now.told }
+    {
         match self.told.get(at) {
             Some(told) => now.saturating_duration_since(told.at) >= Duration::from_secs(PAUSE),
             None => false,
