@@ -1,6 +1,7 @@
 //! What a server tells on standard error, which never holds the server up.
 ghost use Rattle.std.specs.Prelude.{◌<◌, IsTrue, vec_len};
 
+use fr_text::Output;
 use libc::net::{self, POLLOUT};
 use libc::types::pollfd;
 use std::alloc::Global;
@@ -130,10 +131,10 @@ impl<'a> Notices<'a> {
         let dropped = mem::replace(&mut self.dropped, 0);
         if dropped > 0 {
             if let Ok(text) = format!(in self.alloc; "slotplan: lines dropped: {dropped}\n") {
-                let _ = self.err.write(text.as_bytes());
+                let _ = Output::new(&mut self.err).write_all(text.as_bytes());
             }
         }
-        let _ = self.err.write(line);
+        let _ = Output::new(&mut self.err).write_all(line);
     }
 }
 
