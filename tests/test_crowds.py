@@ -47,8 +47,9 @@ class Crowd(HeldCase):
             streams[0].sendall(FRAMES[0][:1])
             streams += [held.enter_context(connected(port)) for _ in range(more)]
             self.see("they are heard", True, is_heard(port))
-            self.see("no more than may be", OPEN, comes_to(OPEN, lambda: open_at(server)))
             gone = range(1, 2 * ROOM + 1)
+            stay = OPEN + more - len(gone)
+            self.see("how many are open then", stay, comes_to(stay, lambda: open_at(server)))
             self.see("who went", [*gone], [number for number, stream in enumerate(streams) if not is_open(stream)])
             self.see("what they were sent", {b""}, {had(streams[number]) for number in gone})
             self.honest(port)

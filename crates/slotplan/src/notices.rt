@@ -1,5 +1,7 @@
 //! What a server tells on standard error, which never holds the server up.
+ghost use Rattle.std.specs.Prelude.{◌<◌, IsTrue, vec_len};
 
+use fr_text::Output;
 use libc::net::{self, POLLOUT};
 use libc::types::pollfd;
 use std::alloc::Global;
@@ -54,8 +56,11 @@ impl<'a> Notices<'a> {
 
     /// Tells how often each line came again.
     pub fn end(&mut self) {
-        while let Some(told) = self.told.pop() {
-            self.tell_again(&told);
+        for _ in 0..MOST {
+            match self.told.pop() {
+                Some(told) => self.tell_again(&told),
+                None => return,
+            }
         }
     }
 
@@ -92,7 +97,10 @@ impl<'a> Notices<'a> {
         }
     }
 
-    fn is_over(&self, at: usize, now: Instant) -> bool {
+    // Whether there is a line at this place that was told a second ago or earlier.
+    fn is_over(&self, at: usize, now: Instant) -> bool
+        ensures { IsTrue result → at < vec_len self.now.told }
+    {
         match self.told.get(at) {
             Some(told) => now.saturating_duration_since(told.at) >= Duration::from_secs(PAUSE),
             None => false,
@@ -123,10 +131,10 @@ impl<'a> Notices<'a> {
         let dropped = mem::replace(&mut self.dropped, 0);
         if dropped > 0 {
             if let Ok(text) = format!(in self.alloc; "slotplan: lines dropped: {dropped}\n") {
-                let _ = self.err.write(text.as_bytes());
+                let _ = Output::new(&mut self.err).write_all(text.as_bytes());
             }
         }
-        let _ = self.err.write(line);
+        let _ = Output::new(&mut self.err).write_all(line);
     }
 }
 
