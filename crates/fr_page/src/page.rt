@@ -28,7 +28,7 @@ pub const DOCUMENT: &str = "<!doctype html>
 
 <div id=\"app\" class=\"app\" hidden>
   <header class=\"top\">
-    <strong class=\"brand\">slotplan</strong>
+    <h1 class=\"brand\">slotplan</h1>
     <label for=\"variant\" class=\"quiet\">Variant</label>
     <select id=\"variant\"></select>
     <span id=\"variant-state\" class=\"tag\"></span>
@@ -49,7 +49,7 @@ pub const DOCUMENT: &str = "<!doctype html>
   </div>
   <div id=\"message\" class=\"message\" role=\"status\" aria-live=\"polite\" hidden></div>
 
-  <div id=\"columns\" class=\"columns\">
+  <main id=\"columns\" class=\"columns\">
     <aside class=\"side\" id=\"side\" aria-label=\"Frames\">
       <button id=\"side-open\" type=\"button\" class=\"side-open\" aria-expanded=\"false\" aria-controls=\"side\">Frames</button>
       <label for=\"search\" class=\"hidden-label\">Search frames</label>
@@ -114,7 +114,7 @@ pub const DOCUMENT: &str = "<!doctype html>
     </section>
 
     <aside id=\"detail\" class=\"detail\" aria-label=\"Details\" tabindex=\"-1\"></aside>
-  </div>
+  </main>
 </div>
 
 <div id=\"tip\" class=\"tip\" hidden></div>
@@ -149,7 +149,7 @@ button{cursor:pointer;background:var(--soft)}
 button:hover:not(:disabled){background:#e4e9f0}
 button:disabled{opacity:.5;cursor:default}
 button.main,button[aria-pressed=true]{background:var(--accent);border-color:var(--accent);color:#fff}
-button.main:hover:not(:disabled){background:#094a8c}
+button.main:hover:not(:disabled),button[aria-pressed=true]:hover:not(:disabled){background:#094a8c;color:#fff}
 button.bad{color:var(--bad);border-color:#d6a3a5}
 button.bad.main{background:#fbe9e9}
 button.link{border:0;background:none;padding:0;min-height:0;color:var(--accent);text-decoration:underline;text-align:left}
@@ -167,7 +167,7 @@ label.check{display:inline-flex;gap:.35rem;align-items:center}
 .login form{display:grid;gap:.6rem}
 .app{display:flex;flex-direction:column;height:100vh;height:100dvh}
 .top{position:relative;overflow:hidden;display:flex;flex-wrap:wrap;gap:.4rem .5rem;align-items:center;padding:.4rem .75rem;background:#1c2633;color:#fff}
-.brand{font-size:1.05rem;margin-right:.3rem}
+.brand{font-size:1.05rem;margin:0 .3rem 0 0}
 .quiet{color:#c6d0dd}
 .top select,.top button{background:#2b3848;color:#fff;border-color:#55657a}
 .top button:hover{background:#3a4b60}
@@ -1178,9 +1178,27 @@ const OUT_OF_DATE = [10, 11, 14, 15, 16, 17, 18, 19, 21, 22, 24, 25, 27, 29];
 // Says something: `good`, `bad`, `warn` or, of what is under way, `wait`.
 function say(kind, text, ...buttons) {
   const box = byId(\"message\");
+  clearTimeout(fading);
+  if (kind === \"good\") fading = setTimeout(fade, SHOWN_FOR);
   box.className = \"message \" + kind;
   box.replaceChildren(make(\"div\", {}, text), ...buttons, button(\"Close\", quiet));
   box.hidden = false;
+  box.style.bottom = aboveCell();
+}
+
+// Messages stand above the line that tells of a cell, where that is seen.
+function aboveCell() {
+  const line = byId(\"cell\"), top = line.checkVisibility?.() ? line.getBoundingClientRect().top : 0;
+  return top > 0 && top < window.innerHeight ? `${window.innerHeight - top + 6}px` : \"\";
+}
+
+// What was done goes away by itself, unless it is pointed at or has the keyboard.
+const SHOWN_FOR = 15_000;
+let fading = 0;
+function fade() {
+  const box = byId(\"message\");
+  if (box.matches(\":hover, :focus-within\")) fading = setTimeout(fade, SHOWN_FOR);
+  else quietGood();
 }
 
 const quiet = () => { byId(\"message\").hidden = true; };
@@ -1364,6 +1382,19 @@ function rowChanges(changes, kind, fields) {
 function filed(kind, frames, rowOf) {
   const rows = frames.flatMap(frame => frame.rows.map(one => rowOf(frame, one)));
   return rows.length ? partsOf([HEADS[kind], ...rows]).map(part => ({file: fileOf(part), isWhole: false})) : [];
+}
+
+// How many rows of a file, below its header, the supplier has already just so.
+function rowsThere(plan, supplier, kind, rows) {
+  const has = (fields, some, one) => some.some(other => asText(fields, other) === asText(fields, one));
+  const isThere = ([name, ...rest]) => {
+    const frame = plan.frameNamed(supplier, name);
+    if (!frame) return false;
+    if (kind === \"signals\") return has(SIGNAL, frame.signals, {name: rest[0], start: Number(rest[1]), length: Number(rest[2]), order: rest[3]});
+    const [node, slot, channels, base, repetition] = rest;
+    return frame.node === node && (kind === \"frames\" || has(PLACE, frame.placements, {slot: Number(slot), channels, base: Number(base), repetition: Number(repetition)}));
+  };
+  return rows.filter(isThere).length;
 }
 
 // Whether a request does exactly what it says, or is refused, whatever somebody else has changed.
@@ -2200,7 +2231,8 @@ function signalForm(desk, frame, signals, matrix) {
   const isWhole = () => start.value !== \"\" && length.value >= 1 && length.value <= 64;
   const draw = () => matrix.replaceChildren(bitTable(desk.cluster, signals, isWhole() ? wanted() : null, pick));
   const keep = () => { desk.draft = {key, name: name.value, start: start.value, length: length.value, order: order.value}; };
-  for (const input of [name, start, length, order]) input.addEventListener(\"input\", () => { keep(); draw(); });
+  name.addEventListener(\"input\", keep);
+  for (const input of [start, length, order]) input.addEventListener(\"input\", () => { keep(); draw(); });
   const add = event => {
     event.preventDefault();
     if (isDigits(start.value) && isDigits(length.value)) addSignal(desk, frame, wanted());
@@ -2385,6 +2417,11 @@ function kindBar(desk, difference) {
   const all = button(\"all\", () => show(null), {\"aria-pressed\": String(!difference.kind)});
   return row(difference.rows.length ? all : make(\"strong\", {}, \"Nothing differs.\"), kinds,
     button(\"Mark it in the plan\", () => { desk.look.marks = true; desk.show(\"plan\"); desk.tell(\"look\"); }),
+    button(\"Take it as a picture\", () => attempt(desk, async () => {
+      const {variant} = desk, name = `${variant}_since_${difference.from}.html`;
+      save(name, await desk.register.read(desk.path(`since/${difference.from}/picture`)), \"text/html\");
+      say(\"good\", `${name} is the plan with what is new in it, as a page to print or to send.`);
+    }, \"Taking the picture ...\")),
     button(\"Forget it\", () => { desk.difference = null; desk.tell(\"difference\"); }));
 }
 
@@ -2955,6 +2992,9 @@ const WAYS = {
 // A part of a file is not sent whole: it would take away what the other parts have.
 const waysOf = ({parts}) => Object.entries(WAYS).filter(([, {isWhole}]) => !isWhole || !parts);
 
+// A file that was taken from this page, as `my30_frames.csv`, is sent back in place of what is there.
+const isTakenFrom = ({variants}, {name, kind}) => variants.some(variant => name.startsWith(`${variant.name}_${kind}`));
+
 const LARGEST = 4_000_000;
 
 async function takeFile(desk, blob) {
@@ -2973,7 +3013,7 @@ async function takeFile(desk, blob) {
 }
 
 // Takes a file that was looked at or mended, and tries it.
-async function takeLooked(desk, file, way = \"import\") {
+async function takeLooked(desk, file, way = file && isTakenFrom(desk, file) ? \"replace\" : \"import\") {
   desk.file = file && Object.assign(file, {way, parts: null, part: 0, fates: null, gone: [], shown: [], onlyRefused: false});
   if (file) {
     divide(file);
@@ -3165,7 +3205,9 @@ function fateBox(desk, file) {
   const only = make(\"input\", {type: \"checkbox\", id: \"only-bad\", checked: file.onlyRefused, onchange: choose});
   const all = refused.length ? `${plural(refused.length, \"row\")} of ${grouped(fates.length)} would be refused, so none is carried out.`
     : `${fates.length > 1 ? \"All \" : \"\"}${rows} would be carried out.`;
-  return [row(make(\"strong\", {class: refused.length ? \"fault\" : \"\"}, all)),
+  const there = rowsThere(desk.plan, desk.me, file.kind, file.shown.slice(1)), fresh = fates.length - there;
+  return [row(make(\"strong\", {class: refused.length ? \"fault\" : \"\"}, all), make(\"span\", {id: \"fresh\"},
+    `${plural(Math.max(0, fresh), \"row is\", \"rows are\")} new or changed, ${grouped(there)} ${there === 1 ? \"is\" : \"are\"} there already.`)),
     WAYS[file.way].replaces ? goneBox(file) : \"\",
     row(file.way === \"import\" ? [make(\"label\", {for: \"label\"}, \"Label\"), label] : \"\", go),
     refused.length && refused.length < fates.length ? make(\"label\", {class: \"check\"}, only, \"only refused rows\") : \"\",
@@ -3273,8 +3315,13 @@ class FrameList {
     const {desk} = this, [first] = frame.placements;
     this.open(false);
     if ([\"files\", \"diff\", \"manage\"].includes(desk.view)) desk.show(\"plan\");
+    const {room} = desk;
     desk.choose({frame});
-    if (first && desk.view === \"plan\") desk.reveal(first.slot, first.channels[0], first.base);
+    // Placing goes on with the other frame, and the plan stays where it is.
+    if (room) {
+      findRoom(desk, room.repetition, room.channels);
+      desk.tell(\"mode\");
+    } else if (first && desk.view === \"plan\") desk.reveal(first.slot, first.channels[0], first.base);
     byId(\"detail\").scrollIntoView({block: \"nearest\"});
   }
 }
@@ -3292,7 +3339,9 @@ async function askFrame(desk, typed = null) {
   if (isName(name.value)) addFrame(desk, name.value, node.value);
   else askFrame(desk, name.value);
 }
+";
 
+pub const PROGRAM_4: &str = "
 // ---- painting.js
 
 // Paints the cells of a plan: what is granted, what is sent, what differs.
@@ -3392,9 +3441,7 @@ function paintMark(ink, sheet, x, cycle, isNew, isEmpty) {
   fillBox(ink, isNew ? GREEN : RED, middle[0] - 3.5, middle[1] - 0.8, 7, 1.6);
   if (isNew) fillBox(ink, GREEN, middle[0] - 0.8, middle[1] - arm, 1.6, arm * 2);
 }
-";
 
-pub const PROGRAM_4: &str = "
 // ---- cells.js
 
 // A cell of the plan that was pointed at: what is there, and what it is in words.
