@@ -1,9 +1,11 @@
 """Modules of the planners' page, without a browser: what they make of reports and of files is what models/naive.py and python3's csv tell, or what
 was typed from the formats."""
+import base64
 import csv
 import io
 import json
 import random
+import zipfile
 from math import gcd
 
 from tests.drivers.modules import ModulesCase
@@ -633,3 +635,61 @@ class Wishes(ModulesCase):
         self.see("a mail", True, "- 1 slot, empty in all cycles, on A, for node n1" in got[1][3] and "for v1" in got[1][3])
         bad = [["0002 00 NoRoom"], ["0002 32 a,n1,1,A,7,8"], ["0002 31 NoRoom"], ["LACK n1 C 0001"], ["0002 00 a,n1,1,AC,7,8"], "x"]
         self.see("lines that no proposal has", [None] * len(bad), self.run_script({"reports": "readProposal", "wishes": "proposalText, placementsFile, lackMail", "faults": "Strange"}, script, bad))
+
+
+class Bounds(ModulesCase):
+    """Files that are no plan are told so at once, however they are made."""
+
+    SECONDS = 20
+    SCRIPT = """const said = [];
+        for (const [name, text] of given) {
+            const begun = performance.now(), file = await looked(name, Uint8Array.from(atob(text), letter => letter.charCodeAt(0)));
+            said.push([file.kind, file.fault, file.records.length, (performance.now() - begun) / 1000]);
+        }
+        return said;"""
+
+    def looked_at(self, files):
+        given = [(name, base64.b64encode(content).decode()) for name, content in files]
+        return self.run_script({"looking": "looked"}, self.SCRIPT, given)
+
+    def packed(self, parts):
+        out = io.BytesIO()
+        with zipfile.ZipFile(out, "w", zipfile.ZIP_DEFLATED) as packed:
+            for path, content in parts.items():
+                packed.writestr(path, content)
+        return out.getvalue()
+
+    def excel(self, sheet):
+        rels = '<Relationships><Relationship Id="r1" Target="worksheets/one.xml"/></Relationships>'
+        named = '<workbook><sheets><sheet name="one" r:id="r1"/></sheets></workbook>'
+        return self.packed({"xl/workbook.xml": named, "xl/_rels/workbook.xml.rels": rels, "xl/worksheets/one.xml": sheet})
+
+    def test_files(self):
+        row = '<row><c r="{}1" t="inlineStr"><is><t>x</t></is></c></row>'
+        text = "<table:table-cell{}><text:p>x</text:p></table:table-cell>"
+        open_sheet = "<table:table><table:table-row{}>{}</table:table-row></table:table>"
+        columns, rows = ' table:number-columns-repeated="1000"', ' table:number-rows-repeated="4000000"'
+        cases = [
+            ("rows without an end", "a.xlsx", self.excel("<sheetData>" + "<row>" * 1_500_000), "an element of it has no end"),
+            ("cells without an end", "a.xlsx", self.excel("<sheetData><row>" + "<c " * 2_000_000 + "</row>"), ""),
+            ("a cell at ZZZ", "a.xlsx", self.excel(row.format("ZZZ") * 2000), "more than 256 columns"),
+            ("65,536 columns", "a.xlsx", self.excel("<row>" + "<c><v>1</v></c>" * 65_536 + "</row>"), "more than 256 columns"),
+            ("many rows", "a.xlsx", self.excel("<row><c><v>1</v></c></row>" * 30_000), "more than 20,000 rows"),
+            ("a head without an end", "a.xlsx", self.excel("<row " + "a" * 3_000_000 + ">"), "an element of it has no end"),
+            ("notes without an end", "a.xlsx", self.excel('<row><c t="inlineStr"><is>' + "<rPh>" * 500_000 + "</is></c></row>"), "an element of it has no end"),
+            ("columns repeated", "a.ods", self.packed({"content.xml": open_sheet.format("", text.format(columns) * 500)}), "more than 256 columns"),
+            ("rows repeated", "a.ods", self.packed({"content.xml": open_sheet.format(rows, text.format(""))}), "more than 20,000 rows"),
+            ("a long field", "a.csv", b"frame,node\n" + b"f" * 3_900_000 + b",n1\n", "Row 2 has a field of 3,900,000 letters"),
+            ("a long quoted field", "a.csv", b'frame,node\n"' + b'""' * 1_900_000 + b'",n1\n', "Row 2 has a field of 1,900,000 letters"),
+            ("210,000 rows of a frame", "a.csv", b"frame,node\n" + b"f,n1\n" * 210_000, "It has 210,000 rows"),
+            ("a row of many fields", "a.csv", b"frame,node\n" + b"," * 3_000_000 + b"\n", "Row 2 has 3,000,001 fields"),
+        ]
+        for (what, *_, wanted), (kind, fault, _, seconds) in zip(cases, self.looked_at([(name, content) for _, name, content, _ in cases])):
+            self.see(f"{what}: it is told", True, (kind is None and fault != "" and wanted in fault) or fault)
+            self.see(f"{what}: soon", True, seconds < self.SECONDS or seconds)
+
+    def test_good_ones_are_read(self):
+        sheet = ('<sheetData><row r="1"><c r="A1" t="inlineStr"><is><t>frame</t></is></c><c r="B1" t="inlineStr"><is><t>no<rPh sb="0"><t>gone</t></rPh>de</t></is></c></row>'
+                 '<row/><row r="3"><c r="A3" t="inlineStr"><is><t>f1</t></is></c><c r="B3" t="inlineStr"><is><t>n1</t></is></c><c r="ZZZ3" s="1"/></row></sheetData>')
+        (kind, fault, *_), = self.looked_at([("a.xlsx", self.excel(sheet.replace("no<rPh", "node</t><rPh").replace("</rPh>de</t>", "</rPh>")))])
+        self.see("it is read", True, "Its sheet one has rows that the register reads" in fault or fault)

@@ -34,6 +34,9 @@ export const WAYS = {
 // A part of a file is not sent whole: it would take away what the other parts have.
 export const waysOf = ({parts}) => Object.entries(WAYS).filter(([, {isWhole}]) => !isWhole || !parts);
 
+// A file that was taken from this page, as `my30_frames.csv`, is sent back in place of what is there.
+const isTakenFrom = ({variants}, {name, kind}) => variants.some(variant => name.startsWith(`${variant.name}_${kind}`));
+
 const LARGEST = 4_000_000;
 
 export async function takeFile(desk, blob) {
@@ -52,7 +55,7 @@ export async function takeFile(desk, blob) {
 }
 
 // Takes a file that was looked at or mended, and tries it.
-export async function takeLooked(desk, file, way = "import") {
+export async function takeLooked(desk, file, way = file && isTakenFrom(desk, file) ? "replace" : "import") {
   desk.file = file && Object.assign(file, {way, parts: null, part: 0, fates: null, gone: [], shown: [], onlyRefused: false});
   if (file) {
     divide(file);

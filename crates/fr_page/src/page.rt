@@ -28,7 +28,7 @@ pub const DOCUMENT: &str = "<!doctype html>
 
 <div id=\"app\" class=\"app\" hidden>
   <header class=\"top\">
-    <strong class=\"brand\">slotplan</strong>
+    <h1 class=\"brand\">slotplan</h1>
     <label for=\"variant\" class=\"quiet\">Variant</label>
     <select id=\"variant\"></select>
     <span id=\"variant-state\" class=\"tag\"></span>
@@ -49,7 +49,7 @@ pub const DOCUMENT: &str = "<!doctype html>
   </div>
   <div id=\"message\" class=\"message\" role=\"status\" aria-live=\"polite\" hidden></div>
 
-  <div id=\"columns\" class=\"columns\">
+  <main id=\"columns\" class=\"columns\">
     <aside class=\"side\" id=\"side\" aria-label=\"Frames\">
       <button id=\"side-open\" type=\"button\" class=\"side-open\" aria-expanded=\"false\" aria-controls=\"side\">Frames</button>
       <label for=\"search\" class=\"hidden-label\">Search frames</label>
@@ -114,7 +114,7 @@ pub const DOCUMENT: &str = "<!doctype html>
     </section>
 
     <aside id=\"detail\" class=\"detail\" aria-label=\"Details\" tabindex=\"-1\"></aside>
-  </div>
+  </main>
 </div>
 
 <div id=\"tip\" class=\"tip\" hidden></div>
@@ -149,7 +149,7 @@ button{cursor:pointer;background:var(--soft)}
 button:hover:not(:disabled){background:#e4e9f0}
 button:disabled{opacity:.5;cursor:default}
 button.main,button[aria-pressed=true]{background:var(--accent);border-color:var(--accent);color:#fff}
-button.main:hover:not(:disabled){background:#094a8c}
+button.main:hover:not(:disabled),button[aria-pressed=true]:hover:not(:disabled){background:#094a8c;color:#fff}
 button.bad{color:var(--bad);border-color:#d6a3a5}
 button.bad.main{background:#fbe9e9}
 button.link{border:0;background:none;padding:0;min-height:0;color:var(--accent);text-decoration:underline;text-align:left}
@@ -167,7 +167,7 @@ label.check{display:inline-flex;gap:.35rem;align-items:center}
 .login form{display:grid;gap:.6rem}
 .app{display:flex;flex-direction:column;height:100vh;height:100dvh}
 .top{position:relative;overflow:hidden;display:flex;flex-wrap:wrap;gap:.4rem .5rem;align-items:center;padding:.4rem .75rem;background:#1c2633;color:#fff}
-.brand{font-size:1.05rem;margin-right:.3rem}
+.brand{font-size:1.05rem;margin:0 .3rem 0 0}
 .quiet{color:#c6d0dd}
 .top select,.top button{background:#2b3848;color:#fff;border-color:#55657a}
 .top button:hover{background:#3a4b60}
@@ -429,6 +429,25 @@ function save(name, text, type) {
   setTimeout(() => URL.revokeObjectURL(link.href), 10000);
 }
 
+// ---- words.js
+
+// Numbers, places and lists as words.
+
+const grouped = number => String(number).replace(/\\B(?=(\\d{3})+$)/g, \",\");
+const plural = (number, one, many = one + \"s\") => `${grouped(number)} ${number === 1 ? one : many}`;
+const short = value => String(value).slice(0, 80);
+
+const cyclesText = ({base, repetition}) => `${base}/${repetition}`;
+const shortPlaceText = ({slot, channels, base, repetition}) => `${slot} ${channels} ${base}/${repetition}`;
+const placeText = placement => \"slot \" + shortPlaceText(placement);
+const longPlaceText = ({slot, channels, base, repetition}) => `slot ${slot} ${channels}, base ${base}, repetition ${repetition}`;
+const bitsText = ({name, start, length, order}) => `${name}: ${plural(length, \"bit\")} from bit ${start}, ${order}`;
+
+// The first texts of a list, and how many more there are.
+const firstOf = (texts, most) => texts.slice(0, most).join(\", \") + (texts.length > most ? ` and ${grouped(texts.length - most)} more` : \"\");
+
+const byText = (one, other) => one < other ? -1 : one > other ? 1 : 0;
+
 // ---- csv.js
 
 // Files of rows: their records, as the register reads them, and records as a file.
@@ -469,6 +488,19 @@ const lineOf = record => record.map(quoted).join(\",\") + \"\\n\";
 
 const fileOf = records => new TextEncoder().encode(records.map(lineOf).join(\"\"));
 
+// What the largest plan has of a kind: 64 signals of each of 256 frames. A name has 32 letters.
+const MOST_RECORDS = 16_384;
+const LONGEST_FIELD = 1000;
+
+// Why records can be no plan's; empty where they can.
+function excessIn(records) {
+  if (records.length > MOST_RECORDS + 1) return `It has ${grouped(records.length - 1)} rows. A plan has at most ${grouped(MOST_RECORDS)} of a kind.`;
+  const at = records.findIndex(record => record.length > LONGEST_FIELD || record.some(field => field.length > LONGEST_FIELD));
+  if (at < 0) return \"\";
+  const longest = records[at].reduce((most, field) => Math.max(most, field.length), 0);
+  return longest > LONGEST_FIELD ? `Row ${at + 1} has a field of ${grouped(longest)} letters, and names have 32 at most.` : `Row ${at + 1} has ${grouped(records[at].length)} fields.`;
+}
+
 const MOST_ROWS = 512;
 const MOST_BYTES = 65536;
 
@@ -485,7 +517,7 @@ function partsOf([header, ...rows]) {
       part = [header];
       bytes = lineOf(header).length;
     }
-    part.push(...group);
+    for (const row of group) part.push(row);
     bytes += more;
   }
   if (part.length > 1) parts.push(part);
@@ -715,25 +747,6 @@ class Plan {
   lanesHeld() { return this.grants.reduce((sum, grant) => sum + (grant ? 1 : 0), 0); }
   cellsSent() { return this.load.reduce((sum, used) => sum + used, 0); }
 }
-
-// ---- words.js
-
-// Numbers, places and lists as words.
-
-const grouped = number => String(number).replace(/\\B(?=(\\d{3})+$)/g, \",\");
-const plural = (number, one, many = one + \"s\") => `${grouped(number)} ${number === 1 ? one : many}`;
-const short = value => String(value).slice(0, 80);
-
-const cyclesText = ({base, repetition}) => `${base}/${repetition}`;
-const shortPlaceText = ({slot, channels, base, repetition}) => `${slot} ${channels} ${base}/${repetition}`;
-const placeText = placement => \"slot \" + shortPlaceText(placement);
-const longPlaceText = ({slot, channels, base, repetition}) => `slot ${slot} ${channels}, base ${base}, repetition ${repetition}`;
-const bitsText = ({name, start, length, order}) => `${name}: ${plural(length, \"bit\")} from bit ${start}, ${order}`;
-
-// The first texts of a list, and how many more there are.
-const firstOf = (texts, most) => texts.slice(0, most).join(\", \") + (texts.length > most ? ` and ${grouped(texts.length - most)} more` : \"\");
-
-const byText = (one, other) => one < other ? -1 : one > other ? 1 : 0;
 
 // ---- meanwhile.js
 
@@ -1165,9 +1178,27 @@ const OUT_OF_DATE = [10, 11, 14, 15, 16, 17, 18, 19, 21, 22, 24, 25, 27, 29];
 // Says something: `good`, `bad`, `warn` or, of what is under way, `wait`.
 function say(kind, text, ...buttons) {
   const box = byId(\"message\");
+  clearTimeout(fading);
+  if (kind === \"good\") fading = setTimeout(fade, SHOWN_FOR);
   box.className = \"message \" + kind;
   box.replaceChildren(make(\"div\", {}, text), ...buttons, button(\"Close\", quiet));
   box.hidden = false;
+  box.style.bottom = aboveCell();
+}
+
+// Messages stand above the line that tells of a cell, where that is seen.
+function aboveCell() {
+  const line = byId(\"cell\"), top = line.checkVisibility?.() ? line.getBoundingClientRect().top : 0;
+  return top > 0 && top < window.innerHeight ? `${window.innerHeight - top + 6}px` : \"\";
+}
+
+// What was done goes away by itself, unless it is pointed at or has the keyboard.
+const SHOWN_FOR = 15_000;
+let fading = 0;
+function fade() {
+  const box = byId(\"message\");
+  if (box.matches(\":hover, :focus-within\")) fading = setTimeout(fade, SHOWN_FOR);
+  else quietGood();
 }
 
 const quiet = () => { byId(\"message\").hidden = true; };
@@ -1351,6 +1382,19 @@ function rowChanges(changes, kind, fields) {
 function filed(kind, frames, rowOf) {
   const rows = frames.flatMap(frame => frame.rows.map(one => rowOf(frame, one)));
   return rows.length ? partsOf([HEADS[kind], ...rows]).map(part => ({file: fileOf(part), isWhole: false})) : [];
+}
+
+// How many rows of a file, below its header, the supplier has already just so.
+function rowsThere(plan, supplier, kind, rows) {
+  const has = (fields, some, one) => some.some(other => asText(fields, other) === asText(fields, one));
+  const isThere = ([name, ...rest]) => {
+    const frame = plan.frameNamed(supplier, name);
+    if (!frame) return false;
+    if (kind === \"signals\") return has(SIGNAL, frame.signals, {name: rest[0], start: Number(rest[1]), length: Number(rest[2]), order: rest[3]});
+    const [node, slot, channels, base, repetition] = rest;
+    return frame.node === node && (kind === \"frames\" || has(PLACE, frame.placements, {slot: Number(slot), channels, base: Number(base), repetition: Number(repetition)}));
+  };
+  return rows.filter(isThere).length;
 }
 
 // Whether a request does exactly what it says, or is refused, whatever somebody else has changed.
@@ -2187,7 +2231,8 @@ function signalForm(desk, frame, signals, matrix) {
   const isWhole = () => start.value !== \"\" && length.value >= 1 && length.value <= 64;
   const draw = () => matrix.replaceChildren(bitTable(desk.cluster, signals, isWhole() ? wanted() : null, pick));
   const keep = () => { desk.draft = {key, name: name.value, start: start.value, length: length.value, order: order.value}; };
-  for (const input of [name, start, length, order]) input.addEventListener(\"input\", () => { keep(); draw(); });
+  name.addEventListener(\"input\", keep);
+  for (const input of [start, length, order]) input.addEventListener(\"input\", () => { keep(); draw(); });
   const add = event => {
     event.preventDefault();
     if (isDigits(start.value) && isDigits(length.value)) addSignal(desk, frame, wanted());
@@ -2372,6 +2417,11 @@ function kindBar(desk, difference) {
   const all = button(\"all\", () => show(null), {\"aria-pressed\": String(!difference.kind)});
   return row(difference.rows.length ? all : make(\"strong\", {}, \"Nothing differs.\"), kinds,
     button(\"Mark it in the plan\", () => { desk.look.marks = true; desk.show(\"plan\"); desk.tell(\"look\"); }),
+    button(\"Take it as a picture\", () => attempt(desk, async () => {
+      const {variant} = desk, name = `${variant}_since_${difference.from}.html`;
+      save(name, await desk.register.read(desk.path(`since/${difference.from}/picture`)), \"text/html\");
+      say(\"good\", `${name} is the plan with what is new in it, as a page to print or to send.`);
+    }, \"Taking the picture ...\")),
     button(\"Forget it\", () => { desk.difference = null; desk.tell(\"difference\"); }));
 }
 
@@ -2446,7 +2496,11 @@ const canUnpack = () => {
   try { return Boolean(new DecompressionStream(\"deflate-raw\")); } catch { return false; }
 };
 
+// More than the largest plan has in one table.
 const MOST_LETTERS = 32_000_000;
+const MOST_LINES = 20_000;
+const MOST_COLUMNS = 256;
+const MOST_SHEETS = 64;
 
 // Its sheets in their order: name and records.
 async function sheetsOf(bytes) {
@@ -2459,7 +2513,9 @@ async function sheetsOf(bytes) {
 async function officeSheets(part) {
   const targets = new Map(elements(await part(\"xl/_rels/workbook.xml.rels\"), \"Relationship\").map(({fields}) => [fields.Id, fields.Target]));
   const strings = elements(await part(\"xl/sharedStrings.xml\"), \"si\").map(({inner}) => textIn(inner)), sheets = [];
-  for (const {fields} of elements(await part(\"xl/workbook.xml\"), \"sheet\")) {
+  const named = elements(await part(\"xl/workbook.xml\"), \"sheet\");
+  if (named.length > MOST_SHEETS) throw new NoWorkbook(`It has ${named.length} sheets. Of more than ${MOST_SHEETS} none is read.`);
+  for (const {fields} of named) {
     const target = targets.get(fields[\"r:id\"]) ?? \"\";
     const records = recordsIn(await part(target.startsWith(\"/\") ? target.slice(1) : \"xl/\" + target), strings);
     sheets.push({name: fields.name ?? \"\", records});
@@ -2469,23 +2525,25 @@ async function officeSheets(part) {
 
 // As OpenDocument has them: a cell, or a row, that stands several times in turn is written once, with their number.
 function openSheets(xml) {
-  const record = row => unrolled(elements(row.inner, \"(?:covered-)?table-cell\"), \"columns\", openText);
-  return elements(xml, \"table\").map(({fields, inner}) =>
-    ({name: fields[\"table:name\"] ?? \"\", records: unrolled(elements(inner, \"table-row\"), \"rows\", record)}));
+  const record = row => unrolled(elements(row.inner, \"(?:covered-)?table-cell\"), \"columns\", MOST_COLUMNS, openText);
+  return elements(xml, \"table\").slice(0, MOST_SHEETS).map(({fields, inner}) =>
+    ({name: fields[\"table:name\"] ?? \"\", records: unrolled(elements(inner, \"table-row\"), \"rows\", MOST_LINES, record)}));
 }
 
 // What is read of elements, each as often as it stands there, up to the last that has something in it.
-function unrolled(found, what, read) {
+function unrolled(found, what, most, read) {
   const runs = found.map(one => [read(one), (one.fields[`table:number-${what}-repeated`] ?? 1) >>> 0]);
-  const kept = runs.slice(0, runs.findLastIndex(([value]) => value.length) + 1);
-  if (kept.some(([, times]) => times > 1000)) throw new NoWorkbook(\"It is too large.\");
+  const kept = runs.slice(0, runs.findLastIndex(([value]) => value.length) + 1), count = kept.reduce((sum, [, times]) => sum + times, 0);
+  if (count > most) throw new NoWorkbook(tooMany(what, most));
   return kept.flatMap(([value, times]) => Array(times).fill(value));
 }
 
+const tooMany = (what, most) => `A sheet of it has more than ${grouped(most)} ${what}, which no plan has.`;
+
 function openText({fields, inner}) {
   if (fields[\"office:value-type\"] === \"float\") return numberText(fields[\"office:value\"] ?? \"\");
-  const lines = elements(inner.replace(/<office:annotation[^]*?<\\/office:annotation>/g, \"\"), \"p\");
-  return lines.map(line => unescaped(line.inner.replace(/<text:s\\b[^>]*>/g, \" \").replace(/<[^>]*>/g, \"\"))).join(\"\\n\");
+  const lines = elements(cleared(inner, \"annotation\"), \"p\");
+  return lines.map(line => unescaped(line.inner.replace(/<text:s\\b[^<>]*>/g, \" \").replace(/<[^<>]*>/g, \"\"))).join(\"\\n\");
 }
 
 // The places of a zip's entries, by their paths, as its directory at the end has them.
@@ -2534,30 +2592,51 @@ const unescaped = text => text.replace(/&(?:#(\\d{1,7})|#x([0-9a-fA-F]{1,6})|(\\
 
 // The elements of a name, which hold none of the same name: their fields, and what is between their tags.
 function elements(xml, name) {
-  const found = [];
-  for (const [, head, isEmpty, inner] of xml.matchAll(new RegExp(`<(?:\\\\w+:)?${name}(\\\\s[^>]*?)?(?:(/)>|>([^]*?)</(?:\\\\w+:)?${name}>)`, \"g\"))) {
+  return stretches(xml, name).map(({head, inner}) => {
     const fields = {};
-    for (const [, key, value] of (head ?? \"\").matchAll(/([\\w:-]+)=\"([^\"]*)\"/g)) fields[key] = unescaped(value);
-    found.push({fields, inner: isEmpty ? \"\" : inner});
+    for (const [, key, value] of head.matchAll(/(?<![\\w:-])([\\w:-]+)=\"([^\"]*)\"/g)) fields[key] = unescaped(value);
+    return {fields, inner};
+  });
+}
+
+// Where they begin and end. Each letter is looked at a few times at most, however the text is damaged.
+function stretches(xml, name) {
+  const opening = new RegExp(`<(?:\\\\w+:)?${name}(\\\\s[^<>]*)?>`, \"g\"), closing = new RegExp(`</(?:\\\\w+:)?${name}>`, \"g\"), found = [];
+  for (let open = opening.exec(xml); open; open = opening.exec(xml)) {
+    const head = open[1] ?? \"\", from = opening.lastIndex, isEmpty = open[0].endsWith(\"/>\");
+    closing.lastIndex = from;
+    const close = isEmpty ? null : closing.exec(xml);
+    if (!isEmpty && !close) throw new NoWorkbook(\"It is damaged: an element of it has no end.\");
+    found.push({head, inner: isEmpty ? \"\" : xml.slice(from, close.index), begin: open.index, end: isEmpty ? from : closing.lastIndex});
+    opening.lastIndex = found.at(-1).end;
   }
   return found;
 }
 
+// A text without the elements of a name.
+function cleared(xml, name) {
+  let at = 0, left = \"\";
+  for (const {begin, end} of stretches(xml, name)) { left += xml.slice(at, begin); at = end; }
+  return left + xml.slice(at);
+}
+
 // What is said in the t elements; those of a reading aid are left out.
-const textIn = inner => elements(inner.replace(/<rPh[^]*?<\\/rPh>/g, \"\"), \"t\").map(text => unescaped(text.inner)).join(\"\");
+const textIn = inner => elements(cleared(inner, \"rPh\"), \"t\").map(text => unescaped(text.inner)).join(\"\");
 
 function recordsIn(xml, strings) {
-  const records = [];
-  for (const row of elements(xml, \"row\")) {
+  const rows = elements(xml, \"row\"), filled = rows.slice(0, rows.findLastIndex(({inner}) => inner) + 1);
+  if (filled.length > MOST_LINES) throw new NoWorkbook(tooMany(\"rows\", MOST_LINES));
+  return filled.map(row => {
     const record = [];
     for (const cell of elements(row.inner, \"c\")) {
-      const at = columnOf(cell.fields.r) ?? record.length;
+      const at = columnOf(cell.fields.r) ?? record.length, text = cellText(cell, strings);
+      if (at >= MOST_COLUMNS && text === \"\") continue;
+      if (at >= MOST_COLUMNS) throw new NoWorkbook(tooMany(\"columns\", MOST_COLUMNS));
       while (record.length < at) record.push(\"\");
-      record[at] = cellText(cell, strings);
+      record[at] = text;
     }
-    records.push(record);
-  }
-  return records;
+    return record;
+  });
 }
 
 // The number of a column, of a cell's name as `AB12`.
@@ -2629,6 +2708,8 @@ function takeSheet(file, sheet) {
 function lookIntoText(file) {
   const coding = encodingOf(file.bytes), text = decoded(file, coding);
   file.records = recordsOf(text);
+  const excess = excessIn(file.records);
+  if (excess) { Object.assign(file, {records: [], fault: `This is no plan. ${excess}`}); return; }
   const comma = [\",\", \";\", \"\\t\"].find(one => picked(withoutHint(recordsOf(text, one)))) ?? \"\";
   if (!comma) {
     file.fault = unknown(file.records) + (coding ? \" \" + UTF_16 : \"\");
@@ -2911,6 +2992,9 @@ const WAYS = {
 // A part of a file is not sent whole: it would take away what the other parts have.
 const waysOf = ({parts}) => Object.entries(WAYS).filter(([, {isWhole}]) => !isWhole || !parts);
 
+// A file that was taken from this page, as `my30_frames.csv`, is sent back in place of what is there.
+const isTakenFrom = ({variants}, {name, kind}) => variants.some(variant => name.startsWith(`${variant.name}_${kind}`));
+
 const LARGEST = 4_000_000;
 
 async function takeFile(desk, blob) {
@@ -2929,7 +3013,7 @@ async function takeFile(desk, blob) {
 }
 
 // Takes a file that was looked at or mended, and tries it.
-async function takeLooked(desk, file, way = \"import\") {
+async function takeLooked(desk, file, way = file && isTakenFrom(desk, file) ? \"replace\" : \"import\") {
   desk.file = file && Object.assign(file, {way, parts: null, part: 0, fates: null, gone: [], shown: [], onlyRefused: false});
   if (file) {
     divide(file);
@@ -3121,7 +3205,9 @@ function fateBox(desk, file) {
   const only = make(\"input\", {type: \"checkbox\", id: \"only-bad\", checked: file.onlyRefused, onchange: choose});
   const all = refused.length ? `${plural(refused.length, \"row\")} of ${grouped(fates.length)} would be refused, so none is carried out.`
     : `${fates.length > 1 ? \"All \" : \"\"}${rows} would be carried out.`;
-  return [row(make(\"strong\", {class: refused.length ? \"fault\" : \"\"}, all)),
+  const there = rowsThere(desk.plan, desk.me, file.kind, file.shown.slice(1)), fresh = fates.length - there;
+  return [row(make(\"strong\", {class: refused.length ? \"fault\" : \"\"}, all), make(\"span\", {id: \"fresh\"},
+    `${plural(Math.max(0, fresh), \"row is\", \"rows are\")} new or changed, ${grouped(there)} ${there === 1 ? \"is\" : \"are\"} there already.`)),
     WAYS[file.way].replaces ? goneBox(file) : \"\",
     row(file.way === \"import\" ? [make(\"label\", {for: \"label\"}, \"Label\"), label] : \"\", go),
     refused.length && refused.length < fates.length ? make(\"label\", {class: \"check\"}, only, \"only refused rows\") : \"\",
@@ -3229,8 +3315,13 @@ class FrameList {
     const {desk} = this, [first] = frame.placements;
     this.open(false);
     if ([\"files\", \"diff\", \"manage\"].includes(desk.view)) desk.show(\"plan\");
+    const {room} = desk;
     desk.choose({frame});
-    if (first && desk.view === \"plan\") desk.reveal(first.slot, first.channels[0], first.base);
+    // Placing goes on with the other frame, and the plan stays where it is.
+    if (room) {
+      findRoom(desk, room.repetition, room.channels);
+      desk.tell(\"mode\");
+    } else if (first && desk.view === \"plan\") desk.reveal(first.slot, first.channels[0], first.base);
     byId(\"detail\").scrollIntoView({block: \"nearest\"});
   }
 }
@@ -3248,7 +3339,9 @@ async function askFrame(desk, typed = null) {
   if (isName(name.value)) addFrame(desk, name.value, node.value);
   else askFrame(desk, name.value);
 }
+";
 
+pub const PROGRAM_4: &str = "
 // ---- painting.js
 
 // Paints the cells of a plan: what is granted, what is sent, what differs.
@@ -3348,9 +3441,7 @@ function paintMark(ink, sheet, x, cycle, isNew, isEmpty) {
   fillBox(ink, isNew ? GREEN : RED, middle[0] - 3.5, middle[1] - 0.8, 7, 1.6);
   if (isNew) fillBox(ink, GREEN, middle[0] - 0.8, middle[1] - arm, 1.6, arm * 2);
 }
-";
 
-pub const PROGRAM_4: &str = "
 // ---- cells.js
 
 // A cell of the plan that was pointed at: what is there, and what it is in words.
