@@ -20,8 +20,8 @@
 #   make calls       prints what each public call of CRATES='fr_base ..' promises: its text, and its clauses
 #   make laws        prints the laws of each crate, or of CRATES='fr_base ..', with their definitions; WORD=released
 #                    prints those with that word
-#   make page        makes the planners' page, crates/fr_page/src/page.rt, of its sources in page/, and out/page.html to
-#                    look at
+#   make page        makes the planners' page, crates/fr_page/src/page.rt, of its sources in page/, and out/page to look
+#                    at
 #   make look        draws plans into out/look, by the program that make run takes; where there is chromium it takes
 #                    screenshots and counts cells, and where there is chromium-driver also of the planners' page
 #   make edits       asks the prover of every wrong body, also of those that the gate leaves out; CRATES='fr_base ..' names

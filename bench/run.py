@@ -16,7 +16,6 @@ sys.path.append(str(HERE.parent))
 from tests.models.random_scripts import random_script
 
 MIXES = ("refused", "queries", "plan", "place", "imports", "revising", "comparing", "all")
-NAIVE = HERE.parent / "tests/models/naive.py"
 RUNS = 3
 
 READER = r"""
@@ -85,10 +84,10 @@ def main():
             runs = {name: [] for name in ("ours", "register", "reader")}
             for _ in range(RUNS):
                 runs["ours"].append(measured([given.program, "run"], script, answers))
-                runs["register"].append(measured([sys.executable, NAIVE], script, expected))
+                runs["register"].append(measured([sys.executable, "-m", "tests.models.naive"], script, expected))
                 runs["reader"].append(measured([sys.executable, "-c", READER], script, nothing))
             if answers.read_bytes() != expected.read_bytes():
-                sys.exit(f"{mix}: the answers differ from those of {NAIVE.name}")
+                sys.exit(f"{mix}: the answers differ from those of tests/models/naive.py")
             lines, done, refused = tally(answers)
         (seconds, memory), *others = (best(of) for of in runs.values())
         beside = "   ".join(f"{other / seconds:{width}.2f} {more / 1e6:6.1f}" for (other, more), width in zip(others, (15, 13)))

@@ -1,34 +1,43 @@
-"""Makes one page of the sources beside it: python3 page/build.py writes crates/fr_page/src/page.rt, and out/page.html to look at.
+"""Makes the page's three parts of the sources beside it: python3 page/build.py writes crates/fr_page/src/page.rt, and out/page to look at.
 
-The script's modules are joined into one, each behind those that it imports; comments and blanks are dropped where none is needed, and nothing else is
-changed. So a name that a module declares may be declared in no other, one in each declaration. The page is ASCII. What cannot be joined so ends the
-build."""
-import base64
-import hashlib
+index.html and style.css are taken as they are. The script's modules are joined into one module, each behind those that it imports; their imports and the
+word `export` go, and nothing else is changed. So a name that a module declares may be declared in no other, one in each declaration. All is ASCII. What
+cannot be joined so ends the build."""
 import re
 import sys
 from pathlib import Path
-
-from lean import lean_lines, lean_script
+from typing import NamedTuple
 
 HERE = Path(__file__).resolve().parent
 CONSTANTS = HERE.parent / "crates/fr_page/src/page.rt"
-PAGE = HERE.parent / "out/page.html"
+SHOWN = HERE.parent / "out/page"
 
 IMPORT = re.compile(r'^import \{([\w,\s]+)\} from "\./(\w+\.js)";\n', re.M)
-STYLE = '<link rel="stylesheet" href="style.css">'
-SCRIPT = '<script type="module" src="script/main.js"></script>'
-POLICY = (
-    "default-src 'none'; script-src {script}; style-src {style}; connect-src 'self'; img-src data:; base-uri 'none'; form-action 'none'; "
-    "frame-ancestors 'none'; require-trusted-types-for 'script'; trusted-types 'none'"
-)
-# A longer constant cannot be named in a contract.
-MOST_BYTES = 149_500
-HEAD = "//! The planner's page and its content security policy. `make page` makes this file of the sources in page/.\n"
+# What a browser reads first of the program, and of each module in it.
+HEAD = "// The program of the planner's page: the modules of page/script, one behind another.\n"
+MODULE = "\n// ---- {}\n\n"
+TOLD = "//! The planner's page. `make page` makes this file of the sources in page/.\n"
+# The program is cut between modules into so many constants. The prover takes none that is longer.
+PIECES = 4
+MOST_BYTES = 120_000
+# `rt fmt` breaks a line that is longer.
+WIDEST = 100
 
 
 class Fault(Exception):
     """What in the sources cannot be joined."""
+
+
+class Part(NamedTuple):
+    """A part of the page: its path, its type, and its text, in constants one behind another."""
+
+    path: str
+    type: str
+    constants: dict
+
+    @property
+    def text(self):
+        return "".join(self.constants.values())
 
 
 def modules(folder, name="main.js", found=None):
@@ -71,40 +80,38 @@ def look(found):
 
 
 def script(folder=HERE / "script"):
-    """The modules as one script, in which nothing is seen from outside."""
+    """The modules as one, each a piece of it."""
     found = modules(folder)
     look(found)
     unused = sorted({path.name for path in folder.glob("*.js")} - set(found))
     if unused:
         raise Fault(f"no module imports {', '.join(unused)}")
-    joined = "".join(lean_script(re.sub(r"^export ", "", IMPORT.sub("", text), flags=re.M)) for text in found.values())
-    return '"use strict";\n(() => {\n' + joined + "})();\n"
+    return [HEAD, *(MODULE.format(name) + re.sub(r"^export ", "", IMPORT.sub("", text), flags=re.M).lstrip("\n") for name, text in found.items())]
 
 
-def digest(text):
-    """The source of a policy that allows exactly this text."""
-    return "'sha256-" + base64.b64encode(hashlib.sha256(text.encode()).digest()).decode() + "'"
+def cut(texts):
+    """The texts in pieces of about the same length, none of them cut."""
+    pieces, so_far, whole = [""] * PIECES, 0, sum(map(len, texts))
+    for text in texts:
+        pieces[min(PIECES - 1, (so_far + len(text) // 2) * PIECES // whole)] += text
+        so_far += len(text)
+    return pieces
 
 
-def put(text, place, element):
-    if text.count(place) != 1:
-        raise Fault(f"index.html has not one {place}")
-    return text.replace(place, element)
-
-
-def page():
-    """The page, and its policy."""
-    style, code = lean_lines((HERE / "style.css").read_text()), script()
-    text = lean_lines((HERE / "index.html").read_text())
-    for tag in "</script", "</style":
-        if tag in code or tag in style:
-            raise Fault(f"the script or the style has {tag}")
-    text = put(put(text, STYLE, f"<style>{style}</style>"), SCRIPT, f"<script>{code}</script>")
-    if not text.isascii():
-        raise Fault("the page is not ASCII")
-    if len(text) > MOST_BYTES:
-        raise Fault(f"the page has {len(text):,} bytes, more than {MOST_BYTES:,}: the prover takes no longer constant")
-    return text, POLICY.format(script=digest(code), style=digest(style))
+def parts():
+    """The parts of the page."""
+    made = [
+        Part("/", "text/html", {"DOCUMENT": (HERE / "index.html").read_text()}),
+        Part("/slotplan.css", "text/css", {"STYLE": (HERE / "style.css").read_text()}),
+        Part("/slotplan.js", "text/javascript", {f"PROGRAM_{at + 1}": piece for at, piece in enumerate(cut(script()))}),
+    ]
+    for part in made:
+        if not part.text.isascii():
+            raise Fault(f"{part.path} is not ASCII")
+        for name, piece in part.constants.items():
+            if not 0 < len(piece) <= MOST_BYTES:
+                raise Fault(f"{name} has {len(piece):,} bytes, where 1 to {MOST_BYTES:,} are taken: PIECES is to be another")
+    return made
 
 
 def literal(text):
@@ -112,11 +119,15 @@ def literal(text):
     return '"' + text.replace("\\", "\\\\").replace('"', '\\"') + '"'
 
 
+def constant(name, text):
+    """A constant, as `rt fmt` lays it out."""
+    told, made = f"pub const {name}: &str =", literal(text)
+    return f"{told} {made};\n" if len(f"{told} {made}".split("\n", 1)[0]) <= WIDEST else f"{told}\n    {made};\n"
+
+
 def constants():
     """The file of the page's constants."""
-    text, policy = page()
-    told = "\n/// The page, which is the same for everybody.\n", "\n/// What a browser may do with it: run its script, show its style, and ask the server that it came from.\n"
-    return f"{HEAD}{told[0]}pub const PAGE: &str = {literal(text)};\n{told[1]}pub const POLICY: &str =\n    {literal(policy)};\n"
+    return "\n".join([TOLD, *(constant(name, piece) for part in parts() for name, piece in part.constants.items())])
 
 
 def main():
@@ -126,9 +137,10 @@ def main():
         sys.exit(f"page/build.py: {fault}")
     CONSTANTS.parent.mkdir(parents=True, exist_ok=True)
     CONSTANTS.write_text(made)
-    PAGE.parent.mkdir(exist_ok=True)
-    PAGE.write_text(page()[0])
-    print(f"the page has {len(page()[0]):,} bytes")
+    SHOWN.mkdir(parents=True, exist_ok=True)
+    for part in parts():
+        (SHOWN / (part.path[1:] or "index.html")).write_text(part.text)
+        print(f"{part.path} has {len(part.text):,} bytes")
 
 
 if __name__ == "__main__":

@@ -1,7 +1,9 @@
-"""Serves the page for work on it: python3 page/serve.py PORT REGISTER answers / on PORT, and hands /v1 on to a `slotplan serve` on REGISTER.
+"""Serves the page for work on it: python3 page/serve.py PORT REGISTER answers the page's parts on PORT, and hands /v1 on to a `slotplan serve` on
+REGISTER.
 
-The page is made of its sources for each request, so a change shows when it is loaded again; a fault in them is told in its place. Both are on
-127.0.0.1. It ends with Ctrl+C."""
+The parts are made of their sources for each request, so a change shows when the page is loaded again; a fault in them is told in their place. Both are
+on 127.0.0.1. It ends with Ctrl+C."""
+import hashlib
 import http.client
 import sys
 from contextlib import suppress
@@ -14,18 +16,18 @@ SECONDS = 60
 # Fields of a request that are handed on, and of a reply.
 ASKED = "X-Office-Key", "Content-Type"
 TOLD = "content-type", "www-authenticate", "allow"
+# What a browser may do with the page: run its program, show its style, and ask the server that it came from.
+POLICY = (
+    "default-src 'none'; script-src 'self'; style-src 'self'; connect-src 'self'; img-src data:; base-uri 'none'; form-action 'none'; "
+    "frame-ancestors 'none'; require-trusted-types-for 'script'; trusted-types 'none'"
+)
 
 
-def fields(policy):
-    """The fields with which the page is answered."""
-    return {
-        "content-type": "text/html; charset=utf-8",
-        "content-security-policy": policy,
-        "x-content-type-options": "nosniff",
-        "referrer-policy": "no-referrer",
-        "cross-origin-opener-policy": "same-origin",
-        "cache-control": "no-cache",
-    }
+def fields(part):
+    """The fields with which a part of the page is answered, as the register has them, but for those that each reply has."""
+    told = {"content-security-policy": POLICY, "cross-origin-opener-policy": "same-origin"} if part.path == "/" else {}
+    each = {"x-content-type-options": "nosniff", "referrer-policy": "no-referrer", "cache-control": "no-cache"}
+    return {"content-type": f"{part.type}; charset=utf-8", "etag": f'"{hashlib.sha256(part.text.encode()).hexdigest()}"', **told, **each}
 
 
 class Handler(BaseHTTPRequestHandler):
@@ -36,21 +38,24 @@ class Handler(BaseHTTPRequestHandler):
 
     def answer(self):
         path = self.path.split("?")[0]
-        if path == "/" and self.command == "GET":
-            self.page()
-        elif path.startswith("/v1/"):
+        if path.startswith("/v1/"):
             self.handed()
         else:
-            self.reply(404, {}, b"")
+            self.page(path)
 
     do_GET = do_POST = do_PUT = answer
 
-    def page(self):
+    def page(self, path):
         try:
-            text, policy = build.page()
+            found = [part for part in build.parts() if part.path == path and self.command == "GET"]
         except build.Fault as fault:
             return self.reply(500, {"content-type": "text/plain"}, f"{fault}\n".encode())
-        return self.reply(200, fields(policy), text.encode())
+        for part in found:
+            told = fields(part)
+            if told["etag"] in self.headers.get("if-none-match", ""):
+                return self.reply(304, {"etag": told["etag"]}, b"")
+            return self.reply(200, told, part.text.encode())
+        return self.reply(404, {}, b"")
 
     def handed(self):
         """Hands the request on, and the reply back."""

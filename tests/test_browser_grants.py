@@ -54,7 +54,7 @@ class Clicks(GrantCase):
         self.says("Slot 21 B is no longer granted")
         self.see("the register has it no more", [None], self.held((21, "B")))
         self.browser.press("Undo", "#message")
-        self.says("Slot 21 B is granted to front_camera of camtech.")
+        self.says("Taken back: Slot 21 B is no longer granted to front_camera of camtech.")
         self.see("the register has it again", [CAMERAS], self.held((21, "B")))
 
     def test_of_another(self):
@@ -79,8 +79,11 @@ class Clicks(GrantCase):
         self.says("All 6 changes are carried out.")
         self.see("the register has them", [CAMERAS] * 6, self.held(*six))
         self.browser.press("Undo", "#message")
-        self.says("All 6 changes are carried out.")
+        self.says("Taken back: 6 changes of grants, from 18 A on.")
         self.see("all is as before", before, self.grants())
+        self.browser.press("Redo", "#message")
+        self.says("Done again: 6 changes of grants")
+        self.see("the register has them again", [CAMERAS] * 6, self.held(*six))
 
     def test_drawn_over_others(self):
         """Lanes that others hold stay with them."""

@@ -165,7 +165,7 @@ class Policy(PlannerCase):
             self.view(view)
             self.rests()
         asked = {it["url"] for it in browser.requests()}
-        own = {self.url, "about:blank", "data:,"}
+        own = {self.url, f"{self.url}slotplan.css", f"{self.url}slotplan.js", "about:blank", "data:,"}
         self.see("requests", True, len(asked) > 5)
         self.see("requests of others", [], sorted(url for url in asked if url not in own and not url.startswith(f"{self.url}v1/")))
         self.see("what the console says of the policy", [], [it for it in browser.said() if "Content Security Policy" in it or "TrustedHTML" in it])
@@ -202,6 +202,31 @@ class Policy(PlannerCase):
         browser.call("POST", "/frame", {"id": 0})
         self.see("its field of the key is in the frame", False, browser.run(field))
         browser.call("POST", "/frame", {"id": None})
+
+
+class Counting(Answering):
+    """A proxy that keeps what it is asked, and with which status it is answered."""
+
+    def answer(self):
+        self.hand_on(self.server.register, self.path)
+
+    def reply(self, status, fields, body):
+        self.server.replied.append((self.path, status, len(body)))
+        super().reply(status, fields, body)
+
+
+class Visits(PlannerCase):
+    """Another visit fetches nothing of the page anew."""
+
+    def test_a_second_visit(self):
+        self.plan(CLUSTER, REQUESTS)
+        replied, port = [], int(self.url.rsplit(":", 1)[1].strip("/"))
+        self.url = f"http://127.0.0.1:{self.enterContext(serving(Counting, register=port, replied=replied))}/"
+        for visit, status in enumerate([200, 304, 304]):
+            replied.clear()
+            self.enter(CAMERA)
+            of_the_page = sorted((path, got, size > 0) for path, got, size in replied if not path.startswith("/v1/"))
+            self.see(f"visit {visit}", [(path, status, status == 200) for path in ("/", "/slotplan.css", "/slotplan.js")], of_the_page)
 
 
 class Names(PlannerCase):

@@ -179,10 +179,10 @@ class Placing(PlannerCase):
         self.see("the register has it", ["AT 0012 A 06 08"], self.placements("night_view"))
         self.see("the room that is left", True, "fits in 10 places" in self.seen("#mode"))
         browser.press("Undo", "#message")
-        self.says("night_view is no longer sent")
+        self.says("Taken back: night_view placed in slot 12 A 6/8.")
         self.see("the register has it no more", [], self.placements("night_view"))
-        browser.press("Undo", "#message")
-        self.says("night_view is placed in slot 12 A")
+        browser.press("Redo", "#message")
+        self.says("Done again: night_view placed in slot 12 A 6/8.")
         self.see("the register has it again", ["AT 0012 A 06 08"], self.placements("night_view"))
 
     def test_where_it_does_not_fit(self):
@@ -216,7 +216,7 @@ class Placing(PlannerCase):
         browser.keys(ESCAPE)
         self.see("placing has ended", False, browser.run("return document.getElementById('mode').checkVisibility()"))
         browser.keys("z", holding=CONTROL)
-        self.says("night_view is no longer sent")
+        self.says("Taken back: night_view placed in slot")
         self.see("the register has it no more", [], self.placements("night_view"))
 
     def test_a_new_frame(self):
@@ -233,8 +233,58 @@ class Placing(PlannerCase):
         self.says("glare is added. It is not placed yet.")
         self.see("the register has it", [], self.placements("glare"))
         browser.press("Undo", "#message")
-        self.says("glare is dropped.")
+        self.says("Taken back: glare added.")
         self.see("it is gone", False, "glare" in self.api.get(CAMERA, "variants/my29/frames"))
+
+    def test_steps_to_and_fro(self):
+        """Three placements are taken back one after another, and done again, by keys and by the list of steps."""
+        browser = self.enter(CAMERA)
+        self.frame("night_view")
+        self.room(8, "A")
+        rows = ["AT 0012 A 01 08", "AT 0012 A 02 08", "AT 0012 A 03 08"]
+        for base in 1, 2, 3:
+            browser.click_at(self.place_of(base, 12, "A", "place night_view"))
+            self.says(f"night_view is placed in slot 12 A {base}/8")
+        self.see("the register has them", rows, self.placements("night_view"))
+        browser.keys(ESCAPE)
+        for left in 2, 1, 0:
+            browser.keys("z", holding=CONTROL)
+            self.says(f"Taken back: night_view placed in slot 12 A {left + 1}/8")
+            self.see("the register has one less", rows[:left], self.placements("night_view"))
+        self.see("there is no more", True, browser.run("return document.getElementById('undo').disabled"))
+        browser.keys("y", holding=CONTROL)
+        self.says("Done again: night_view placed in slot 12 A 1/8")
+        browser.keys("Z", holding=CONTROL)
+        self.says("Done again: night_view placed in slot 12 A 2/8")
+        self.see("the register has two again", rows[:2], self.placements("night_view"))
+        browser.click("#history")
+        self.see("the steps", [["night_view placed in slot 12 A 3/8", "taken back"], ["night_view placed in slot 12 A 2/8", "done"],
+                               ["night_view placed in slot 12 A 1/8", "done"]], [row[:2] for row in self.table("#dialog")])
+        browser.press("Take back from here on", "#dialog tbody tr:last-child")
+        self.says("Taken back: night_view placed in slot 12 A 1/8")
+        self.see("all are taken back", [], self.placements("night_view"))
+        browser.click("#history")
+        browser.press("Do again up to here", "#dialog tbody tr:first-child")
+        self.says("Done again: night_view placed in slot 12 A 3/8")
+        self.see("all are done again", rows, self.placements("night_view"))
+
+    def test_a_frame_comes_back(self):
+        """A frame that was dropped comes back with its placements and signals; one that a colleague changed meanwhile stays."""
+        browser = self.enter(CAMERA)
+        before = self.api.get(CAMERA, "variants/my29/rows")
+        self.frame("signs")
+        browser.press("Drop the frame", "#detail")
+        browser.press("Drop it", "#dialog")
+        self.says("signs is dropped.")
+        self.see("it is gone", False, " signs" in self.api.get(CAMERA, "variants/my29/rows"))
+        browser.click("#undo")
+        self.says("Taken back: signs dropped.")
+        self.see("all is as before", before, self.api.get(CAMERA, "variants/my29/rows"))
+        where = {"variant": "my29", "frame": "signs", "slot": 12, "channels": "B", "base": 4, "repetition": 8}
+        self.see("a colleague takes a placement back", {"ok": "done"}, self.api.command(CAMERA, do="unplace", **where))
+        browser.click("#redo")
+        self.says("cannot be done again now, and stays in the list. Somebody else changed what it needs: signs.")
+        self.see("it is there still", True, "FRAME signs" in self.api.get(CAMERA, "variants/my29/rows"))
 
     def test_a_placement_is_taken_back(self):
         browser = self.enter(CAMERA)
@@ -246,7 +296,7 @@ class Placing(PlannerCase):
         self.says("signs is no longer sent in slot 12 A")
         self.see("the other one stays", ["AT 0012 B 04 08"], self.placements("signs"))
         browser.press("Undo", "#message")
-        self.says("signs is placed in slot 12 A")
+        self.says("Taken back: signs taken out of slot 12 A 0/8.")
         self.see("both are there", ["AT 0012 A 00 08", "AT 0012 B 04 08"], self.placements("signs"))
 
     def test_signals(self):

@@ -70,7 +70,7 @@ class Listening(PlannedCase):
 
 
 class Keeping(ConnectionCase):
-    """A server keeps pages of what it reads, of 128 MiB at most or as it is told, and its memory grows no more, however many it reads."""
+    """A server keeps pages of what it reads, of as many MiB at most as it is told, and its memory grows no more, however many it reads."""
 
     waits, seconds = False, 30
     keepers = [f"s{number}" for number in range(1, 4)]
@@ -106,7 +106,7 @@ class Keeping(ConnectionCase):
         return grown
 
     def test_memory(self):
-        grown = self.grown()
+        grown = self.grown("--memory", "128")
         self.see("by how many bytes its memory has grown", True, 2 * FEW < grown <= KEPT or grown)
         grown = self.grown("--memory", "1")
         self.see("by how many bytes where it keeps the fewest", True, grown <= FEW or grown)

@@ -130,7 +130,7 @@ class Heads(Case):
 
     def test_calls_of_lib(self):
         """lib.rt of fr_page has its calls itself."""
-        self.see("calls of fr_page", ["planner_page", "policy"], [call.name for call in calls("fr_page")])
+        self.see("calls of fr_page", ["Part::bytes", "Part::digest"], [call.name for call in calls("fr_page")])
 
     @for_values(*FOLDERS)
     def test_modules(self, folder):

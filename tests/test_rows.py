@@ -73,6 +73,8 @@ def path_of(request):
         return "PUT", f"{at}/rows{'/whole' * request.get('whole', False)}", request["body"]
     if do == "try":
         return "PUT" if request.get("replace") else "POST", f"{at}/tries{'/whole' * request.get('whole', False)}", request["body"]
+    if do == "propose":
+        return "PUT" if request.get("replace") else "POST", f"{at}/proposals", request["body"]
     return None
 
 
@@ -179,9 +181,17 @@ def file_words(request):
         return [do], [request["variant"], request["label"], "rows.csv"]
     if do == "replace":
         return [do], [request["variant"], "rows.csv", *flags]
-    if do == "try":
+    if do in ("try", "propose"):
         return [do], [request["variant"], "rows.csv", *(["--replace"] if request.get("replace") else []), *flags]
     return None
+
+
+def proposed(lines, replaces):
+    """What `propose` writes of these lines: the file to import, and on standard error the lines without a placement. Where there is one, there is no
+    file to replace with."""
+    placed, others = ([line for line in lines if (line[4:8] == " 00 ") == is_placed] for is_placed in (True, False))
+    file = [] if replaces and others else ["frame,node,slot,channels,base,repetition", *(line[8:] for line in placed)]
+    return report_of({"lines": file}), report_of({"lines": others}), 1 if others else 0
 
 
 class ByCommands(RowsCase):
@@ -192,6 +202,9 @@ class ByCommands(RowsCase):
         answer = json.loads(typed)
         if "refused" in answer:
             self.turned_down(words, typed)
+        elif answer["ok"] == "propose":
+            written, said, status = proposed(answer["lines"], "--replace" in words)
+            self.tell(words, written, said, status)
         elif "lines" in answer:
             would_refuse = words[0] == "try" and not all(line.endswith(" 00 done") for line in answer["lines"])
             self.tell(words, report_of(answer), status=1 if would_refuse else 0)

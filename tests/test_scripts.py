@@ -46,7 +46,7 @@ class Limits(InvocationCase):
 class AnotherRegister(InvocationCase):
     """Mixtures of 2,000 requests are answered as by another register; it is that of naive.py, over the SQLite of python3."""
 
-    @for_values("plan", "refused", "queries", "place", "imports", "joining", "revising", "comparing", "all")
+    @for_values("plan", "refused", "queries", "place", "imports", "joining", "revising", "comparing", "proposing", "all")
     def test_mixture(self, mix):
         for seed in 1, 2, 3:
             given = random_script(mix, 2000, seed=seed)

@@ -1,7 +1,7 @@
 // The view of the cluster: its variants, suppliers and nodes; the integrator adds to them, and releases.
 import {button, byId, card, make, options, refill, row, table, tableRow, textField} from "./dom.js";
 import {grantsCard} from "./grantstable.js";
-import {attempt, confirmed} from "./messages.js";
+import {attempt, confirmed, inTurn} from "./messages.js";
 import {chip} from "./palette.js";
 import {choose, readRegister} from "./reading.js";
 import {done} from "./steps.js";
@@ -37,7 +37,7 @@ export function inTree({variants}) {
 export const indented = ({name, depth}) => "\u00a0\u00a0".repeat(Math.max(0, depth - 1)) + name;
 
 function variantsCard(desk) {
-  const show = ({name}) => button("Show", () => attempt(desk, () => choose(desk, name)), {"aria-label": `Show ${name}`});
+  const show = ({name}) => button("Show", () => attempt(desk, () => choose(desk, name), `Reading ${name} ...`), {"aria-label": `Show ${name}`});
   const rowOf = variant => tableRow([indented(variant), variant.parent ?? "-", [variant.depth, "num"], variant.isReleased ? "released" : "open",
     variant.name === desk.variant ? "shown" : show(variant)]);
   return card("Variants", table(["variant", "parent", ["depth", "num"], "state", ""], inTree(desk).map(rowOf)));
@@ -62,14 +62,14 @@ function releaseCard(desk) {
 }
 
 // Carries out a command on the cluster, and reads what it changed. What is said of a key stays until it is closed.
-const change = (desk, request, text, then) => attempt(desk, async () => {
+const change = (desk, request, text, then) => inTurn(desk, () => attempt(desk, async () => {
   await desk.register.command(request);
   await readRegister(desk);
   if (then) await then();
   else if (desk.plan) desk.tell("plan");
   done(desk, text, null, request.key ? "warn" : "good");
   return true;
-});
+}, "Sending ..."));
 
 // A form of named fields, which are emptied once it was carried out.
 function formCard(title, fields, yes, act, more = "") {

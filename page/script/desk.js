@@ -1,11 +1,12 @@
 // What the page holds, and who is told when some of it changes.
+import {History} from "./history.js";
 import {Times} from "./times.js";
 
 const EMPTY = {
   register: null, isIntegrator: false, me: "", cluster: null, nodes: [], variants: [],
   variant: null, plan: null, difference: null,
   frame: null, placement: null, lane: null, found: null,
-  room: null, granting: null, draft: null, file: null, undo: null, view: "plan", busy: 0,
+  room: null, granting: null, draft: null, file: null, wishes: null, view: "plan", busy: 0, unansweredKey: "",
 };
 
 export class Desk {
@@ -20,10 +21,11 @@ export class Desk {
   // What is read for an earlier turn is no longer wanted.
   clear() {
     this.turn += 1;
-    Object.assign(this, EMPTY, {nodes: [], variants: []});
+    this.session = (this.session ?? 0) + 1;
+    Object.assign(this, EMPTY, {nodes: [], variants: [], waiting: [], pending: [], histories: new Map()});
   }
 
-  // Calls a listener when one of these changes: entered, left, register, plan, choice, mode, difference, file, look, view, undo,
+  // Calls a listener when one of these changes: entered, left, register, plan, choice, mode, difference, file, look, view, undo, pending,
   // reveal, and lanes, which are those that were drawn over.
   on(events, listener) { this.listeners.push([events.split(" "), listener]); }
   tell(...events) {
@@ -57,9 +59,10 @@ export class Desk {
     } else this.tell("choice");
   }
 
-  canUndo(text, act) {
-    this.undo = act ? {text, act} : null;
-    this.tell("undo");
+  // What was done in the variant that is shown.
+  history() {
+    if (!this.histories.has(this.variant)) this.histories.set(this.variant, new History());
+    return this.histories.get(this.variant);
   }
 
   // Forgets the key and all that was read with it.

@@ -2,11 +2,12 @@
 import {button, byId, make, note, options, pairs, refill, table, tableRow} from "./dom.js";
 import {divisors} from "./cycles.js";
 import {revoke} from "./granting.js";
-import {attempt, confirmed, quiet, say} from "./messages.js";
+import {confirmed, quiet, say} from "./messages.js";
 import {chip} from "./palette.js";
 import {payloadOf} from "./payload.js";
 import {channelOf, laneText, slotOf} from "./plan.js";
 import {findRoom} from "./reading.js";
+import {isFull} from "./room.js";
 import {dropFrame, unplace} from "./steps.js";
 import {cyclesText, grouped, placeText, plural} from "./words.js";
 
@@ -79,7 +80,7 @@ function placementTable(desk, frame, isOpen) {
 
 function roomForm(desk, frame) {
   const {plan, room} = desk, {channels} = plan.cluster, [first] = frame.placements;
-  if (frame.placements.length >= 8) return note("It has 8 placements, which is the most.");
+  if (isFull(frame)) return note("It has 8 placements, which is the most.");
   const repetition = make("select", {id: "repetition"}), on = make("select", {id: "place-channels"});
   options(repetition, divisors(plan.cycles).map(number => [String(number), `${number}: every ${number === 1 ? "cycle" : number + " cycles"}`]),
     String(room?.repetition ?? first?.repetition ?? plan.cycles));
@@ -92,8 +93,8 @@ function roomForm(desk, frame) {
 }
 
 // Marks in the grid where a frame fits, and shows the first such cell.
-async function showRoom(desk, repetition, channels) {
-  await attempt(desk, () => findRoom(desk, repetition, channels));
+function showRoom(desk, repetition, channels) {
+  findRoom(desk, repetition, channels);
   const {room} = desk;
   if (desk.view !== "plan") desk.show("plan");
   desk.tell("mode");
@@ -106,6 +107,6 @@ async function showRoom(desk, repetition, channels) {
 
 async function askDrop(desk, frame) {
   const text = `The frame, its ${plural(frame.placements.length, "placement")} and its signals are gone then. `
-    + "There is no way back but to add them again.";
+    + "Undo brings them back.";
   if (await confirmed(`Drop ${frame.name}?`, text, "Drop it")) dropFrame(desk, frame.name);
 }

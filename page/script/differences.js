@@ -20,7 +20,7 @@ function showDifference(desk) {
 function question(desk) {
   const from = make("select", {id: "from", "aria-label": "Compared with"}), others = desk.variants.filter(({name}) => name !== desk.variant);
   options(from, others.map(({name}) => [name, name]), desk.difference?.from ?? desk.entry()?.parent);
-  const go = () => attempt(desk, async () => { await compare(desk, from.value); desk.tell("difference"); });
+  const go = () => attempt(desk, async () => { await compare(desk, from.value); desk.tell("difference"); }, `Comparing with ${from.value} ...`);
   return row(make("h2", {}, `What is new in ${desk.variant} since`), from,
     button("Compare", go, {class: "main", id: "compare", disabled: !others.length}));
 }

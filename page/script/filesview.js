@@ -7,7 +7,8 @@ import {attempt} from "./messages.js";
 import {explained} from "./refusals.js";
 import {exported} from "./reading.js";
 import {isDigits, isName} from "./reports.js";
-import {carryOut, takeFile, takeLooked, tryFile, WAYS, waysOf} from "./sending.js";
+import {wishesCard} from "./proposing.js";
+import {carryOut, takeFile, takeLooked, takeProposal, tryFile, WAYS, waysOf} from "./sending.js";
 import {done} from "./steps.js";
 import {grouped, plural, short} from "./words.js";
 
@@ -28,7 +29,8 @@ function showFiles(desk) {
     refill(byId("view-files"), down, make("p", {}, why));
     return;
   }
-  refill(byId("view-files"), card("Send a file", dropZone(desk), file ? fileBox(desk, file) : ""), down);
+  refill(byId("view-files"), card("Send a file", dropZone(desk), file ? fileBox(desk, file) : ""),
+    wishesCard(desk, (bytes, replaces) => takeProposal(desk, bytes, replaces)), down);
 }
 
 function dropZone(desk) {
@@ -43,7 +45,7 @@ function dropZone(desk) {
 }
 
 function takingCard(desk) {
-  const file = (text, act) => button(text, () => attempt(desk, act)), {variant} = desk;
+  const file = (text, act) => button(text, () => attempt(desk, act, `Taking ${text} ...`)), {variant} = desk;
   const table = kind => file(`${kind}.csv`, async () => {
     const {text, records, parts} = await exported(desk, kind), name = `${variant}_${kind}.csv`;
     save(name, text, "text/csv");

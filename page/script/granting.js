@@ -1,7 +1,7 @@
 // The lanes that are granted and revoked by clicks, by drawing over many of them, and by a list of changes that is sent one by one.
 import {button} from "./dom.js";
 import {bySomebody} from "./meanwhile.js";
-import {attempt, quiet, say} from "./messages.js";
+import {attempt, inTurn, quiet, say} from "./messages.js";
 import {channelOf, laneText, slotOf} from "./plan.js";
 import {reread} from "./reading.js";
 import {done} from "./steps.js";
@@ -41,7 +41,7 @@ export function grantPicked(desk, cell) {
     desk.tell("lanes");
     return;
   }
-  const to = granted(desk), {lane, grant} = cell;
+  const to = granted(desk), {lane} = cell, grant = desk.plan.grants[lane];
   if (!to) return;
   if (!grant) send(desk, [{act: "grant", lane, ...to}]);
   else if (holds(grant, to)) send(desk, [{act: "revoke", lane, ...to}]);
@@ -61,26 +61,52 @@ const inverse = changes => changes.map(change => ({...change, act: change.act ==
 export const changeText = ({act, lane, ...holder}) => act === "grant" ? `Slot ${laneText(lane)} is granted to ${of(holder)}.`
   : `Slot ${laneText(lane)} is no longer granted to ${of(holder)}.`;
 
-// Sends changes one by one, up to the first that is refused; then it says how far they came. Gives the number that were carried out.
-export function send(desk, changes) {
-  let count = 0;
+// Sends changes one by one, up to the first that is refused; then it says how far they came. `count` is told of each that is carried out.
+async function carry(desk, changes, count) {
   const {variant} = desk;
+  let sent = 0;
+  try {
+    for (const change of changes) {
+      if (changes.length > 1) say("wait", `Change ${sent + 1} of ${changes.length} is sent ...`);
+      await desk.register.command(requestOf(variant, change));
+      count(sent += 1);
+    }
+  } catch (fault) {
+    if (changes.length > 1) fault.message = `${howFar(changes, sent, fault.isChange)} ${fault.message}`;
+    if (sent) fault.isOwn = ownOf(desk, changes.slice(0, sent));
+    throw fault;
+  }
+  return bySomebody(await reread(desk, {isOwn: ownOf(desk, changes)}));
+}
+
+const labelOf = changes => changes.length === 1 ? changeText(changes[0]).slice(0, -1) : `${plural(changes.length, "change")} of grants, from ${laneText(changes[0].lane)} on`;
+const stepOf = changes => ({label: labelOf(changes), changes, turn: (desk, history, isBack) => turnChanges(desk, history, changes, isBack)});
+
+// Takes changes back, or does them again. Where some of them were carried out and then one is refused, these are a step of their own.
+async function turnChanges(desk, history, changes, isBack) {
+  const wanted = isBack ? inverse(changes) : changes;
+  let count = 0;
+  try { return await carry(desk, wanted, sent => { count = sent; }); } catch (fault) {
+    const [turned, left] = isBack ? [changes.slice(changes.length - count), changes.slice(0, changes.length - count)] : [changes.slice(0, count), changes.slice(count)];
+    if (count) history.part(isBack, stepOf(turned), stepOf(left));
+    throw fault;
+  }
+}
+
+// Sends changes as a step. Gives the number that were carried out.
+export const send = (desk, changes) => inTurn(desk, () => sendNow(desk, changes));
+
+function sendNow(desk, changes) {
+  let count = 0;
   return attempt(desk, async () => {
     try {
-      for (const change of changes) {
-        if (changes.length > 1) say("good", `Change ${count + 1} of ${changes.length} is sent ...`);
-        await desk.register.command(requestOf(variant, change));
-        count += 1;
-      }
+      const others = await carry(desk, changes, sent => { count = sent; });
+      done(desk, (changes.length === 1 ? changeText(changes[0]) : `All ${plural(count, "change")} are carried out.`) + others, stepOf(changes));
     } catch (fault) {
-      if (changes.length > 1) fault.message = `${howFar(changes, count, fault.isChange)} ${fault.message}`;
-      if (count) fault.isOwn = ownOf(desk, changes.slice(0, count));
+      if (count) desk.history().add(stepOf(changes.slice(0, count)));
       throw fault;
     }
-    const others = await reread(desk, {isOwn: ownOf(desk, changes)});
-    const text = changes.length === 1 ? changeText(changes[0]) : `All ${plural(count, "change")} are carried out.`;
-    done(desk, text + bySomebody(others), () => send(desk, inverse(changes)));
-  }).then(() => count);
+  }, `Sending: ${labelOf(changes)} ...`).then(() => count);
 }
 
 function howFar(changes, count, isLost) {

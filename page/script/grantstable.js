@@ -13,7 +13,7 @@ export function grantsCard(desk) {
   const example = HEADER.join("\t") + "\n12\tAB\tbrakes\tbrake_unit";
   const text = make("textarea", {id: "grants-text", rows: 6, spellcheck: "false", autocapitalize: "none", placeholder: example});
   const whole = make("input", {type: "checkbox", id: "grants-whole"}), result = make("div", {tabindex: "-1"});
-  const look = () => attempt(desk, () => showChanges(desk, text.value, whole.checked, result));
+  const look = () => attempt(desk, () => showChanges(desk, text.value, whole.checked, result), "Comparing with the plan ...");
   const card = make("div", {class: "card", hidden: true, id: "grants-card"}, make("h2", {}, "Grants from a spreadsheet"),
     note(`Copy four columns, with their heads: ${HEADER.join(", ")}. A channel is A, B or AB; `
       + "a lane that nobody is to hold has neither supplier nor node."),

@@ -3,7 +3,7 @@ import {cellAt} from "./cells.js";
 import {byId} from "./dom.js";
 import {paintGutter, paintHead} from "./heads.js";
 import {sized, within} from "./ink.js";
-import {paintChosen, paintCursor, paintPicked, paintRoom} from "./overlays.js";
+import {paintChosen, paintCursor, paintPending, paintPicked, paintProposed, paintRoom} from "./overlays.js";
 import {Overview} from "./overview.js";
 import {paintColumns} from "./painting.js";
 import {laneOf} from "./plan.js";
@@ -27,7 +27,7 @@ export class Grid {
     this.scroller.addEventListener("scroll", () => this.draw());
     new ResizeObserver(() => this.layOut()).observe(this.scroller);
     desk.on("plan mode difference look view", () => this.layOut());
-    desk.on("choice lanes", () => this.draw());
+    desk.on("choice lanes pending", () => this.draw());
     desk.on("reveal", () => this.show(desk.wanted));
     desk.on("left", () => { this.variant = null; });
   }
@@ -80,6 +80,8 @@ export class Grid {
       ink.translate(GUTTER - left, HEAD - top);
       paintColumns(ink, this, part);
       paintRoom(ink, this, part);
+      paintPending(ink, this);
+      paintProposed(ink, this);
       paintPicked(ink, this);
       paintChosen(ink, this);
       if (document.activeElement === canvas) paintCursor(ink, this);

@@ -6,7 +6,7 @@ const KEYS = [
   ["Arrows", "to the next cycle or lane of the plan"], ["Page Up, Page Down", "eight cycles"], ["Home, End", "the first lane, the last"],
   ["Enter", "choose the cell; place or grant there"], ["n", "the next cell in which the frame fits"],
   ["+ - 0", "wider lanes, narrower ones, all slots in the window"],
-  ["Esc", "end placing or granting"], ["/", "search a frame"], ["Ctrl+Z", "undo the last step"],
+  ["Esc", "end placing or granting"], ["/", "search a frame"], ["Ctrl+Z", "undo the last step"], ["Ctrl+Y", "do it again; Ctrl+Shift+Z too"],
 ];
 const FOR_INTEGRATORS = ["Shift and arrows", "choose several lanes while lanes are granted"];
 

@@ -12,7 +12,7 @@ const STORED = "slotplan key " + location.pathname;
 export function login(desk) {
   listen("login-form", "submit", event => {
     event.preventDefault();
-    const key = byId("key").value.trim();
+    const key = byId("key").value.trim() || desk.unansweredKey;
     byId("key").value = "";
     if (/^[A-Za-z0-9]{8,64}$/.test(key)) begin(desk, key, byId("keep").checked);
     else byId("login-fault").textContent = "A key has 8 to 64 letters and digits.";
@@ -31,25 +31,39 @@ function stored(act) {
   try { return act(sessionStorage); } catch { return null; }
 }
 
+// Shows that the register is asked, until it has answered.
+function showAsking(isAsking) {
+  byId("login-busy").hidden = !isAsking;
+  for (const control of ["key", "open-plan"]) byId(control).disabled = isAsking;
+}
+
 async function begin(desk, key, isKept) {
   byId("login-fault").textContent = "";
+  showAsking(true);
   try {
     await enter(desk, key);
+    desk.unansweredKey = "";
     // A supplier's plan is all its own: its frames are told apart.
     desk.look.colourBy = desk.isIntegrator ? "supplier" : "frame";
     if (isKept) stored(storage => storage.setItem(STORED, key));
-    byId("login").hidden = true;
-    byId("app").hidden = false;
     const wanted = location.hash.slice(1), inOrder = inTree(desk);
     const first = inOrder.find(({name}) => name === wanted) ?? inOrder.findLast(variant => !variant.isReleased) ?? inOrder.at(-1);
-    if (first) await choose(desk, first.name);
-    else say("warn", desk.isIntegrator ? "There is no variant yet. Open one." : "There is no variant yet. The integrator opens one.");
+    byId("login").hidden = true;
+    byId("app").hidden = false;
+    if (first) {
+      say("wait", `Reading ${first.name} ...`);
+      await choose(desk, first.name);
+      quiet();
+    } else say("warn", desk.isIntegrator ? "There is no variant yet. Open one." : "There is no variant yet. The integrator opens one.");
     desk.show(first ? "plan" : "manage");
     desk.tell("entered");
   } catch (fault) {
     if (!(fault instanceof Refused || fault instanceof Lost || fault instanceof Strange)) throw fault;
-    desk.leave(fault.message);
-  }
+    desk.leave(fault.message + (fault instanceof Lost ? " The key is kept: press the button to ask again." : ""));
+    // A key that was not refused may be shown again without being typed.
+    if (fault instanceof Lost) desk.unansweredKey = key;
+    if (fault instanceof Lost && isKept) stored(storage => storage.setItem(STORED, key));
+  } finally { showAsking(false); }
 }
 
 function showLogin(why) {

@@ -3,11 +3,12 @@ import {button, byId, make, textField} from "./dom.js";
 import {Lost, Refused, Strange} from "./faults.js";
 import {bySomebody} from "./meanwhile.js";
 import {refresh} from "./reading.js";
+import {plural} from "./words.js";
 
 // Refusals that show that the plan is no longer as it is shown.
 const OUT_OF_DATE = [10, 11, 14, 15, 16, 17, 18, 19, 21, 22, 24, 25, 27, 29];
 
-// Says something: `good`, `bad` or `warn`.
+// Says something: `good`, `bad`, `warn` or, of what is under way, `wait`.
 export function say(kind, text, ...buttons) {
   const box = byId("message");
   box.className = "message " + kind;
@@ -20,26 +21,62 @@ export const quiet = () => { byId("message").hidden = true; };
 // What was done is no longer said where something else is looked at.
 export const quietGood = () => { if (byId("message").classList.contains("good")) quiet(); };
 
-// Does what asks the register, and says how it failed.
-export async function attempt(desk, action) {
+// Does what asks the register: says at once what is under way, and then how it failed.
+export async function attempt(desk, action, text = "") {
+  const {session} = desk;
   desk.busy += 1;
   document.body.setAttribute("aria-busy", "true");
+  if (text) say("wait", text);
   try {
     return await action();
   } catch (fault) {
     if (desk.register) await sayFault(desk, fault);
     return undefined;
   } finally {
-    desk.busy = Math.max(0, desk.busy - 1);
-    if (!desk.busy) document.body.removeAttribute("aria-busy");
+    if (desk.session === session) ended(desk, text);
   }
+}
+
+// What was under way has ended: what waits comes next.
+function ended(desk, text) {
+  const box = byId("message");
+  if (text && box.classList.contains("wait") && box.firstChild?.textContent === text) quiet();
+  desk.busy -= 1;
+  if (desk.busy) return;
+  const next = desk.waiting.shift();
+  showWaiting(desk);
+  if (next) next();
+  else document.body.removeAttribute("aria-busy");
+}
+
+// Does something once nothing is under way: at once, or behind what is and what waits already; then it is told that it waits.
+export function inTurn(desk, act) {
+  if (!desk.busy) return act();
+  return new Promise(done => {
+    desk.waiting.push(() => done(act()));
+    showWaiting(desk);
+  });
+}
+
+function showWaiting({waiting}) {
+  const box = byId("waits");
+  box.hidden = !waiting.length;
+  box.textContent = waiting.length ? `${plural(waiting.length, "step waits", "steps wait")}` : "";
+}
+
+// After a fault nothing that waits is carried out.
+function forgetWaiting(desk) {
+  const count = desk.waiting.length;
+  desk.waiting = [];
+  showWaiting(desk);
+  return count ? ` ${plural(count, "step that waited was", "steps that waited were")} not carried out.` : "";
 }
 
 // A fault with `isOwn` comes after changes of the user's own.
 async function sayFault(desk, fault) {
   if (!(fault instanceof Refused || fault instanceof Lost || fault instanceof Strange)) throw fault;
   if (fault.number === 2) { desk.leave("The key is nobody's any more. It may have been changed."); return; }
-  const text = fault instanceof Refused ? `Refused: ${fault.message}` : fault.message;
+  const text = (fault instanceof Refused ? `Refused: ${fault.message}` : fault.message) + forgetWaiting(desk);
   say("bad", text);
   if (!desk.plan || !(fault.isChange || fault.isOwn || OUT_OF_DATE.includes(fault.number))) return;
   say("bad", text + await readAgain(desk, fault));

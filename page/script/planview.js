@@ -3,7 +3,7 @@ import {button, byId, listen, make, options} from "./dom.js";
 import {granted, send, setGranting, wantedOf} from "./granting.js";
 import {chip} from "./palette.js";
 import {laneText} from "./plan.js";
-import {undoLast} from "./steps.js";
+import {openHistory, redo, undo} from "./turning.js";
 import {byText, plural} from "./words.js";
 
 export function planView(desk, grid, palette) {
@@ -24,7 +24,9 @@ function listenToTools(desk, grid) {
   listen("narrower", "click", () => grid.zoom(-1));
   listen("wider", "click", () => grid.zoom(1));
   listen("fit", "click", () => grid.setWidth(grid.widest()));
-  listen("undo", "click", () => undoLast(desk));
+  listen("undo", "click", () => undo(desk));
+  listen("redo", "click", () => redo(desk));
+  listen("history", "click", () => openHistory(desk));
   listen("grant-mode", "click", () => setGranting(desk, !desk.granting));
   listen("grant-to", "change", ({target}) => { desk.grantTo = Number(target.value); desk.tell("lanes"); });
   desk.on("look", () => { byId("fold").checked = desk.look.folds; byId("mark").checked = desk.look.marks; });
@@ -41,8 +43,17 @@ function showTools(desk) {
   desk.grantTo = Number(byId("grant-to").value);
   byId("grant-mode").setAttribute("aria-pressed", String(Boolean(desk.granting)));
   byId("grant-mode").disabled = !desk.nodes.length;
-  byId("undo").disabled = !desk.undo;
-  byId("undo").title = desk.undo ? `Undo (Ctrl+Z): ${desk.undo.text}` : "There is nothing to undo";
+  showHistory(desk);
+}
+
+function showHistory(desk) {
+  const history = desk.history();
+  for (const [id, isBack, word, keys] of [["undo", true, "Undo", "Ctrl+Z"], ["redo", false, "Redo", "Ctrl+Y"]]) {
+    const step = desk.isOpen() ? history.next(isBack) : null;
+    byId(id).disabled = !step;
+    byId(id).title = step ? `${word} (${keys}): ${step.label}` : `There is nothing to ${word.toLowerCase()}`;
+  }
+  byId("history").textContent = `Steps (${history.done.length})`;
 }
 
 function showMode(desk) {

@@ -2,16 +2,15 @@
 import {described} from "./cells.js";
 import {byId} from "./dom.js";
 import {pickBetween, grantPicked} from "./granting.js";
-import {hideTip, say, showTip} from "./messages.js";
+import {hideTip, inTurn, say, showTip} from "./messages.js";
 import {place} from "./steps.js";
 
-// Does what a click on a cell, or Enter, means there. While an answer is awaited it means nothing.
+// Does what a click on a cell, or Enter, means there. While an answer is awaited, what is to be sent waits.
 export function act(desk, cell) {
   hideTip();
-  if (desk.busy) return;
   const {room, granting} = desk;
   if (cell.strip) desk.reveal(cell.strip.slot, "A", Math.max(0, cell.cycle));
-  else if (granting) grantPicked(desk, cell);
+  else if (granting) inTurn(desk, () => { if (desk.granting) grantPicked(desk, cell); });
   else if (cell.place) place(desk, room.frame, cell.place);
   else if (cell.placement) desk.choose({frame: cell.placement.frame, placement: cell.placement});
   else if (room && cell.cycle >= 0) {
@@ -35,7 +34,7 @@ export class Pointing {
   pressed(event) {
     this.pointer = event.pointerType;
     this.drawn = null;
-    if (!this.desk.granting || this.desk.busy) return;
+    if (!this.desk.granting) return;
     const cell = this.grid.hit(event);
     if (cell && !cell.strip) this.drawn = {from: cell, isLong: false};
   }

@@ -3,86 +3,89 @@ import {Refused, Strange} from "./faults.js";
 import {joined, meanwhile, meanwhileInAll} from "./meanwhile.js";
 import {channelsIn, laneOf, Plan} from "./plan.js";
 import {Register} from "./register.js";
-import {readCluster, readDifference, readExport, readNodes, readRoom, readRows, readVariants} from "./reports.js";
+import {readCluster, readDifference, readExport, readNodes, readRows, readVariants} from "./reports.js";
+import {isFull, roomOf} from "./room.js";
 
-// Takes up a key. No report says whose it is: this request of room is refused in each case, and the integrator's refusal is its own.
-export async function enter(desk, key) {
-  const register = new Register(key), cluster = readCluster(await register.read("cluster"));
-  let isIntegrator = false;
+// Whether the integrator asks. No report says whose the key is: this request of room is refused in each case, and the integrator's refusal is its own.
+async function isIntegrators(register) {
   try { await register.read("variants/x/frames/x/room/1"); } catch (fault) {
     if (!(fault instanceof Refused)) throw fault;
-    isIntegrator = fault.number === 3;
+    return fault.number === 3;
   }
-  if (!isIntegrator && cluster.suppliers.length !== 1) throw new Strange("The server does not say who you are.");
-  Object.assign(desk, {register, isIntegrator, me: isIntegrator ? null : cluster.suppliers[0]});
-  await readRegister(desk, cluster);
+  return false;
 }
 
-// What belongs to all variants.
-export async function readRegister(desk, known = null) {
-  const cluster = known ?? readCluster(await desk.register.read("cluster"));
-  const nodes = readNodes(await desk.register.read("nodes"), desk.me), variants = readVariants(await desk.register.read("variants"));
-  Object.assign(desk, {cluster, nodes, variants});
+// What belongs to all variants, as the reports tell it.
+const readAll = register => Promise.all(["cluster", "nodes", "variants"].map(path => register.read(path)));
+
+function takeAll(desk, [cluster, nodes, variants]) {
+  Object.assign(desk, {cluster: readCluster(cluster), nodes: readNodes(nodes, desk.me), variants: readVariants(variants)});
   if (!desk.isOpen()) Object.assign(desk, {room: null, granting: null});
   desk.tell("register");
 }
 
-// All of a variant at one moment.
-const readPlan = async (desk, variant) => new Plan(desk.cluster, readRows(await desk.register.read(`variants/${variant}/rows`), desk.me));
+// Takes up a key.
+export async function enter(desk, key) {
+  const register = new Register(key), [isIntegrator, all] = await Promise.all([isIntegrators(register), readAll(register)]);
+  const {suppliers} = readCluster(all[0]);
+  if (!isIntegrator && suppliers.length !== 1) throw new Strange("The server does not say who you are.");
+  Object.assign(desk, {register, isIntegrator, me: isIntegrator ? null : suppliers[0]});
+  takeAll(desk, all);
+}
+
+export const readRegister = async desk => takeAll(desk, await readAll(desk.register));
+
+// All of a variant at one moment; and beside it what differs from another one, where that is shown.
+const readVariant = (desk, variant, from) => Promise.all([desk.register.read(`variants/${variant}/rows`), from ? desk.register.read(`variants/${variant}/since/${from}`) : null]);
 
 // Shows a plan that was read; what was chosen stays chosen, if it is there.
-async function take(desk, plan) {
-  const {frame, room, difference} = desk;
+function take(desk, [rows, since], from) {
+  const {frame, room} = desk, plan = new Plan(desk.cluster, readRows(rows, desk.me));
   Object.assign(desk, {plan, placement: null, frame: frame && plan.frameNamed(frame.supplier, frame.name)});
-  if (difference) await compare(desk, difference.from);
-  if (room) await findRoom(desk, room.repetition, room.channels);
+  if (from) desk.difference = differenceOf(desk, from, since);
+  if (room) findRoom(desk, room.repetition, room.channels);
   desk.tell("plan");
 }
 
 export async function choose(desk, variant) {
-  const turn = desk.turn += 1, plan = await readPlan(desk, variant);
+  const turn = desk.turn += 1, from = variant === desk.variant ? desk.difference?.from : null, read = await readVariant(desk, variant, from);
   if (desk.turn !== turn) return;
   if (variant !== desk.variant) Object.assign(desk, {difference: null, granting: null, room: null, lane: null, file: null});
   desk.variant = variant;
-  desk.canUndo();
-  await take(desk, plan);
+  take(desk, read, from);
 }
 
-// Reads the plan again after a change, and says what somebody else changed; `isOwn` and `isOwnSignal` are those of `meanwhile`.
-export async function reread(desk, {isOwn, isOwnSignal} = {}) {
-  const {plan: before, turn, variant} = desk, plan = await readPlan(desk, variant);
+// Reads the plan again after a change, and says what somebody else changed; `isOwn` and `isOwnSignal` are those of `meanwhile`. What belongs to all
+// variants may be read beside it.
+export async function reread(desk, {isOwn, isOwnSignal} = {}, beside = null) {
+  const {plan: before, turn, variant, difference} = desk, from = difference?.from;
+  const [read, all] = await Promise.all([readVariant(desk, variant, from), beside]);
+  if (all) takeAll(desk, all);
   if (desk.turn !== turn || desk.variant !== variant) return "";
-  await take(desk, plan);
+  take(desk, read, desk.difference?.from === from ? from : null);
   return meanwhile(before, desk.plan, isOwn, isOwnSignal);
 }
 
 // Reads everything that is shown again, and says what was changed.
 export async function refresh(desk, isOwn) {
-  const {variants, nodes} = desk;
-  await readRegister(desk);
-  return joined([desk.variant ? await reread(desk, {isOwn}) : "", meanwhileInAll({variants, nodes}, desk)]);
+  const {variants, nodes} = desk, all = readAll(desk.register);
+  const changed = desk.variant ? await reread(desk, {isOwn}, all) : takeAll(desk, await all) ?? "";
+  return joined([changed, meanwhileInAll({variants, nodes}, desk)]);
 }
 
 // Where the chosen frame fits with a repetition on these channels.
-export async function findRoom(desk, repetition, channels) {
-  const {frame, turn} = desk;
+export function findRoom(desk, repetition, channels) {
+  const {frame, plan} = desk;
   desk.room = null;
-  if (!frame || !desk.mayPlan() || frame.placements.length >= 8) return;
-  const lines = readRoom(await desk.register.read(desk.path(`frames/${frame.name}/room/${repetition}`)));
-  const bases = new Map(), counts = {A: 0, B: 0, AB: 0};
-  for (const line of lines) {
-    const isOther = line.repetition !== repetition || line.bases.some(base => base >= repetition);
-    if (isOther) throw new Strange("The server sent room of another repetition.");
-    counts[line.channels] += line.bases.length;
-    bases.set(line.slot + line.channels, new Set(line.bases));
-  }
-  if (desk.turn === turn) desk.room = {frame: desk.frame, repetition, channels, bases, count: counts[channels]};
+  if (!frame || !desk.mayPlan() || isFull(frame)) return;
+  const bases = roomOf(plan, frame, repetition);
+  const count = [...bases].reduce((sum, [key, free]) => sum + (key === parseInt(key, 10) + channels ? free.size : 0), 0);
+  desk.room = {frame, repetition, channels, bases, count};
 }
 
 // What differs since another variant, and where: in each cell, and in each lane 1 for a new grant, 2 for one that is gone.
-export async function compare(desk, from) {
-  const rows = readDifference(await desk.register.read(desk.path(`since/${from}`)), desk.me);
-  const {cycles} = desk.cluster, cells = new Map(), lanes = new Map();
+function differenceOf(desk, from, text) {
+  const rows = readDifference(text, desk.me), {cycles} = desk.cluster, cells = new Map(), lanes = new Map();
   for (const row of rows) {
     if (row.kind !== "grant" && row.kind !== "placement") continue;
     for (const channel of channelsIn(row.channels)) {
@@ -92,7 +95,12 @@ export async function compare(desk, from) {
       for (let cycle = row.base; cycle < cycles; cycle += row.repetition) cells.get(lane)[cycle][row.isNew ? "now" : "then"] = row;
     }
   }
-  desk.difference = {from, rows, cells, lanes, kind: null};
+  return {from, rows, cells, lanes, kind: null};
+}
+
+export async function compare(desk, from) {
+  const {turn} = desk, text = await desk.register.read(desk.path(`since/${from}`));
+  if (desk.turn === turn) desk.difference = differenceOf(desk, from, text);
 }
 
 // More parts than the largest plan has.

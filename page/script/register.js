@@ -7,13 +7,18 @@ const SECONDS = 60;
 export class Register {
   constructor(key) {
     this.key = key;
-    this.last = Promise.resolve();
+    this.changed = Promise.resolve();
+    this.reads = new Set();
   }
 
-  // The register answers one request after another, so they wait here for their turn.
+  // Reads go side by side. A change waits for all that was asked before it, and what is asked behind it waits for the change.
   ask(method, path, body, isChange = method !== "GET") {
-    const turn = this.last.then(() => this.send(method, path, body, isChange));
-    this.last = turn.catch(() => {});
+    const turn = Promise.all(method === "GET" ? [this.changed] : [this.changed, ...this.reads]).then(() => this.send(method, path, body, isChange));
+    const end = turn.catch(() => {});
+    if (method === "GET") {
+      this.reads.add(end);
+      end.then(() => this.reads.delete(end));
+    } else this.changed = end;
     return turn;
   }
 
@@ -33,6 +38,9 @@ export class Register {
   async tried(variant, file, {replaces, isWhole}) {
     return answerOf("try", await this.ask(replaces ? "PUT" : "POST", `variants/${variant}/tries${isWhole ? "/whole" : ""}`, file, false));
   }
+
+  // Where wishes would go.
+  async proposed(variant, file, replaces) { return answerOf("propose", await this.ask(replaces ? "PUT" : "POST", `variants/${variant}/proposals`, file, false)); }
 
   async imported(variant, label, file) {
     return answerOf("imported", await this.ask("POST", `variants/${variant}/imports/${label}`, file));
@@ -56,7 +64,7 @@ function parsed(text) {
 // An answer that says this word; imports and replacements say how many rows they have. After another one a change may have been carried out.
 function answerOf(word, text) {
   const answer = parsed(text), isOwn = answer?.ok === word && (!word.endsWith("ed") || Number.isInteger(answer.rows));
-  if (!isOwn) throw Object.assign(new Strange("The server's answer is none of the register's."), {isChange: word !== "try"});
+  if (!isOwn) throw Object.assign(new Strange("The server's answer is none of the register's."), {isChange: word !== "try" && word !== "propose"});
   return answer;
 }
 

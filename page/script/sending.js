@@ -1,9 +1,11 @@
 // A file on its way to the register: it is looked at, tried row by row, and carried out, in parts where it is too large for one.
+import {statesOf} from "./changes.js";
 import {fileOf, MOST_BYTES, MOST_ROWS, partsOf, recordsOf} from "./csv.js";
 import {goneCount, goneList, isSameGone, rowsGone} from "./gone.js";
 import {looked} from "./looking.js";
 import {bySomebody, placementsText} from "./meanwhile.js";
-import {attempt, confirmed, say} from "./messages.js";
+import {attempt, confirmed, inTurn, say} from "./messages.js";
+import {tookWishes} from "./proposing.js";
 import {reread} from "./reading.js";
 import {isName, readFates} from "./reports.js";
 import {done} from "./steps.js";
@@ -44,19 +46,26 @@ export async function takeFile(desk, blob) {
     return;
   }
   const bytes = await blob.arrayBuffer().catch(() => null);
-  if (bytes) await takeLooked(desk, await looked(blob.name, new Uint8Array(bytes)));
-  else say("bad", `${blob.name} cannot be read. If another program has it open, close it there, and choose it again.`);
+  const file = bytes && await looked(blob.name, new Uint8Array(bytes));
+  if (file && (file.kind || !tookWishes(desk, file))) await takeLooked(desk, file);
+  else if (!bytes) say("bad", `${blob.name} cannot be read. If another program has it open, close it there, and choose it again.`);
 }
 
 // Takes a file that was looked at or mended, and tries it.
-export async function takeLooked(desk, file) {
-  desk.file = file && Object.assign(file, {way: "import", parts: null, part: 0, fates: null, gone: [], shown: [], onlyRefused: false});
+export async function takeLooked(desk, file, way = "import") {
+  desk.file = file && Object.assign(file, {way, parts: null, part: 0, fates: null, gone: [], shown: [], onlyRefused: false});
   if (file) {
     divide(file);
     file.label = suggestedLabel(file);
   }
   desk.tell("file");
   await tryFile(desk);
+}
+
+// The rows that were proposed are tried as a file of placements.
+export function takeProposal(desk, bytes, replaces) {
+  const records = recordsOf(new TextDecoder().decode(bytes));
+  return takeLooked(desk, {name: "proposal.csv", bytes, records, kind: "placements", fault: "", mend: null, notes: [], sheets: null}, replaces ? "replace" : "import");
 }
 
 function divide(file) {
@@ -77,7 +86,7 @@ export async function tryFile(desk) {
     const gone = way.replaces ? await rowsGone(desk, file, way.isWhole) : [];
     const fates = readFates(await desk.register.tried(desk.variant, bodyOf(file), way));
     Object.assign(file, {gone, fates});
-  });
+  }, `Trying ${file.name} ...`);
   if (desk.file === file) desk.tell("file");
 }
 
@@ -117,17 +126,19 @@ function filedIn(desk, {kind, shown, way}) {
   return {isOwn, isOwnSignal: frame => kind === "signals" && isFiled(frame.name) || goes(frame)};
 }
 
-export async function carryOut(desk) {
-  const {file} = desk, way = WAYS[file.way];
-  if (desk.busy) return;
+export const carryOut = desk => inTurn(desk, () => carryOutNow(desk));
+
+async function carryOutNow(desk) {
+  const {file} = desk, way = WAYS[file?.way];
+  if (!file?.fates) return;
   if (file.way === "import" && !isName(file.label)) {
     say("bad", "The label is no name. A name has 1 to 32 letters, digits and underscores, a letter first.");
     return;
   }
   if (!await mayTakeAway(desk, file)) return;
-  const own = filedIn(desk, file);
+  const own = filedIn(desk, file), {plan: old, me} = desk;
   const isDone = await attempt(desk, async () => {
-    const {rows} = await way.send(desk, file, bodyOf(file));
+    const {rows} = await way.send(desk, file, bodyOf(file)), filedNames = file.shown.slice(1).map(([frame]) => frame);
     let said = `${plural(rows, "row")} of ${file.name} ${way.said(file)}`;
     const isLast = !file.parts || file.part + 1 >= file.parts.length;
     if (isLast) desk.file = null;
@@ -139,9 +150,10 @@ export async function carryOut(desk) {
     const others = bySomebody(await reread(desk, own));
     if (isLast) desk.tell("file");
     else await tryFile(desk);
-    done(desk, said + others, null);
+    const names = new Set(way.isWhole ? [...old.frames, ...desk.plan.frames].map(({name}) => name) : filedNames);
+    done(desk, said + others, {label: `${file.name}: ${plural(rows, "row")} of ${file.kind}, ${way.verb.toLowerCase()}`, before: statesOf(old, me, names), after: statesOf(desk.plan, me, names)});
     return true;
-  });
+  }, `Sending ${file.name} ...`);
   // What was refused is tried again, on the plan as it is now.
   if (!isDone && desk.file === file) await tryFile(desk);
 }

@@ -1,82 +1,76 @@
-// The steps on frames and signals that are carried out at once, and how each is undone.
+// The steps on frames and signals that are carried out at once. Each is kept in the history, by which it can be taken back.
+import {isSameState, statesOf} from "./changes.js";
 import {button} from "./dom.js";
-import {bySomebody, placementsText} from "./meanwhile.js";
-import {attempt, say} from "./messages.js";
+import {bySomebody} from "./meanwhile.js";
+import {attempt, inTurn, say} from "./messages.js";
 import {keyOf} from "./plan.js";
 import {reread} from "./reading.js";
+import {undo} from "./turning.js";
 import {bitsText, placeText} from "./words.js";
 
-// Says what was done; it can be undone by the message, the button of the plan and the keyboard, until something else is done.
-export function done(desk, text, undo, kind = "good") {
-  desk.canUndo(text, undo);
-  say(kind, text, undo ? button("Undo", () => undoLast(desk)) : "");
+// Says what was done. A step can be taken back by the message, by the button of the plan and by the keyboard.
+export function done(desk, text, step = null, kind = "good") {
+  if (step) {
+    desk.history().add(step);
+    desk.tell("undo");
+  }
+  say(kind, text, step ? button("Undo", () => undo(desk)) : "");
 }
 
-export function undoLast(desk) {
-  const {undo} = desk;
-  if (!undo || desk.busy) return;
-  desk.canUndo();
-  undo.act();
-}
-
-const command = (desk, request) => desk.register.command({variant: desk.variant, ...request});
-
-// After a step on placements: reads the plan again, and says what is not as this step leaves it.
-async function rereadPlaced(desk, frame, placements) {
-  const wanted = placementsText(placements);
-  const isOwn = one => keyOf(one) === keyOf(frame) && placementsText(desk.plan.frameNamed(one.supplier, one.name)?.placements ?? []) === wanted;
-  return bySomebody(await reread(desk, {isOwn}));
-}
-
-const rereadNamed = async (desk, name) => bySomebody(await reread(desk, {isOwn: frame => frame.name === name}));
+// Carries out a command on a frame, reads the plan again, and says what became of the frame and what somebody else changed meanwhile.
+const step = (desk, name, request, label, told, isOwnSignal) => inTurn(desk, () => attempt(desk, async () => {
+  const {me, variant} = desk, before = statesOf(desk.plan, me, [name]), gap = desk.plan.frameNamed(me, name)?.gap;
+  await desk.register.command({variant, frame: name, ...request});
+  if (request.do === "add_signal") desk.draft = null;
+  if (request.do === "drop_frame" && desk.frame?.name === name) desk.choose({});
+  const others = bySomebody(await reread(desk, {isOwn: one => one.name === name && isAsLeft(desk, before, name, request), isOwnSignal}));
+  done(desk, told(gap) + others, {label, before, after: statesOf(desk.plan, me, [name])});
+}, `Sending: ${label} ...`));
 
 const plain = ({slot, channels, base, repetition}) => ({slot, channels, base, repetition});
-const current = (desk, frame) => desk.plan.frameNamed(frame.supplier, frame.name);
+const placesOf = (state, request) => {
+  const places = state?.placements ?? [], fields = plain(request), isIt = one => placeText(one) === placeText(fields);
+  return request.do === "place" ? [...places, fields] : request.do === "unplace" ? places.filter(one => !isIt(one)) : places;
+};
 
-export const place = (desk, frame, placement) => attempt(desk, async () => {
-  const fields = plain(placement), before = frame.gap;
-  await command(desk, {do: "place", frame: frame.name, ...fields});
-  const others = await rereadPlaced(desk, frame, [...frame.placements, fields]), gap = current(desk, frame)?.gap ?? Infinity;
-  const gaps = `Its greatest gap is ${desk.times.text(gap)}; it was ${desk.times.number(before)}.`;
-  done(desk, `${frame.name} is placed in ${placeText(fields)}. ${gaps}${others}`,
-    () => unplace(desk, current(desk, frame) ?? frame, fields));
-});
-
-export const unplace = (desk, frame, placement) => attempt(desk, async () => {
-  const fields = plain(placement);
-  await command(desk, {do: "unplace", frame: frame.name, ...fields});
-  const others = await rereadPlaced(desk, frame, frame.placements.filter(one => placeText(one) !== placeText(fields)));
-  done(desk, `${frame.name} is no longer sent in ${placeText(fields)}.` + others, () => place(desk, current(desk, frame) ?? frame, fields));
-});
-
-export const addFrame = (desk, name, node) => attempt(desk, async () => {
-  await command(desk, {do: "add_frame", frame: name, node});
-  const others = await rereadNamed(desk, name);
-  desk.choose({frame: desk.plan.frameNamed(desk.me, name)});
-  done(desk, `${name} is added. It is not placed yet.` + others, () => dropFrame(desk, name));
-});
-
-export const dropFrame = (desk, name) => attempt(desk, async () => {
-  await command(desk, {do: "drop_frame", frame: name});
-  if (desk.frame?.name === name) desk.choose({});
-  const others = await rereadNamed(desk, name);
-  done(desk, `${name} is dropped.` + others, null);
-});
-
-async function signalStep(desk, frame, request) {
-  await command(desk, {frame: frame.name, ...request});
-  if (request.do === "add_signal") desk.draft = null;
-  const isOwnSignal = (one, name) => keyOf(one) === keyOf(frame) && name === request.signal;
-  return bySomebody(await reread(desk, {isOwnSignal}));
+// Whether the frame's placements are those that the command leaves it with.
+function isAsLeft(desk, before, name, request) {
+  const then = before.get(name), now = statesOf(desk.plan, desk.me, [name]).get(name);
+  if (["add_frame", "drop_frame"].includes(request.do)) return true;
+  return now !== null && then !== null && isSameState({...now, signals: []}, {...then, placements: placesOf(then, request), signals: []});
 }
 
-export const addSignal = (desk, frame, signal) => attempt(desk, async () => {
-  const {name, start, length, order} = signal;
-  const others = await signalStep(desk, frame, {do: "add_signal", signal: name, start, length, order});
-  done(desk, `${name} is added to ${frame.name}.${others}`, () => dropSignal(desk, frame, signal));
+// The cells are marked until the register has answered.
+export async function place(desk, {name}, placement) {
+  const fields = plain(placement), where = placeText(fields), gapNow = () => desk.plan.frameNamed(desk.me, name)?.gap ?? Infinity;
+  desk.pending.push(fields);
+  desk.tell("pending");
+  await step(desk, name, {do: "place", ...fields}, `${name} placed in ${where}`,
+    gap => `${name} is placed in ${where}. Its greatest gap is ${desk.times.text(gapNow())}; it was ${desk.times.number(gap)}.`);
+  desk.pending = desk.pending.filter(one => one !== fields);
+  desk.tell("pending");
+}
+
+export function unplace(desk, {name}, placement) {
+  const where = placeText(placement);
+  return step(desk, name, {do: "unplace", ...plain(placement)}, `${name} taken out of ${where}`, () => `${name} is no longer sent in ${where}.`);
+}
+
+export const addFrame = (desk, name, node) => step(desk, name, {do: "add_frame", node}, `${name} added`, () => {
+  desk.choose({frame: desk.plan.frameNamed(desk.me, name)});
+  return `${name} is added. It is not placed yet.`;
 });
 
-export const dropSignal = (desk, frame, signal) => attempt(desk, async () => {
-  const others = await signalStep(desk, frame, {do: "drop_signal", signal: signal.name});
-  done(desk, `${signal.name} is dropped from ${frame.name}. It was ${bitsText(signal)}.${others}`, () => addSignal(desk, frame, signal));
-});
+export const dropFrame = (desk, name) => step(desk, name, {do: "drop_frame"}, `${name} dropped`, () => `${name} is dropped.`);
+
+const isOwnSignal = (frame, signal) => (one, name) => keyOf(one) === keyOf(frame) && name === signal.name;
+
+export function addSignal(desk, frame, signal) {
+  const {name, start, length, order} = signal, told = () => `${name} is added to ${frame.name}.`;
+  return step(desk, frame.name, {do: "add_signal", signal: name, start, length, order}, `signal ${name} added to ${frame.name}`, told, isOwnSignal(frame, signal));
+}
+
+export function dropSignal(desk, frame, signal) {
+  const told = () => `${signal.name} is dropped from ${frame.name}. It was ${bitsText(signal)}.`;
+  return step(desk, frame.name, {do: "drop_signal", signal: signal.name}, `signal ${signal.name} dropped from ${frame.name}`, told, isOwnSignal(frame, signal));
+}

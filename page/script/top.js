@@ -17,7 +17,7 @@ export function topBar(desk) {
   listen("reload", "click", () => attempt(desk, async () => {
     const changed = await refresh(desk);
     say("good", "The plan is read again." + (changed ? bySomebody(changed) : nothingChanged));
-  }));
+  }, "Reading the plan again ..."));
   listen("help-open", "click", () => openHelp(desk));
   listen("leave", "click", () => desk.leave());
   listenToTimes(desk);
@@ -35,7 +35,7 @@ export function topBar(desk) {
 
 async function show(desk, variant) {
   quiet();
-  await attempt(desk, () => choose(desk, variant));
+  await attempt(desk, () => choose(desk, variant), `Reading ${variant} ...`);
   if (desk.register) showVariants(desk);
 }
 

@@ -49,8 +49,8 @@ class StubRegister(Answering):
 
     def answer(self):
         self.body()
-        if self.path == "/":
-            return self.reply(200, *self.server.page)
+        if self.path in self.server.parts:
+            return self.reply(200, *self.server.parts[self.path])
         words = self.path.split("/")
         word = next((it for it in ("room", "since", "exports", "imports") if it in words), words[-1])
         answer = self.server.answers.get(word, NO_VARIANT)
@@ -63,17 +63,20 @@ class StubRegister(Answering):
 class StubCase(PlannerCase):
     """The page before such a server, as the program has it."""
 
-    page = None
+    parts = None
 
     def setUp(self):
         super().setUp()
-        if self.page is None:
+        if self.parts is None:
             self.plan(SMALL.decode(), "")
-            with urllib.request.urlopen(self.url) as reply:
-                fields = [(name, value) for name, value in reply.getheaders() if name not in ("content-length", "connection")]
-                type(self).page = fields, reply.read()
+            type(self).parts = {path: self.part(path) for path in ("/", "/slotplan.css", "/slotplan.js")}
         self.answers = {}
-        self.url = f"http://127.0.0.1:{self.enterContext(serving(StubRegister, answers=self.answers, page=self.page))}/"
+        self.url = f"http://127.0.0.1:{self.enterContext(serving(StubRegister, answers=self.answers, parts=self.parts))}/"
+
+    def part(self, path):
+        """A part of the page: its fields and its body."""
+        with urllib.request.urlopen(self.url + path[1:]) as reply:
+            return [(name, value) for name, value in reply.getheaders() if name not in ("content-length", "connection")], reply.read()
 
     def answer(self, **changed):
         """A key is shown to a server that answers so."""

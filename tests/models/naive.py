@@ -13,6 +13,8 @@ import tomllib
 from bisect import insort
 from collections import Counter
 
+from tests.models.proposals import Page, Wish, propose
+
 CYCLES = 64  # where the cluster file says nothing else
 NAME = re.compile(r"[A-Za-z][A-Za-z0-9_]{0,31}", re.ASCII)
 KEY = re.compile(r"[A-Za-z0-9]{8,64}", re.ASCII)
@@ -25,25 +27,28 @@ FIELDS = {
     "grant": ("variant", "slot", "channel", "supplier", "node"), "revoke": ("variant", "slot", "channel", "supplier"),
     "add_frame": ("variant", "frame", "node"), "drop_frame": ("variant", "frame"), "place": PLACE, "unplace": PLACE,
     "add_signal": ("variant", "frame", "signal", "start", "length", "order"), "drop_signal": ("variant", "frame", "signal"),
-    "import": ("variant", "label", "body"), "replace": ("variant", "body", "whole"), "try": ("variant", "body", "replace", "whole"), "cluster": (),
+    "import": ("variant", "label", "body"), "replace": ("variant", "body", "whole"), "try": ("variant", "body", "replace", "whole"),
+    "propose": ("variant", "body", "replace"), "cluster": (),
     "variants": (), "nodes": (), "diff": ("variant", "from"), "grants": ("variant",), "frames": ("variant",), "schedule": ("variant",), "gaps": ("variant",),
     "layout": ("variant", "frame"), "load": ("variant",), "rows": ("variant",), "export_frames": ("variant", "part"), "export_placements": ("variant", "part"),
     "export_signals": ("variant", "part"), "room": ("variant", "frame", "repetition"),
 }
 # Fields that may be left out, and what they then are.
-LEFT_OUT = {"open_variant": {"from": None, "flat": False}, "replace": {"whole": False}, "try": {"replace": False, "whole": False}}
+LEFT_OUT = {
+    "open_variant": {"from": None, "flat": False}, "replace": {"whole": False}, "try": {"replace": False, "whole": False}, "propose": {"replace": False},
+}
 FLAGS = {"flat", "replace", "whole"}
 HELD = {"cluster", "variants", "nodes"}
 BOTH = HELD | {"diff", "grants", "frames", "schedule", "gaps", "layout", "load", "rows", "export_frames", "export_placements", "export_signals"}
 QUERIES = BOTH | {"room"}
 # Requests that carry a file, each with what answers it.
-FILED = {"import": "import_rows", "replace": "replace_rows", "try": "try_rows"}
+FILED = {"import": "import_rows", "replace": "replace_rows", "try": "try_rows", "propose": "propose"}
 INTEGRATORS = {"open_variant", "release", "add_supplier", "set_key", "add_node", "grant", "revoke"}
 NUMBER_OF = {
     "BadText": 1, "UnknownKey": 2, "NotYours": 3, "BadName": 4, "BadCycles": 5, "BadSlot": 6, "BadChannel": 7, "BadSignal": 8,
     "LabelUsed": 9, "NoVariant": 10, "Released": 11, "NotReleased": 12, "TooDeep": 13, "NoSupplier": 14, "NoNode": 15,
     "NoFrame": 16, "NoSignal": 17, "NoPlacement": 18, "Exists": 19, "NodeDiffers": 20, "NotGranted": 21, "InUse": 22,
-    "Limit": 23, "Taken": 24, "CellTaken": 25, "OutOfPayload": 26, "BitTaken": 27, "BadRow": 29, "BadKey": 30, "KeyTaken": 31,
+    "Limit": 23, "Taken": 24, "CellTaken": 25, "OutOfPayload": 26, "BitTaken": 27, "BadRow": 29, "BadKey": 30, "KeyTaken": 31, "NoRoom": 32,
 }
 LENGTHS = ("slot_macroticks", "dynamic_macroticks", "symbol_macroticks", "idle_macroticks", "macroticks_per_cycle")
 # So many rows a file has at most, and so many records a part of an export.
@@ -192,7 +197,8 @@ class Register:
             see(0 < asked["repetition"] and self.cycles % asked["repetition"] == 0 and asked.get("base", 0) < asked["repetition"], "BadCycles")
         if "slot" in asked:
             see(1 <= asked["slot"] <= self.cluster["static_slots"], "BadSlot")
-            channels = asked.get("channels", asked.get("channel"))
+        channels = asked.get("channels", asked.get("channel"))
+        if channels is not None:
             see(channels in ("A", "B", "AB") and not ("channel" in asked and channels == "AB"), "BadChannel")
             see(set(channels) <= set(self.cluster["channels"]), "BadChannel")
 
@@ -430,6 +436,34 @@ class Register:
             return f"{line:04} {told_as_fate(**refused.answer)}"
         return f"{line:04} 00 done"
 
+    def propose(self, supplier, asked):
+        """A place for each wish of a file, or what refuses it; nothing is changed."""
+        variant, body = asked["variant"], asked["body"].encode()
+        self.open_row(variant)
+        see(len(body) <= 65_536, "Limit")
+        reads = list(self.each_line(body, FIELDS_OF_WISH))
+        wishes = [Wish(line, **row[1]) for line, row in reads if not isinstance(row, Refused)]
+        places, lacks = propose(self.page(variant, supplier), wishes, asked["replace"])
+        lines = [self.proposed(line, row, places.get(line)) for line, row in reads]
+        return {"lines": lines + [f"LACK {node} {channels} {slots:04}" for node, channels, slots in lacks], "ok": "propose"}
+
+    def proposed(self, line, row, place):
+        """What becomes of a wish, by its own text or as it was found."""
+        if isinstance(row, Refused):
+            return f"{line:04} {told_as_fate(**row.answer)}"
+        if isinstance(place, str):
+            return f"{line:04} {told_as_fate(NUMBER_OF[place], place)}"
+        return f"{line:04} 00 " + ",".join(map(str, (row[1]["frame"], row[1]["node"], *place)))
+
+    def page(self, variant, supplier):
+        """The supplier's rows in the variant."""
+        grants = self.sql("SELECT slot, channel, node FROM grants WHERE variant = ? AND supplier = ?", variant, supplier)
+        frames = self.sql("SELECT name, node FROM frames WHERE variant = ? AND supplier = ?", variant, supplier)
+        return Page(
+            self.cycles, [node for node, in self.sql("SELECT name FROM nodes WHERE supplier = ?", supplier)],
+            {(slot, channel): node for slot, channel, node in grants},
+            {frame: (node, self.placements(variant, supplier, frame)) for frame, node in frames})
+
     def refused_row(self, rows, wrong, act):
         """Acts on each row, and tells the first that is refused, by what it acts on or, behind all, by its own text. Then nothing is changed."""
         line = 1
@@ -452,23 +486,24 @@ class Register:
             rows.append((line, row))
         return rows, None
 
-    def each_line(self, body):
+    def each_line(self, body, kinds=None):
         """The lines of a file: each with its row, or with the refusal by its own text. One line more than there may be is the last."""
-        kind, records = self.records(body)
+        kinds = kinds or FIELDS_OF_ROW
+        kind, records = self.records(body, kinds)
         if kind is None:
             yield 1, Refused("BadText")
             return
         for line, record in zip(range(2, ROWS + 2), records):
-            yield line, self.row_or_refused(kind, FIELDS_OF_ROW[kind], record)
+            yield line, self.row_or_refused(kind, kinds[kind], record)
         if next(records, None):
             yield ROWS + 2, Refused("Limit")
 
-    def records(self, body):
+    def records(self, body, kinds=None):
         """The kind of a file's rows, as its header tells, or None where it has none; and the records behind the header."""
         text = body.removeprefix(b"\xef\xbb\xbf").decode("latin-1")
         records = (record for record in csv.reader(io.StringIO(text, newline="")) if record)
         header = tuple(next(records, ()))
-        return next((kind for kind, fields in FIELDS_OF_ROW.items() if fields == header), None), records
+        return next((kind for kind, fields in (kinds or FIELDS_OF_ROW).items() if fields == header), None), records
 
     def row_or_refused(self, kind, header, record):
         try:
@@ -725,6 +760,7 @@ FIELDS_OF_ROW = {
     "placements": ("frame", "node", "slot", "channels", "base", "repetition"),
     "signals": ("frame", "signal", "start", "length", "order"),
 }
+FIELDS_OF_WISH = {"wishes": ("frame", "node", "channels", "repetition")}
 
 
 def register_of(script):

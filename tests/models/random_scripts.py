@@ -11,6 +11,7 @@ MIX is one of
   joining   plan, refused and queries, while suppliers join until no more may
   revising  exports, loads, rooms, replacements, of which some are whole, and changed keys, between steps of the plan
   comparing rows and differences of variants, and tries of files, which often come themselves next; variants are released and opened between them
+  proposing files of wishes, beside what is there and in place of it, between steps of the plan
   all       plan, refused, queries and imports, mixed line by line
 """
 import argparse
@@ -297,6 +298,33 @@ class Plan:
             return self.some_file(variant, supplier)
         return self.plan()
 
+    def wish_row(self, variant, supplier):
+        """A wish of a frame that is there or new; now and then one that is refused."""
+        frame = f"frame{self.dice.randrange(FRAMES)}"
+        node = dict(self.frames[variant, supplier]).get(frame, self.dice.randrange(NODES))
+        if self.dice.random() < 0.05:
+            node = self.dice.choice((node + 1, "x"))
+        repetition = self.dice.choice((*self.repetitions, self.cycles, self.cycles, 1, 2, 3))
+        return f"{frame},node{node},{self.dice.choice(('A', 'B', 'AB', 'A', 'B'))},{repetition}"
+
+    def own_wish_row(self, variant, supplier):
+        """A wish of a frame that has such a placement."""
+        it = self.dice.choice(self.placed[variant, supplier])
+        node = dict(self.frames[variant, supplier]).get(it["frame"], 0)
+        return f"{it['frame']},node{node},{it['channels']},{it['repetition']}"
+
+    def wishes(self):
+        """A file of wishes; half of them stand in place of what their frames have. Now and then a row is none. Else a step of the plan."""
+        variant, supplier = self.dice.choice(self.variants), self.dice.choice(self.suppliers)
+        if not self.frames.get((variant, supplier)) or self.dice.random() < 0.5:
+            return self.plan()
+        kinds = [self.wish_row, self.own_wish_row] if self.placed.get((variant, supplier)) else [self.wish_row]
+        rows = [self.dice.choice(kinds)(variant, supplier) for _ in range(self.dice.choice((0, 1, 2, 5, 10, 30)))]
+        if self.dice.random() < 0.2:
+            rows.insert(self.dice.randrange(len(rows) + 1), self.dice.choice(("frame0", "nothing,nothing,A,2", "frame0,node0,C,2", "frame0,node0,A,0")))
+        given = {"replace": self.dice.random() < 0.7} if self.dice.random() < 0.7 else {}
+        return self.line(supplier, "propose", variant=variant, **given, body="".join(f"{line}\n" for line in ["frame,node,channels,repetition", *rows]))
+
     def changed_key(self):
         """A key that nobody has, or one that is refused."""
         supplier, number = self.dice.choice(self.suppliers), self.dice.randrange(1_000_000)
@@ -446,7 +474,7 @@ class Plan:
 def lines_of(mix, lines, suppliers, seed, cycles=None):
     names = [f"s{n}" for n in range(suppliers)]
     plan = Plan(list(names), seed, cycles or 64)
-    variants, frames = {"plan": (4, 4), "place": (1, 60), "joining": (4, 4), "revising": (3, 4), "comparing": (3, 4), "all": (4, 4)}.get(mix, (1, 4))
+    variants, frames = {"plan": (4, 4), "place": (1, 60), "joining": (4, 4), "revising": (3, 4), "comparing": (3, 4), "proposing": (2, 4), "all": (4, 4)}.get(mix, (1, 4))
     opening = list(plan.opening(variants, frames))
     if mix == "queries":
         opening += [asked("v0", name) for name in names for asked in (plan.place, plan.add_signal)]
@@ -459,6 +487,7 @@ def lines_of(mix, lines, suppliers, seed, cycles=None):
         "joining": [plan.joining, plan.joining, plan.plan, plan.refused, plan.query],
         "revising": [plan.revising],
         "comparing": [plan.comparing],
+        "proposing": [plan.wishes],
         "all": [plan.plan, plan.plan, plan.plan, plan.refused, plan.query, plan.some_import],
     }[mix]
     more = (plan.dice.choice(kinds)() for _ in range(max(0, lines - len(opening))))
@@ -472,7 +501,7 @@ def random_script(mix, lines, suppliers=8, seed=1, cycles=None):
 
 def main():
     words = argparse.ArgumentParser(description=__doc__, formatter_class=argparse.RawDescriptionHelpFormatter)
-    words.add_argument("mix", choices=("plan", "refused", "queries", "place", "imports", "joining", "revising", "comparing", "all"))
+    words.add_argument("mix", choices=("plan", "refused", "queries", "place", "imports", "joining", "revising", "comparing", "proposing", "all"))
     words.add_argument("--lines", type=int, default=10_000)
     words.add_argument("--suppliers", type=int, default=8, choices=range(1, 65), metavar="1..64")
     words.add_argument("--seed", type=int, default=1)

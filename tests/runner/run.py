@@ -2,19 +2,20 @@
 
 A NAME is a module, a class or a test, as `python3 -m unittest` takes it; without one all are run. The program is the one that SLOTPLAN names. The
 last line counts the checks: 'N passed, M failed'. A test that was left out has failed, and so has one that checked nothing; only one that may be
-skipped has not."""
+skipped has not: lines before the last one say how many of these were left out, and why."""
 import argparse
 import os
 import sys
 import unittest
+from collections import Counter
 
 from tests import TOP
 
 from .case import Case
-from .steps import SideBySide, Step
+from .steps import SideBySide, Step, left_out_lines
 
-# What is tried of the clients, which are python3, and of packages and the planners' page in a browser, which are the same whoever made the program.
-AROUND = "test_autosar", "test_browser", "test_clients", "test_demo", "test_package", "test_page_built", "test_wireshark"
+# What is tried of the clients, which are python3, and of packages and the planners' page by itself or in a browser, which are the same whoever made the program.
+AROUND = "test_autosar", "test_browser", "test_clients", "test_demo", "test_fibex", "test_package", "test_page_built", "test_page_modules", "test_wireshark"
 
 
 class Result(unittest.TestResult):
@@ -22,7 +23,7 @@ class Result(unittest.TestResult):
 
     def __init__(self, failfast):
         super().__init__()
-        self.failfast, self.failed, self.before = failfast, 0, 0
+        self.failfast, self.failed, self.before, self.left_out = failfast, 0, 0, Counter()
 
     def startTest(self, test):
         super().startTest(test)
@@ -53,7 +54,8 @@ class Result(unittest.TestResult):
     def addSkip(self, test, reason):
         super().addSkip(test, reason)
         if getattr(test, "may_be_skipped", False):
-            print(f"skipped: {reason}: {test.id()}", flush=True)
+            self.left_out[reason] += 1
+            print(f"skipped: {test.id()}", flush=True)
         else:
             self.tell(test, f"left out, since {reason}")
 
@@ -84,6 +86,8 @@ def alone(tests, failfast):
     result = Result(failfast)
     unittest.TestSuite(tests).run(result)
     passed = Case.checks - sum(map(is_check, result.failures))
+    for line in left_out_lines(result.left_out):
+        print(line)
     print(f"{passed} passed, {result.failed} failed")
     return 1 if result.failed else 0
 

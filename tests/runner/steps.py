@@ -4,6 +4,7 @@ import re
 import signal
 import subprocess
 import time
+from collections import Counter
 from typing import Callable, Mapping, NamedTuple, Sequence
 
 from tests import TOP
@@ -23,8 +24,13 @@ TESTED = re.compile(r"^test result: \w+\. (\d+) passed; (\d+) failed", re.M)
 # Lines that tell of a failure are shown once more at the end, so many of each step.
 FAILURE = re.compile(r"wanted|in place of|[Ff]ail|FAIL|[Ee]rror|not proved|left out|Traceback|^crates/slotplan/out/slotplan")
 SHOWN = 10
-# What was skipped is told too.
-SKIPPED = re.compile(r"^skipped: ")
+# Why tests were left out that may be, and how many.
+LEFT_OUT = re.compile(r"^(\d+) left out: (.+)$", re.M)
+
+
+def left_out_lines(count):
+    """What is said of tests that were left out: how many for each cause."""
+    return [f"{number} left out: {why}" for why, number in sorted(count.items())]
 
 
 def by_last_line(said, status):
@@ -61,15 +67,16 @@ class Step(NamedTuple):
             return subprocess.Popen(self.words, cwd=TOP, env={**os.environ, **self.env}, **how)
 
     def counted(self, status):
-        """What it passed and failed, with lines that tell of a failure, or of what was skipped. One that counts nothing, or whose status is another than its
-        count, has failed once more."""
+        """What it passed and failed, with lines that tell of a failure, and what it left out by the causes. One that counts nothing, or whose status is
+        another than its count, has failed once more."""
         said = self.log().read_text(errors="replace")
         count = self.count(said, status)
         passed, failed = count or (0, 0)
         failed += not count or (status != 0) != (failed != 0)
-        skipped = [line for line in said.splitlines() if SKIPPED.search(line)]
-        told = [line for line in said.splitlines() if FAILURE.search(line) and not COUNT.fullmatch(line)] or said.splitlines()
-        return passed, failed, told[-SHOWN:] if failed else skipped
+        left_out = Counter({why: int(number) for number, why in LEFT_OUT.findall(said)})
+        lines = [line for line in said.splitlines() if not LEFT_OUT.fullmatch(line)]
+        told = [line for line in lines if FAILURE.search(line) and not COUNT.fullmatch(line)] or lines
+        return passed, failed, told[-SHOWN:] if failed else [], left_out
 
 
 class SideBySide:
@@ -79,7 +86,7 @@ class SideBySide:
         self.total, self.stops_at_failure, self.jobs = total, stops_at_failure, jobs
         self.begun = self.spoken = time.monotonic()
         self.passed = self.failed = self.ended = 0
-        self.told, self.under_way = [], {}
+        self.told, self.under_way, self.left_out = [], {}, Counter()
 
     def say(self, text):
         self.spoken = time.monotonic()
@@ -93,8 +100,9 @@ class SideBySide:
 
     def end(self, command):
         step = self.under_way.pop(command)
-        passed, failed, lines = step.counted(command.returncode)
+        passed, failed, lines, left_out = step.counted(command.returncode)
         self.passed, self.failed, self.ended = self.passed + passed, self.failed + failed, self.ended + 1
+        self.left_out += left_out
         self.told += [f"{step.name}: {line}" for line in lines]
         self.say(f"ends    {step.name}: {passed} passed, {failed} failed; {self.ended} of {self.total}")
         return step, failed
@@ -130,6 +138,8 @@ class SideBySide:
             print(f"{line:.400}")
         if left_out:
             print(f"{left_out} of {self.total} steps were left out")
+        for line in left_out_lines(self.left_out):
+            print(line)
         failed = self.failed + left_out
         print(f"{self.passed} passed, {failed} failed")
         return 1 if failed else 0

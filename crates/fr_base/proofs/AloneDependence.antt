@@ -7,7 +7,7 @@ use Rattle.fr_base.specs.Tables.{get}
 use Rattle.fr_base.specs.Cluster.{Cluster}
 use Rattle.fr_base.specs.Book.{Book}
 use Rattle.fr_base.specs.Queries.{reply}
-use Rattle.fr_base.specs.Step.{Outcome, knows, common, add_supplier, set_key, add_node, change_rows, done, perform, import, replace, try, act, deliver, outcome, step}
+use Rattle.fr_base.specs.Step.{Outcome, knows, common, add_supplier, set_key, add_node, change_rows, done, perform, import, replace, try, propose, act, deliver, outcome, step}
 use Rattle.fr_base.specs.Sound.{IsSound}
 use Rattle.fr_base.specs.Alone.{rows_of, concerns, is_another, holder_at, another_has, is_full, beside}
 use Rattle.fr_base.specs.declared.name.Name.{Name}
@@ -35,6 +35,7 @@ use Rattle.fr_base.proofs.AloneRows.{rows_of-supplier, rows_of-import}
 use Rattle.fr_base.proofs.AloneImports.{import-own}
 use Rattle.fr_base.proofs.AloneReplacements.{replace-own}
 use Rattle.fr_base.proofs.AloneTrials.{try-own}
+use Rattle.fr_base.proofs.AloneProposals.{propose-own}
 use Rattle.fr_base.proofs.AloneChanges.{unless, unless_none}
 use Rattle.fr_base.proofs.AloneJoining.{others_refuse}
 use Rattle.fr_base.proofs.AloneKeys.{another_refuses}
@@ -85,11 +86,16 @@ module _ (c : Cluster) (b : Book) (s : Name) where
   try-alone t how is sound =
       subst (λ u. map_ok (seen u) (try c.params b t how) ≡ (try c.params (rows_of u b) t how >>= unless (Ok tt))) (sym is) (try-own t how c b sound ∙ sym (unless_none _))
 
+  propose-alone : (d : Delivery) (replace : Bool) → s ≡ d.supplier → Beside (Ok tt) (propose c.params b d replace) (propose c.params (rows_of s b) d replace)
+  propose-alone d replace is =
+      subst (λ u. map_ok (seen u) (propose c.params b d replace) ≡ (propose c.params (rows_of u b) d replace >>= unless (Ok tt))) (sym is) (propose-own d replace c b ∙ sym (unless_none _))
+
   deliver-alone : (d : Delivery) (how : Purpose Name) → s ≡ d.supplier → IsSound c b → Beside (Ok tt) (deliver c.params b d how) (deliver c.params (rows_of s b) d how)
   unfolding deliver
   deliver-alone d (purpose.Import label) = import-alone d label
   deliver-alone d (purpose.Replacement whole) = replace-alone d whole
   deliver-alone d (purpose.Trial how) = try-alone d how
+  deliver-alone d (purpose.Proposal replace) = λ is sound. propose-alone d replace is
 
   act-own : (actor : Actor) (request : Request) → (is_integrator actor ≡ false → IsSound c b) → asked_of s actor request ≡ true → (what : Checked) → Says actor request what →
       Beside (refused_beside s b actor request) (act c b actor what) (act c (rows_of s b) actor what)

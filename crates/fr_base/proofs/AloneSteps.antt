@@ -34,7 +34,7 @@ use Rattle.fr_base.proofs.AloneChecks.{asked_of, refused_beside, Says, check-say
 use Rattle.fr_base.proofs.AloneOutcomes.{seen, outcome-own, outcome-still}
 use Rattle.fr_base.proofs.AloneImports.{import-other}
 use Rattle.fr_base.proofs.AloneReplacements.{replace-other}
-use Rattle.fr_base.proofs.SoundTrials.{trial-leaves}
+use Rattle.fr_base.proofs.SoundTrials.{trial-leaves, proposal-leaves}
 use Rattle.fr_base.proofs.AloneDependence.{supplier-is, lines, lines-own}
 
 -- ---- a request that was not done
@@ -80,7 +80,7 @@ replace-carried p b r whole =
     gives_when _ _ _ _ (λ _.
     gives_when _ _ _ _ (λ _. replaced-carried b _ _)))
 
--- an import or a replacement is always carried out, and a trial changes nothing
+-- an import or a replacement is always carried out, and a trial or a proposal changes nothing
 delivered-undone : (p : Params) (b : Book) (d : Delivery) (how : Purpose Name) → IfOk (deliver p b d how) (λ o. is_unavailable o.answer ≡ true → o.book ≡ b)
 unfolding deliver
 delivered-undone p b d (purpose.Import label) =
@@ -88,6 +88,7 @@ delivered-undone p b d (purpose.Import label) =
 delivered-undone p b d (purpose.Replacement whole) =
     gives_bind_last _ (λ (o : Outcome). is_unavailable o.answer ≡ false) _ (replace-carried p b d whole) (λ o available undone. absurd (true≢false (sym undone ∙ available)))
 delivered-undone p b d (purpose.Trial how) = gives_bind_last _ (λ (o : Outcome). o.book ≡ b) _ (trial-leaves (λ e. e ≡ b) b refl p d how) (λ o still undone. still)
+delivered-undone p b d (purpose.Proposal replace) = gives_bind_last _ (λ (o : Outcome). o.book ≡ b) _ (proposal-leaves (λ e. e ≡ b) b refl p d replace) (λ o still undone. still)
 
 not_available : (x : Bool) → not x ≡ false → x ≡ true
 not_available true h = refl
@@ -145,6 +146,7 @@ module _ (c : Cluster) (b : Book) (s : Name) where
   delivered-other p d (purpose.Import label) other = import-other p b s d label other (get b.imports (d.supplier, label))
   delivered-other p d (purpose.Replacement whole) other = replace-other p b s d whole other
   delivered-other p d (purpose.Trial how) other = trial-leaves (λ e. rows_of s e ≡ rows_of s b) b refl p d how
+  delivered-other p d (purpose.Proposal replace) other = proposal-leaves (λ e. rows_of s e ≡ rows_of s b) b refl p d replace
 
   act-other : (actor : Actor) (request : Request) → asked_of s actor request ≡ false → (what : Checked) → Says actor request what → IfOk (act c b actor what) (λ o. rows_of s o.book ≡ rows_of s b)
   unfolding act

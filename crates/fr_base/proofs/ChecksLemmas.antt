@@ -7,7 +7,7 @@ use Rattle.fr_base.specs.Checks.{asking, key, name, cycles, slot, channel, chann
 use Rattle.fr_base.specs.QueryNames.{IsPurposeRead, IsQueryRead}
 use Rattle.fr_base.proofs.QueryLemmas.{query_alike}
 use Rattle.fr_base.specs.declared.delivery.Purpose.{Purpose}
-use Rattle.fr_base.specs.declared.delivery.Purpose.TheVariants.{Import, Replacement, Trial}
+use Rattle.fr_base.specs.declared.delivery.Purpose.TheVariants.{Import, Replacement, Trial, Proposal}
 use Rattle.fr_base.specs.declared.name.Name.{Name}
 use Rattle.fr_base.specs.declared.query.Query.{Query}
 use Rattle.fr_base.specs.declared.refusal.Refusal.{Refusal}
@@ -34,3 +34,4 @@ unfolding IsPurposeRead purpose ◌>>=◌
 purpose_read (Import label) result (read, is_name, is) = rw is (rw is_name refl)
 purpose_read (Replacement whole) result is = is
 purpose_read (Trial manner) result is = is
+purpose_read (Proposal replace) result is = is

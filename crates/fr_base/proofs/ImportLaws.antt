@@ -43,7 +43,7 @@ use Rattle.fr_base.proofs.SoundRefusing.{gives_or, gives_bind, gives_bind_last, 
 use Rattle.fr_base.proofs.KnownSteps.{step-knows, run-knows_supplier}
 use Rattle.fr_base.proofs.SoundImports.{Keeps, change_rows-keeps, rows-keep}
 use Rattle.fr_base.proofs.SoundReplacements.{replace-keeps}
-use Rattle.fr_base.proofs.SoundTrials.{trial-leaves}
+use Rattle.fr_base.proofs.SoundTrials.{trial-leaves, proposal-leaves}
 
 rows-are : {m n : ℕ} → answer.Imported m ≡ answer.Imported n → m ≡ n
 rows-are e = cc
@@ -119,6 +119,7 @@ module _ (b : Book) (k : Name × Name) (one : Kept) (there : get b.imports k ≡
   delivered-has p d (purpose.Import label) = import-has p d label (get b.imports (d.supplier, label)) refl
   delivered-has p d (purpose.Replacement whole) = gives_bind_last _ (λ (o : Outcome). Keeps b o.book) _ (replace-keeps p b d whole) (λ o keeps. keeps-has o.book keeps)
   delivered-has p d (purpose.Trial how) = trial-leaves Has b there p d how
+  delivered-has p d (purpose.Proposal replace) = proposal-leaves Has b there p d replace
 
   act-has : (c : Cluster) (actor : Actor) (what : Checked) → IfOk (act c b actor what) (λ o. Has o.book)
   unfolding act

@@ -36,7 +36,7 @@ use Rattle.fr_base.proofs.SoundTables.{contains-more}
 use Rattle.fr_base.proofs.SoundRefusing.{gives_or, gives_bind, gives_bind_last, gives_each, gives_when, gives_unless}
 use Rattle.fr_base.proofs.SoundImports.{Keeps, change_rows-keeps, rows-keep}
 use Rattle.fr_base.proofs.SoundReplacements.{replace-keeps}
-use Rattle.fr_base.proofs.SoundTrials.{trial-leaves}
+use Rattle.fr_base.proofs.SoundTrials.{trial-leaves, proposal-leaves}
 
 -- whom a request names that is to have another key
 abbrev pub keyed_by : Request → Option Name
@@ -149,6 +149,7 @@ module _ (c : Cluster) (b : Book) where
   delivered-stays p d (purpose.Import label) = import-stays p d label (get b.imports (d.supplier, label))
   delivered-stays p d (purpose.Replacement whole) = gives_bind_last _ (λ (o : Outcome). Keeps b o.book) _ (replace-keeps p b d whole) (λ o keeps. keeps.suppliers)
   delivered-stays p d (purpose.Trial how) = trial-leaves Stays b refl p d how
+  delivered-stays p d (purpose.Proposal replace) = proposal-leaves Stays b refl p d replace
 
   act-becomes : (actor : Actor) (what : Checked) → IfOk (act c b actor what) (Becomes c b (keyed what))
   unfolding act

@@ -4,7 +4,7 @@ use Rattle.std.specs.Prelude.{MatchResult}
 use Rattle.fr_base.specs.Refusing.{◌>>=◌}
 use Rattle.fr_base.specs.QueryNames.{IsPurposeRead, purpose_with}
 use Rattle.fr_base.specs.declared.delivery.Purpose.{Purpose}
-use Rattle.fr_base.specs.declared.delivery.Purpose.TheVariants.{Import, Replacement, Trial}
+use Rattle.fr_base.specs.declared.delivery.Purpose.TheVariants.{Import, Replacement, Trial, Proposal}
 
 module _ {N A E : Type 0} (reads : N → Result A E → Type 0) where
   pub label_read : (label : N) (l : A) → reads label (Ok l) → IsPurposeRead reads (Import label) (Ok (Import l))
@@ -26,3 +26,4 @@ module _ {N A E : Type 0} (f : N → A) (Lacks : E → Type 0) where
   purpose_made (Import label) result (Err e, lacks, is) = rw is lacks
   purpose_made (Replacement whole) result is = rw is refl
   purpose_made (Trial manner) result is = rw is refl
+  purpose_made (Proposal replace) result is = rw is refl

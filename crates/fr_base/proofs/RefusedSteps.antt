@@ -20,7 +20,7 @@ use Rattle.fr_base.specs.declared.delivery.Purpose.{Purpose}
 use Rattle.fr_base.specs.declared.delivery.Purpose.TheVariants as purpose
 use Rattle.fr_base.specs.declared.name.Name.{Name}
 use Rattle.fr_base.proofs.SoundRefusing.{gives_or, gives_each, gives_when, gives_unless, gives_bind_last}
-use Rattle.fr_base.proofs.SoundTrials.{trial-leaves}
+use Rattle.fr_base.proofs.SoundTrials.{trial-leaves, proposal-leaves}
 
 module _ (b : Book) where
   -- a refusal leaves the book
@@ -66,6 +66,7 @@ module _ (b : Book) where
   delivered-unchanged p d (purpose.Import label) = import-unchanged p d label (get b.imports (d.supplier, label))
   delivered-unchanged p d (purpose.Replacement whole) = replace-unchanged p d whole
   delivered-unchanged p d (purpose.Trial how) = gives_bind_last Unchanged (λ (o : Outcome). o.book ≡ b) _ (trial-leaves (λ e. e ≡ b) b refl p d how) (λ o still refused. still)
+  delivered-unchanged p d (purpose.Proposal replace) = gives_bind_last Unchanged (λ (o : Outcome). o.book ≡ b) _ (proposal-leaves (λ e. e ≡ b) b refl p d replace) (λ o still refused. still)
 
   act-unchanged : (c : Cluster) (actor : Actor) (what : Checked) → IfOk (act c b actor what) Unchanged
   unfolding act

@@ -48,7 +48,7 @@ use Rattle.fr_base.proofs.SoundTables.{same_some}
 use Rattle.fr_base.proofs.SoundRefusing.{gives_or, gives_each, gives_then, gives_bind, gives_when, gives_unless}
 use Rattle.fr_base.proofs.SoundImports.{at_line-gives}
 use Rattle.fr_base.proofs.SoundReplacements.{replaced-gives}
-use Rattle.fr_base.proofs.SoundTrials.{trial-leaves}
+use Rattle.fr_base.proofs.SoundTrials.{trial-leaves, proposal-leaves}
 use Rattle.fr_base.proofs.KnownSteps.{run-knows}
 
 -- the variant stands
@@ -197,6 +197,7 @@ module _ (b : Book) (v : Name) (x : Variant) (there : get b.variants v ≡ Some 
   delivered-stays p d (purpose.Import label) = import-stays b v x there frozen p d label (get b.imports (d.supplier, label))
   delivered-stays p d (purpose.Replacement whole) = replace-stays b v x there frozen p d whole
   delivered-stays p d (purpose.Trial how) = trial-leaves (Stays v x) b there p d how
+  delivered-stays p d (purpose.Proposal replace) = proposal-leaves (Stays v x) b there p d replace
 
   act-stays : (c : Cluster) (actor : Actor) (what : Checked) → IfOk (act c b actor what) (λ o. Stays v x o.book)
   unfolding act

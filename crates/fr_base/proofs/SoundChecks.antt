@@ -25,7 +25,7 @@ use Rattle.fr_base.specs.declared.request.FrameChange.TheVariants.{Add, Drop, Pl
 use Rattle.fr_base.specs.declared.delivery.Delivery.{Delivery}
 use Rattle.fr_base.specs.declared.request.Checked.{Checked}
 use Rattle.fr_base.specs.declared.request.Checked.TheVariants as checked
-use Rattle.fr_base.specs.declared.delivery.Purpose.TheVariants.{Import, Replacement, Trial}
+use Rattle.fr_base.specs.declared.delivery.Purpose.TheVariants.{Import, Replacement, Trial, Proposal}
 use Rattle.fr_base.specs.declared.delivery.Purpose.{Purpose}
 use Rattle.fr_base.proofs.SoundRefusing.{gives_or, gives_bind, gives_each, gives_when, gives_unless}
 
@@ -83,6 +83,7 @@ unfolding purpose
 purpose-form (Import label) = gives_bind _ _ (name label) _ (name-form label) (λ l labelled. labelled)
 purpose-form (Replacement whole) = tt
 purpose-form (Trial how) = tt
+purpose-form (Proposal replace) = tt
 
 key-form : (text : List ℕ) → IfOk (key text) (λ k. IsTrue (is_key k))
 unfolding key

@@ -21,7 +21,7 @@ use Rattle.fr_base.proofs.SoundChecks.{IsFormedDelivery, IsFormedPurpose, IsForm
 use Rattle.fr_base.proofs.SoundCommands.{perform-sound}
 use Rattle.fr_base.proofs.SoundImports.{import-sound}
 use Rattle.fr_base.proofs.SoundReplacements.{replace-sound}
-use Rattle.fr_base.proofs.SoundTrials.{trial-leaves}
+use Rattle.fr_base.proofs.SoundTrials.{trial-leaves, proposal-leaves}
 
 module _ (c : Cluster) (b : Book) (sound : IsSound c b) where
   delivered-sound : (actor : Actor) → IsTrue (knows b actor) → (d : Delivery) → IsFormedDelivery actor d → (how : Purpose Name) → IsFormedPurpose how → IfOk (deliver c.params b d how) (λ o. IsSound c o.book)
@@ -30,6 +30,7 @@ module _ (c : Cluster) (b : Book) (sound : IsSound c b) where
       import-sound c b sound d label labelled (subst (λ a. IsTrue (knows b a)) h.asks known) (get b.imports (d.supplier, label))
   delivered-sound actor known d h (purpose.Replacement whole) formed = replace-sound c b sound d whole
   delivered-sound actor known d h (purpose.Trial how) formed = trial-leaves (IsSound c) b sound c.params d how
+  delivered-sound actor known d h (purpose.Proposal replace) formed = proposal-leaves (IsSound c) b sound c.params d replace
 
   act-sound : (actor : Actor) → IsTrue (knows b actor) → (what : Checked) → IsFormed c.params actor what → IfOk (act c b actor what) (λ o. IsSound c o.book)
   unfolding act

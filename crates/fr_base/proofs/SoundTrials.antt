@@ -1,8 +1,8 @@
--- A trial leaves the book.
-use Rattle.std.proofs.Common.{IfOk}
+-- A trial leaves the book, and so does a proposal.
+use Rattle.std.proofs.Common.{Bool, IfOk}
 use Rattle.fr_base.specs.Tables.{get}
 use Rattle.fr_base.specs.Book.{Book}
-use Rattle.fr_base.specs.Step.{try}
+use Rattle.fr_base.specs.Step.{try, propose}
 use Rattle.fr_base.specs.declared.params.Params.{Params}
 use Rattle.fr_base.specs.declared.delivery.Delivery.{Delivery}
 use Rattle.fr_base.specs.declared.delivery.Manner.{Manner}
@@ -14,5 +14,12 @@ module _ (P : Book → Type 0) (b : Book) (holds : P b) where
   unfolding try
   trial-leaves p t how =
       gives_or _ (get b.variants t.variant) _ _ (λ x _.
+      gives_when _ _ _ _ (λ _.
+      gives_when _ _ _ _ (λ _. holds)))
+
+  pub proposal-leaves : (p : Params) (d : Delivery) (replace : Bool) → IfOk (propose p b d replace) (λ o. P o.book)
+  unfolding propose
+  proposal-leaves p d replace =
+      gives_or _ (get b.variants d.variant) _ _ (λ x _.
       gives_when _ _ _ _ (λ _.
       gives_when _ _ _ _ (λ _. holds)))

@@ -25,7 +25,7 @@ use Rattle.fr_base.specs.declared.request.Command.TheVariants.{Common, AddSuppli
 use Rattle.fr_base.specs.declared.beginning.Beginning.{Beginning}
 use Rattle.fr_base.specs.declared.beginning.Beginning.TheVariants.{Empty, From, Flat}
 use Rattle.fr_base.specs.declared.delivery.Purpose.{Purpose}
-use Rattle.fr_base.specs.declared.delivery.Purpose.TheVariants.{Import, Replacement, Trial}
+use Rattle.fr_base.specs.declared.delivery.Purpose.TheVariants.{Import, Replacement, Trial, Proposal}
 use Rattle.fr_base.specs.declared.request.CommonCommand.TheVariants.{OpenVariant, Release}
 use Rattle.fr_base.specs.declared.request.Change.TheVariants.{Grant, Revoke, Frame}
 use Rattle.fr_base.specs.declared.request.FrameChange.TheVariants.{Add, Drop, Place, Unplace, AddSignal, DropSignal}
@@ -109,6 +109,7 @@ purpose (Import label) = do
   Ok (Import l)
 purpose (Replacement whole) = Ok (Replacement whole)
 purpose (Trial manner) = Ok (Trial manner)
+purpose (Proposal replace) = Ok (Proposal replace)
 
 -- a query whose names are checked
 unfoldable pub query : Query (List ℕ) ℕ → Result (Query Name ℕ) Refusal

@@ -79,6 +79,7 @@ commands =
     ∷ command (codes "import") (text (codes "variant") ∷ text (codes "label") ∷ text (codes "body") ∷ [])
     ∷ command (codes "replace") (text (codes "variant") ∷ text (codes "body") ∷ flag (codes "whole") ∷ [])
     ∷ command (codes "try") (text (codes "variant") ∷ text (codes "body") ∷ flag (codes "replace") ∷ flag_with (codes "whole") (codes "replace") ∷ [])
+    ∷ command (codes "propose") (text (codes "variant") ∷ text (codes "body") ∷ flag (codes "replace") ∷ [])
     ∷ []
 
 -- ---- requests that change nothing

@@ -20,6 +20,7 @@ pub mod Changes
 pub mod Forms
 pub mod Checks
 pub mod ImportRows
+pub mod Wishes
 pub mod Cells
 pub mod Schedule
 pub mod Moments
@@ -32,6 +33,13 @@ pub mod Merging
 pub mod Differences
 pub mod Queries
 pub mod QueryNames
+pub mod OwnRows
+pub mod Fittest
+pub mod Turns
+pub mod RefusedWishes
+pub mod KeptPlaces
+pub mod Lacks
+pub mod Proposals
 pub mod Step
 pub mod Fates
 pub mod Actors

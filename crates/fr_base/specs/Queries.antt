@@ -53,7 +53,7 @@ use Rattle.fr_base.specs.declared.query.Inventory.TheVariants.{Cluster as TheClu
 use Rattle.fr_base.specs.declared.report.Report.{Report}
 use Rattle.fr_base.specs.declared.report.Report.TheVariants.{Grants, Frames, Schedule, Gaps, Layout, Load, Rows, Room, Export}
 
--- what is asked, if it has these rows for an answer; those of a trial answer no query
+-- what is asked, if it has these rows for an answer; those of a trial or a proposal answer no query
 abbrev pub question_of : ReportRows → Option Question
 question_of (rows.Cluster _) = Some (OfRegister TheCluster)
 question_of (rows.Variants _) = Some (OfRegister Variants)
@@ -71,10 +71,16 @@ question_of (rows.PlacementRecords _) = Some (of_variant (Export header.Placemen
 question_of (rows.SignalRecords _) = Some (of_variant (Export header.Signals field.Part))
 question_of (rows.Difference _) = Some (Difference field.Variant field.From)
 question_of (rows.Fates _) = None
+question_of (rows.Proposal _ _) = None
+
+-- the word of a file that is answered by rows: that of a proposal, else of a trial
+abbrev pub word_of_file : ReportRows → List ℕ
+word_of_file (rows.Proposal _ _) = codes "propose"
+word_of_file _ = codes "try"
 
 -- the name of the report that has these rows: the word by which it is asked for
 abbrev pub name_of_rows : ReportRows → List ℕ
-name_of_rows rows = option_map_or word_of_query (question_of rows) (codes "try")
+name_of_rows rows = option_map_or word_of_query (question_of rows) (word_of_file rows)
 
 -- a frame's placements, in order
 abbrev pub placements_in : Frame → List Placement

@@ -3,7 +3,7 @@
 use Rattle.std.specs.Prelude.{ℕ, ◌≡◌, List, codes, Option, Some, option_map, Result, Ok, Err, MatchResult}
 use Rattle.fr_base.specs.Refusing.{◌>>=◌}
 use Rattle.fr_base.specs.declared.delivery.Purpose.{Purpose}
-use Rattle.fr_base.specs.declared.delivery.Purpose.TheVariants.{Import, Replacement, Trial}
+use Rattle.fr_base.specs.declared.delivery.Purpose.TheVariants.{Import, Replacement, Trial, Proposal}
 use Rattle.fr_base.specs.declared.field_name.FieldName.{FieldName}
 use Rattle.fr_base.specs.declared.field_name.FieldName.TheVariants as field
 use Rattle.fr_base.specs.declared.import.Header.TheVariants as header
@@ -86,12 +86,14 @@ unfoldable pub IsPurposeRead : {N A E : Type 0} → (N → Result A E → Type 0
 IsPurposeRead {N} {A} {E} reads (Import label) result = (name : Result A E) × reads label name × (result ≡ (name >>= (λ l. Ok (Import l))))
 IsPurposeRead reads (Replacement whole) result = result ≡ Ok (Replacement whole)
 IsPurposeRead reads (Trial manner) result = result ≡ Ok (Trial manner)
+IsPurposeRead reads (Proposal replace) result = result ≡ Ok (Proposal replace)
 
 -- the purpose with the label of an import changed by the function
 abbrev pub purpose_with : {N A : Type 0} → (N → A) → Purpose N → Purpose A
 purpose_with f (Import label) = Import (f label)
 purpose_with f (Replacement whole) = Replacement whole
 purpose_with f (Trial manner) = Trial manner
+purpose_with f (Proposal replace) = Proposal replace
 
 -- the report whose names and numbers are read by these functions, one after another
 abbrev pub report_in : {N M A E : Type 0} → (N → Result A E) → (M → Result ℕ E) → Report N M → Result (Report A ℕ) E

@@ -1,7 +1,7 @@
 -- Refusals: each refusal's number, name and HTTP status.
 use Rattle.std.specs.Prelude.{ℕ, List, codes}
 use Rattle.fr_base.specs.declared.refusal.Refusal.{Refusal}
-use Rattle.fr_base.specs.declared.refusal.Refusal.TheVariants.{BadText, UnknownKey, NotYours, BadName, BadCycles, BadSlot, BadChannel, BadSignal, LabelUsed, NoVariant, Released, NotReleased, TooDeep, NoSupplier, NoNode, NoFrame, NoSignal, NoPlacement, Exists, NodeDiffers, NotGranted, InUse, Limit, Taken, CellTaken, OutOfPayload, BitTaken, Unavailable, BadKey, KeyTaken}
+use Rattle.fr_base.specs.declared.refusal.Refusal.TheVariants.{BadText, UnknownKey, NotYours, BadName, BadCycles, BadSlot, BadChannel, BadSignal, LabelUsed, NoVariant, Released, NotReleased, TooDeep, NoSupplier, NoNode, NoFrame, NoSignal, NoPlacement, Exists, NodeDiffers, NotGranted, InUse, Limit, Taken, CellTaken, OutOfPayload, BitTaken, Unavailable, BadKey, KeyTaken, NoRoom}
 
 -- the table of refusals: the number, the name, and the reply's HTTP status; an import's refused row is number 29, BadRow, 422
 abbrev pub row_of : Refusal → ℕ × List ℕ × ℕ
@@ -35,6 +35,7 @@ row_of (BitTaken bit signal) = (27, codes "BitTaken", 409)
 row_of Unavailable = (28, codes "Unavailable", 503)
 row_of BadKey = (30, codes "BadKey", 422)
 row_of KeyTaken = (31, codes "KeyTaken", 409)
+row_of NoRoom = (32, codes "NoRoom", 409)
 
 -- the refusal's number
 abbrev pub number_of : Refusal → ℕ

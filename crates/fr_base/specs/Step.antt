@@ -6,7 +6,7 @@
 -- is kept, or the first refused row is told and nothing is changed. An import whose label is kept has its answer again,
 -- or is `LabelUsed`. A replacement's rows act so where the frames that they name have lost what the file brings anew; where
 -- it is whole, all the supplier's frames have. A refusal leaves the book as it was. A trial tells what would become of each
--- row of a file, and changes nothing.
+-- row of a file, and changes nothing. A proposal tells a placement for each wish of a file, and changes nothing.
 use Rattle.std.specs.Prelude.{ℕ, suc, ◌==◌, Bool, true, false, not, ◌&&◌, if◌then◌else◌, List, [], ◌∷◌, length, map, nat_le, nat_lt, Option, Some, None, is_some, Result, Ok, Err, ⊤}
 use Rattle.std.specs.List.{list_any}
 use Rattle.std.specs.Option.{option_and_then}
@@ -21,6 +21,10 @@ use Rattle.fr_base.specs.Cluster.{Cluster, keys_of}
 use Rattle.fr_base.specs.Layouts.{LayoutData, has_signal, with_signal, without_signal, admits_signal}
 use Rattle.fr_base.specs.ImportRows.{header_of_body, rows_of_body, all_rows_of_body}
 use Rattle.fr_base.specs.Queries.{reply}
+pub use Rattle.fr_base.specs.OwnRows.{OwnRows}
+unfoldable pub use Rattle.fr_base.specs.OwnRows.{own_rows}
+use Rattle.fr_base.specs.Wishes.{wishes_of_body}
+use Rattle.fr_base.specs.Proposals.{proposal}
 use Rattle.fr_base.specs.Names.{same_text}
 use Rattle.fr_base.specs.Book.{Holder, Frame, Variant, Kept, Book, Sender, file_of, empty_variant, held_by_node, own, own_grants, granted, placements_of, schedule_of}
 use Rattle.fr_base.specs.declared.limits.TheConstants.{MAX_SUPPLIERS, MAX_NODES, MAX_VARIANTS, MAX_DEPTH, MAX_FRAMES, MAX_PLACEMENTS, MAX_IMPORTS, MAX_IMPORT_BYTES}
@@ -123,18 +127,6 @@ add_node b s n = do
   Ok (record b { nodes = insert b.nodes (s, n) tt })
 
 -- ---- changes of one supplier's rows in a variant: what refuses them
-
--- what a change of a supplier's rows is judged by: the cluster's parameters, its nodes, and its grants and frames in the variant
-pub record OwnRows : Type 0 where
-  pub params : Params
-  pub supplier : Name
-  pub nodes : Table owned ⊤
-  pub grants : Table channel_slots Holder
-  pub frames : Table owned Frame
-
-unfoldable pub own_rows : Params → Book → Name → Variant → OwnRows
-own_rows p b s variant =
-    record { params = p; supplier = s; nodes = own s b.nodes; grants = own_grants s variant.grants; frames = own s variant.frames }
 
 -- what the suppliers share in a variant: which slots and channels are held, and who sends in which cell
 pub record Shared : Type 0 where
@@ -446,6 +438,19 @@ try p b d how = do
         (fates_of p how (tried how b d.supplier d.variant variant (header_of_body d.body) (rows_of_body p d.body)) d.supplier d.variant (all_rows_of_body p d.body)));
   })
 
+-- ---- a proposal
+
+-- A proposal: its variant is there and open, and its bytes are within the limit. What is proposed is told, and the book stays.
+unfoldable pub propose : Params → Book → Delivery → Bool → Result Outcome Refusal
+propose p b d replace = do
+  variant ← get b.variants d.variant or NoVariant
+  refuse Released when variant.released
+  refuse Limit when nat_lt MAX_IMPORT_BYTES (length d.body)
+  Ok (record {
+    book = b;
+    answer = answer.Report false (shows.Proposal replace (proposal (own_rows p b d.supplier variant) replace (wishes_of_body p d.body)));
+  })
+
 -- ---- the step
 
 -- what was done, unless it was refused
@@ -467,6 +472,7 @@ unfoldable pub deliver : Params → Book → Delivery → Purpose Name → Resul
 deliver p b d (purpose.Import label) = import p b d label (get b.imports (d.supplier, label))
 deliver p b d (purpose.Replacement whole) = replace p b d whole
 deliver p b d (purpose.Trial how) = try p b d how
+deliver p b d (purpose.Proposal replace) = propose p b d replace
 
 -- what a request with checked values does
 unfoldable pub act : Cluster → Book → Actor → Checked → Result Outcome Refusal

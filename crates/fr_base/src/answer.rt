@@ -6,6 +6,7 @@ use crate::channel::{Channel, Channels};
 use crate::forms;
 use crate::name::Name;
 use crate::placement::Placement;
+use crate::proposal::Proposal;
 use crate::refusal::Refusal;
 use crate::rows::Rows;
 use crate::signal::Signal;
@@ -64,6 +65,8 @@ pub enum ReportRows {
     Difference(Rows<DifferenceRow>),
     /// What would become of each row of a file, by its line.
     Fates(Rows<FateRow>),
+    /// What is proposed for a file of wishes, and whether it is to replace what the frames have that they name.
+    Proposal { replaces: bool, proposal: Proposal },
 }
 
 // It is written out, so that a caller does not prove again how each kind of answer is dropped.
@@ -124,6 +127,7 @@ impl ReportRows {
             ReportRows::SignalRecords(_) => forms::EXPORT_SIGNALS,
             ReportRows::Difference(_) => forms::DIFF,
             ReportRows::Fates(_) => forms::TRY,
+            ReportRows::Proposal { .. } => forms::PROPOSE,
         }
     }
 }

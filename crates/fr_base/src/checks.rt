@@ -351,8 +351,8 @@ fn repeats(params: &Params, query: &Query<Name>) -> Result<(), Refusal>
     }
 }
 
-// Whether the repetition divides the count of cycles.
-fn is_repetition(count: u32, repetition: u32) -> bool
+/// Whether the repetition divides the count of cycles.
+pub(crate) fn is_repetition(count: u32, repetition: u32) -> bool
     ensures { result ≡ is_repetition count repetition }
 {
     repetition >= 1 && count % repetition == 0
@@ -483,10 +483,10 @@ fn channel(params: &Params, text: &Text) -> Result<Channel, Refusal>
     }
 }
 
-// The channels that the text writes, if the cluster has them all.
+/// The channels that the text writes, if the cluster has them all.
 #[tactic(auto, unfolding(crate::proofs::ChecksLemmas::checks_open))]
 #[inline(always)]
-fn channels(params: &Params, text: &[u8]) -> Result<Channels, Refusal>
+pub(crate) fn channels(params: &Params, text: &[u8]) -> Result<Channels, Refusal>
     ensures { result ≡ channels params.now text.now }
 {
     match Channels::from_bytes(text) {

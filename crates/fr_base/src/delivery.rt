@@ -1,11 +1,11 @@
-//! Files of rows that suppliers deliver.
+//! Files that suppliers deliver.
 ghost use Rattle.fr_base.specs.QueryNames.{IsPurposeRead};
 
 use crate::body::BodyRef;
 use crate::name::Name;
 use crate::query::QueryReader;
 
-/// A supplier's file of rows, with checked names; what the file says is not yet read.
+/// A supplier's file of rows or wishes, with checked names; what the file says is not yet read.
 #[derive(Drop)]
 pub struct Delivery<'a> {
     pub supplier: Name,
@@ -14,7 +14,7 @@ pub struct Delivery<'a> {
     pub body: BodyRef<'a>,
 }
 
-/// What a file of rows is delivered for, where a label is an `N`.
+/// What a file is delivered for, where a label is an `N`.
 #[derive(Clone, Copy, Debug, Drop, PartialEq, Eq)]
 pub enum Purpose<N> {
     /// An import: the rows act, all of them or none, and the file is kept. The label is the supplier's
@@ -25,6 +25,9 @@ pub enum Purpose<N> {
     Replacement { whole: bool },
     /// A trial: it is told what would become of each row, and nothing is changed.
     Trial { manner: Manner },
+    /// A proposal: for each wish of the file a placement is told, or that there is none, and nothing is
+    /// changed. Where it is to `replace`, the placements of the frames that the file names count as free.
+    Proposal { replace: bool },
 }
 
 impl<N> Purpose<N> {
@@ -43,6 +46,7 @@ impl<N> Purpose<N> {
             }
             Purpose::Replacement { whole } => Ok(Purpose::Replacement { whole: *whole }),
             Purpose::Trial { manner } => Ok(Purpose::Trial { manner: *manner }),
+            Purpose::Proposal { replace } => Ok(Purpose::Proposal { replace: *replace }),
         }
     }
 }

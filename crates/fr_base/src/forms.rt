@@ -151,6 +151,9 @@ pub(crate) const EXPORT_SIGNALS: &str = "export_signals";
 // The word of a trial, by which its answer is named too.
 pub(crate) const TRY: &str = "try";
 
+// The word of a proposal, by which its answer is named too.
+pub(crate) const PROPOSE: &str = "propose";
+
 // The forms of all requests, in the order in which they are listed.
 const TABLE: &[Form] = &[
     form!("open_variant", Text "variant", TextOrNull "from", Flag "flat" with "from"),
@@ -178,6 +181,7 @@ const TABLE: &[Form] = &[
     form!("import", Text "variant", Text "label", Text "body"),
     form!("replace", Text "variant", Text "body", Flag "whole"),
     form!(TRY, Text "variant", Text "body", Flag "replace", Flag "whole" with "replace"),
+    form!(PROPOSE, Text "variant", Text "body", Flag "replace"),
     question!(CLUSTER, Query::Register(Inventory::Cluster)),
     question!(VARIANTS, Query::Register(Inventory::Variants)),
     question!(NODES, Query::Register(Inventory::Nodes)),

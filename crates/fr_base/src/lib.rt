@@ -23,6 +23,7 @@ mod limits;
 mod name;
 mod params;
 mod placement;
+mod proposal;
 mod query;
 mod refusal;
 mod report;
@@ -31,6 +32,7 @@ mod rows;
 mod signal;
 mod slot;
 mod text;
+mod wish;
 
 pub use actor::Actor;
 pub use answer::Answer;
@@ -179,6 +181,11 @@ pub use params::ParamFault;
 pub use params::Params;
 pub use params::RawParams;
 pub use placement::Placement;
+pub use proposal::Given;
+pub use proposal::LackRow;
+pub use proposal::Proposal;
+pub use proposal::ProposalRow;
+pub use proposal::ProposedPlacement;
 pub use query::Inventory;
 pub use query::Query;
 pub use query::QueryReader;
@@ -199,6 +206,9 @@ pub use signal::Order;
 pub use signal::Signal;
 pub use slot::Slot;
 pub use text::Text;
+pub use wish::Asked;
+pub use wish::Wish;
+pub use wish::WishRead;
 
 /// Memory was refused.
 pub type NoMemory = std::alloc::AllocError;

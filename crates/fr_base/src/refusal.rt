@@ -85,13 +85,15 @@ pub enum Refusal {
     BadKey,
     /// The integrator or a supplier has the key. This is checked after `Exists` and before `Limit`.
     KeyTaken,
+    /// No placement is left for a wish. No request is refused so, and no row of another file.
+    NoRoom,
 }
 
 impl Refusal {
     ghost use Rattle.std.specs.Prelude.{◌≡◌};
     ghost use Rattle.fr_base.specs.Refusals.{number_of, name_of, status_of};
 
-    /// The refusal's number, 1 to 28, 30 or 31.
+    /// The refusal's number, 1 to 28, or 30 to 32.
     pub fn number(&self) -> u8
         ensures { result ≡ number_of self.now }
     {
@@ -149,6 +151,7 @@ impl Refusal {
             Refusal::Unavailable => (28, "Unavailable", 503),
             Refusal::BadKey => (30, "BadKey", 422),
             Refusal::KeyTaken => (31, "KeyTaken", 409),
+            Refusal::NoRoom => (32, "NoRoom", 409),
         }
     }
 }

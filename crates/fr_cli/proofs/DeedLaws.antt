@@ -197,6 +197,7 @@ module _ {D R : Type 0} {g : Ghosts D} (desk : Desk.Ghosts R) (held : Image) (re
         → Says (IsNotReported held rest) (IsForReader (IsAnswerOfFile held rest (query_of query))) done → Leading (job.Report db query)
     report db query (Ok text) none shown (a, was, kind, said) = reported db query (Ok text) a shown (a, refl, kind, said) was
     report db query (Err (failure.RefusedRows text)) none shown (a, was, kind, said) = reported db query (Err (failure.RefusedRows text)) a shown (a, refl, kind, said) was
+    report db query (Err (failure.UnplacedWishes file lines)) none shown (a, was, kind, said) = reported db query (Err (failure.UnplacedWishes file lines)) a shown (a, refl, kind, said) was
     report db query (Err (failure.Refused line)) none shown (a, was, kind, said) = reported db query (Err (failure.Refused line)) a shown (a, refl, kind, said) was
     report db query (Err (failure.Fault fault)) none shown may =
         not_reported (job.Report db query) (Asked (query_of query) None) fault none shown (λ lacks. (refl, lacks)) (λ c b. inl (refl, refl)) may
@@ -211,6 +212,7 @@ module _ {D R : Type 0} {g : Ghosts D} (desk : Desk.Ghosts R) (held : Image) (re
         → PrintsRead (IsNotReported held rest) (IsReadOfFile held rest (plans_for (reader_named supplier) variant.now (since_of since))) IsPage done → Leading (job.Picture db variant since supplier)
     picture db variant since supplier (Ok text) none shown (plan, was, page) = drew db variant since supplier (Ok text) (Ok plan) shown (plan, refl, page) was
     picture db variant since supplier (Err (failure.RefusedRows text)) none shown wrong = absurd wrong
+    picture db variant since supplier (Err (failure.UnplacedWishes file lines)) none shown wrong = absurd wrong
     picture db variant since supplier (Err (failure.Refused line)) none shown (refusal, was, said) =
         drew db variant since supplier (Err (failure.Refused line)) (Err refusal) shown (refusal, refl, said) was
     picture db variant since supplier (Err (failure.Fault fault)) none shown may =
@@ -237,6 +239,7 @@ module _ {D R : Type 0} {g : Ghosts D} (desk : Desk.Ghosts R) (held : Image) (re
         → Leading (job.Deliver db delivery)
     deliver db delivery (Ok text) none shown (a, was, kind, said) = delivered db delivery (Ok text) a shown (a, refl, kind, said) was
     deliver db delivery (Err (failure.RefusedRows text)) none shown (a, was, kind, said) = delivered db delivery (Err (failure.RefusedRows text)) a shown (a, refl, kind, said) was
+    deliver db delivery (Err (failure.UnplacedWishes file lines)) none shown (a, was, kind, said) = delivered db delivery (Err (failure.UnplacedWishes file lines)) a shown (a, refl, kind, said) was
     deliver db delivery (Err (failure.Refused line)) none shown (a, was, kind, said) = delivered db delivery (Err (failure.Refused line)) a shown (a, refl, kind, said) was
     deliver db delivery (Err (failure.Fault fault)) none shown may = not_delivered db delivery fault none shown may
 

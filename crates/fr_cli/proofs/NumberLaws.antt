@@ -11,7 +11,7 @@ use Rattle.clap.specs.declared.parser.matches.Found.{Found}
 use Rattle.fr_cli.specs.Reports.{asked_with}
 use Rattle.fr_cli.specs.Words.{HasNumber, IsJobIn, IsJobOf, IsNumberIn, word_of_delivery}
 use Rattle.fr_base.specs.declared.delivery.Purpose.{Purpose}
-use Rattle.fr_base.specs.declared.delivery.Purpose.TheVariants.{Import as ByLabel, Replacement, Trial}
+use Rattle.fr_base.specs.declared.delivery.Purpose.TheVariants.{Import as ByLabel, Replacement, Trial, Proposal}
 use Rattle.fr_cli.specs.declared.words.Job.{Job}
 use Rattle.fr_cli.specs.declared.words.Job.TheVariants.{Run, Create, Migrate, Serve, Ask, Report as ReportOn, Picture, Deliver, Check, Explain}
 
@@ -75,6 +75,7 @@ numbers_of rows (Deliver db delivery) is = delivered delivery.how is.0
     delivered (ByLabel label) same = apart _ _ refl same
     delivered (Replacement whole) same = apart _ _ refl same
     delivered (Trial manner) same = apart _ _ refl same
+    delivered (Proposal replace) same = apart _ _ refl same
 numbers_of rows (Check file) is = apart _ _ refl is.0
 numbers_of rows (Explain word) is = apart _ _ refl is.0
 

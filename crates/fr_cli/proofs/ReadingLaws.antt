@@ -42,6 +42,7 @@ module _ {X : Type 0} where
   pub refused_reading : (Is : Result X Refusal → Type 0) (IsText : X → List ℕ → Type 0) (refusal : Refusal) (f : Failure) → Is (Err refusal)
       → IsRefusedBy (for_reader (answer.Refused refusal)) f → PrintsRead (λ fault. fault ≡ NoMemory) Is IsText (Err f)
   refused_reading Is IsText refusal (failure.RefusedRows text) is by = by
+  refused_reading Is IsText refusal (failure.UnplacedWishes file lines) is by = by
   refused_reading Is IsText refusal (failure.Refused line) is by = (refusal, is, by)
   refused_reading Is IsText refusal (failure.Fault fault) is by = by
 
@@ -50,6 +51,7 @@ module _ {X : Type 0} where
       → May NoMemory → PrintsRead (λ fault. fault ≡ NoMemory) Was IsText done → PrintsRead May Is IsText done
   reading_says May Is Was IsText (Ok text) follows may p = (p.0, follows (Ok p.0) p.1, p.2)
   reading_says May Is Was IsText (Err (failure.RefusedRows text)) follows may p = p
+  reading_says May Is Was IsText (Err (failure.UnplacedWishes file lines)) follows may p = p
   reading_says May Is Was IsText (Err (failure.Refused line)) follows may p = (p.0, follows (Err p.0) p.1, p.2)
   reading_says May Is Was IsText (Err (failure.Fault fault)) follows may p = subst May (sym p) may
 

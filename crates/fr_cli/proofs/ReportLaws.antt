@@ -10,18 +10,19 @@ use Rattle.fr_cli.specs.Reports.{argument_name, asked_with}
 use Rattle.fr_cli.specs.Words.{HasPurpose, IsAnswerable, IsDeliveryIn, IsJobIn, IsJobOf, IsNumberAt, IsWordAt, asked_by, manner_in, word_of_delivery}
 use Rattle.fr_cli.specs.declared.words.delivery.Delivery.{Delivery}
 use Rattle.fr_base.specs.declared.delivery.Purpose.{Purpose}
-use Rattle.fr_base.specs.declared.delivery.Purpose.TheVariants.{Import as ByLabel, Replacement, Trial}
+use Rattle.fr_base.specs.declared.delivery.Purpose.TheVariants.{Import as ByLabel, Replacement, Trial, Proposal}
 use Rattle.fr_cli.specs.declared.words.Job.{Job}
 use Rattle.fr_cli.specs.declared.words.Job.TheVariants.{Run, Create, Migrate, Serve, Ask, Report as ReportOn, Picture, Deliver, Check, Explain}
 
 -- whether a file is delivered by the subcommand of this name
 abbrev is_delivery : Text → Bool
-is_delivery name = bytes_eq name (codes "import") || (bytes_eq name (codes "replace") || bytes_eq name (codes "try"))
+is_delivery name = bytes_eq name (codes "import") || (bytes_eq name (codes "replace") || (bytes_eq name (codes "try") || bytes_eq name (codes "propose")))
 
 delivers : (how : Purpose (Bor (List ℕ))) → is_delivery (word_of_delivery how) ≡ true
 delivers (ByLabel label) = refl
 delivers (Replacement whole) = refl
 delivers (Trial manner) = refl
+delivers (Proposal replace) = refl
 
 no_delivery : {X : Type 0} (how : Purpose (Bor (List ℕ))) (name : Text) → is_delivery name ≡ false → word_of_delivery how ≡ name → X
 no_delivery how name other is = let no : true ≡ false = sym (delivers how) ∙ (ap is_delivery is ∙ other) in cc
@@ -32,6 +33,7 @@ unfolding asked_with
 no_question (ByLabel label) rows = refl
 no_question (Replacement whole) rows = refl
 no_question (Trial manner) rows = refl
+no_question (Proposal replace) rows = refl
 
 -- where no delivery by a subcommand is of these words, it has no job
 pub undelivered : (how : Purpose (Bor (List ℕ))) (rows : List Row) (job : Option Job) → job ≡ None
@@ -59,6 +61,7 @@ untried rows none delivery named is = go delivery.how named is.2
     go : (how : Purpose (Bor (List ℕ))) → codes "try" ≡ word_of_delivery how → HasPurpose how rows → ⊥
     go (ByLabel label) named has = cc
     go (Replacement whole) named has = cc
+    go (Proposal replace) named has = cc
     go (Trial manner) named has = let no : None ≡ Some manner = sym none ∙ has in cc
 
 -- where a word is wanting, none is there

@@ -46,12 +46,14 @@ use Rattle.fr_cli.specs.declared.streams.outcome.Outcome.TheVariants as outcome
 pub told_prints : (Is : Answer → Type 0) (answer : Answer) (done : Result (Vec ℕ) Failure) → Is answer → IsToldBy answer done → Prints Is done
 told_prints Is answer (Ok text) is (a, same, kind, said) = (a, subst Is (sym same) is, kind, said)
 told_prints Is answer (Err (failure.RefusedRows text)) is (a, same, kind, said) = (a, subst Is (sym same) is, kind, said)
+told_prints Is answer (Err (failure.UnplacedWishes file lines)) is (a, same, kind, said) = (a, subst Is (sym same) is, kind, said)
 told_prints Is answer (Err (failure.Refused line)) is (a, same, kind, said) = (a, subst Is (sym same) is, kind, said)
 told_prints Is answer (Err (failure.Fault fault)) is told = told
 
 -- what refuses by an answer is told by it
 pub refused_told : (answer : Answer) (f : Failure) → outcome_of answer ≡ outcome.Refused → IsRefusedBy answer f → IsToldBy answer (Err f)
 refused_told answer (failure.RefusedRows text) refused by = absurd by
+refused_told answer (failure.UnplacedWishes file lines) refused by = absurd by
 refused_told answer (failure.Refused line) refused by = (answer, refl, refused, by)
 refused_told answer (failure.Fault fault) refused by = by
 
@@ -60,6 +62,7 @@ pub prints_says : (May : Fault → Type 0) (Is Was : Answer → Type 0) (done : 
     → May NoMemory → Prints Was done → Says May Is done
 prints_says May Is Was (Ok text) follows may p = (p.0, follows p.0 p.1, p.2, p.3)
 prints_says May Is Was (Err (failure.RefusedRows text)) follows may p = (p.0, follows p.0 p.1, p.2, p.3)
+prints_says May Is Was (Err (failure.UnplacedWishes file lines)) follows may p = (p.0, follows p.0 p.1, p.2, p.3)
 prints_says May Is Was (Err (failure.Refused line)) follows may p = (p.0, follows p.0 p.1, p.2, p.3)
 prints_says May Is Was (Err (failure.Fault fault)) follows may p = subst May (sym p) may
 
@@ -78,6 +81,7 @@ pub says_more : (May Might : Fault → Type 0) (Was Is : Answer → Type 0) (don
     → ((answer : Answer) → Was answer → Is answer) → Says May Was done → Says Might Is done
 says_more May Might Was Is (Ok text) might follows (answer, is, kind, said) = (answer, follows answer is, kind, said)
 says_more May Might Was Is (Err (failure.RefusedRows text)) might follows (answer, is, kind, said) = (answer, follows answer is, kind, said)
+says_more May Might Was Is (Err (failure.UnplacedWishes file lines)) might follows (answer, is, kind, said) = (answer, follows answer is, kind, said)
 says_more May Might Was Is (Err (failure.Refused line)) might follows (answer, is, kind, said) = (answer, follows answer is, kind, said)
 says_more May Might Was Is (Err (failure.Fault fault)) might follows may = might fault may
 

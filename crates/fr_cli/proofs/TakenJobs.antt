@@ -16,7 +16,7 @@ use Rattle.fr_cli.specs.Commands.{report, slotplan}
 use Rattle.fr_cli.specs.Reports.{argument_name, asked_with, reports}
 use Rattle.fr_cli.specs.Words.{AreTaken, AskForNone, HasPurpose, HasNoObject, HasNumber, IsAnswerable, IsFoundWithoutObject, IsJobFound, IsJobIn, IsJobOf, IsNumberAt, IsWordAt, LackAnObject, asked_by, header_in, is_given, manner_in, max_number, records, word_of_delivery}
 use Rattle.fr_base.specs.declared.delivery.Purpose.{Purpose}
-use Rattle.fr_base.specs.declared.delivery.Purpose.TheVariants.{Import as ByLabel, Replacement, Trial}
+use Rattle.fr_base.specs.declared.delivery.Purpose.TheVariants.{Import as ByLabel, Replacement, Trial, Proposal}
 use Rattle.fr_cli.specs.declared.words.delivery.Delivery.{Delivery}
 use Rattle.fr_cli.specs.declared.words.inquiry.Inquiry.{Inquiry}
 use Rattle.fr_cli.specs.declared.words.Job.{Job}
@@ -172,6 +172,12 @@ replace_job : (s : Shape) → s.args_override_self ≡ false → s.name ≡ code
 replace_job s once named db key variant file rest fine =
     deliver_job s once rest fine (Replacement (is_given (codes "whole") (rows_after s.rules [] rest))) named refl db key variant file
 
+propose_job : (s : Shape) → s.args_override_self ≡ false → s.name ≡ codes "propose" → has_word s.rules (codes "DB") ≡ true
+    → has_word s.rules (codes "KEY") ≡ true
+    → has_word s.rules (codes "VARIANT") ≡ true → has_word s.rules (codes "FILE") ≡ true → AlwaysHasJob s
+propose_job s once named db key variant file rest fine =
+    deliver_job s once rest fine (Proposal (is_given (codes "replace") (rows_after s.rules [] rest))) named refl db key variant file
+
 explain_job : (s : Shape) → s.name ≡ codes "explain" → AlwaysHasJob s
 explain_job s named rest fine =
     let word = first_of (codes "WORD") (rows_after s.rules [] rest) in
@@ -246,6 +252,7 @@ all_ask =
     and asks _ (import_job _ refl refl refl refl refl refl refl)
     and asks _ (replace_job _ refl refl refl refl refl refl)
     and inr (try_job _ refl refl refl refl refl refl)
+    and asks _ (propose_job _ refl refl refl refl refl refl)
     and inr (check_job _ refl)
     and asks _ (explain_job _ refl)
     and inl refl

@@ -29,6 +29,7 @@ use Rattle.fr_cli.specs.declared.words.check_subject.CheckSubject.TheVariants as
 abbrev pub IsChecked : List ℕ → Result (Vec ℕ) Failure → Type 0
 IsChecked bytes (Ok text) = (f : ClusterFile) × (config_of bytes ≡ Ok f)
 IsChecked bytes (Err (failure.RefusedRows text)) = ⊥
+IsChecked bytes (Err (failure.UnplacedWishes file lines)) = ⊥
 IsChecked bytes (Err (failure.Refused line)) = (fault : ConfigFault) × (place : List ℕ) × (config_of bytes ≡ Err fault)
     × (line.items ≡ word_line (config_fault_word fault ++ codes ": " ++ place))
 IsChecked bytes (Err (failure.Fault fault)) = fault ≡ NoMemory
@@ -53,6 +54,7 @@ fine_rows told = fine_line (codes "rows") (length told - 1) ++ untold_line
 abbrev pub AreChecked : (List LineFaults → Type 0) → (List LineFaults → List ℕ) → Result (Vec ℕ) Failure → Type 0
 AreChecked AreTold print (Ok text) = (told : List LineFaults) × AreTold told × (all_fine told ≡ true) × (text.items ≡ print told)
 AreChecked AreTold print (Err (failure.RefusedRows text)) = ⊥
+AreChecked AreTold print (Err (failure.UnplacedWishes file lines)) = ⊥
 AreChecked AreTold print (Err (failure.Refused line)) = (told : List LineFaults) × AreTold told × (all_fine told ≡ false) × (line.items ≡ all_lines told)
 AreChecked AreTold print (Err (failure.Fault fault)) = fault ≡ NoMemory
 
@@ -64,6 +66,7 @@ fault_lines_of faults = flat_map (λ fault. word_line (string_bytes fault)) faul
 abbrev pub IsCheckedPath : List ℕ → Result (Vec ℕ) Failure → Type 0
 IsCheckedPath path (Ok text) = (is_fine_path path ≡ true) × (text.items ≡ codes "path: no fault\n")
 IsCheckedPath path (Err (failure.RefusedRows text)) = ⊥
+IsCheckedPath path (Err (failure.UnplacedWishes file lines)) = ⊥
 IsCheckedPath path (Err (failure.Refused line)) = (is_fine_path path ≡ false) × (faults : List (String Global)) × (are_none faults ≡ false)
     × (line.items ≡ fault_lines_of faults)
 IsCheckedPath path (Err (failure.Fault fault)) = fault ≡ NoMemory
@@ -97,6 +100,7 @@ hindrance_lines_of found = flat_map (λ hindrance. word_line (text_of_hindrance 
 abbrev pub IsCheckedRegister : (List Hindrance → Type 0) → Result (Vec ℕ) Failure → Type 0
 IsCheckedRegister WereFound (Ok text) = (found : List Hindrance) × WereFound found × (are_none found ≡ true) × (text.items ≡ hindrance_lines_of found)
 IsCheckedRegister WereFound (Err (failure.RefusedRows text)) = ⊥
+IsCheckedRegister WereFound (Err (failure.UnplacedWishes file lines)) = ⊥
 IsCheckedRegister WereFound (Err (failure.Refused line)) = (found : List Hindrance) × WereFound found × (are_none found ≡ false) × (line.items ≡ hindrance_lines_of found)
 IsCheckedRegister WereFound (Err (failure.Fault fault)) = fault ≡ NoMemory
 

@@ -48,7 +48,7 @@ memory = record (new_rule (codes "memory")) {
   long = Some (codes "memory");
   action = Some Set;
   value_names = 1;
-  defaults = codes "128" ∷ [];
+  defaults = codes "512" ∷ [];
   parser = Some (Signed (pos 1) (pos 1000000));
 }
 
@@ -144,6 +144,10 @@ abbrev pub try_words : App
 try_words = with_rule (with_rule (with_rule (with_rule (with_rule (with_rule (new_app (codes "try")) (word (codes "DB"))) (word (codes "KEY")))
     (word (codes "VARIANT"))) (word (codes "FILE"))) (flag (codes "replace"))) (flag (codes "whole"))
 
+abbrev pub propose_words : App
+propose_words = with_rule (with_rule (with_rule (with_rule (with_rule (new_app (codes "propose")) (word (codes "DB"))) (word (codes "KEY")))
+    (word (codes "VARIANT"))) (word (codes "FILE"))) (flag (codes "replace"))
+
 -- `check`, with the texts that it may take
 abbrev pub check_texts : App
 check_texts = with_rule (with_rule (with_rule (with_rule (new_app (codes "check")) (free_word (codes "CONFIG"))) (named (codes "requests")))
@@ -172,10 +176,10 @@ with_reports program = fold with_report program reports
 
 -- the program, with one subcommand for each job
 abbrev pub slotplan : App
-slotplan = with_subcommand (with_subcommand (with_subcommand (with_subcommand (with_subcommand (with_subcommand (with_subcommand
+slotplan = with_subcommand (with_subcommand (with_subcommand (with_subcommand (with_subcommand (with_subcommand (with_subcommand (with_subcommand
     (with_reports (with_subcommand (with_subcommand (with_subcommand (with_subcommand (with_subcommand (unasked (codes "slotplan"))
     run.top) create.top) migrate.top) serve.top) ask.top))
-    export.top) picture.top) import_words.top) replace_words.top) try_words.top) check.top) explain.top
+    export.top) picture.top) import_words.top) replace_words.top) try_words.top) propose_words.top) check.top) explain.top
 
 -- The command is read so, and has no argument that its subcommands have too.
 abbrev pub IsReadAs : App → Command → Type 0

@@ -1,4 +1,4 @@
--- Delivery: a file of rows that a supplier delivers, and the request for it: an import, a replacement, or a trial.
+-- Delivery: a file that a supplier delivers, and the request for it: an import, a replacement, a trial, or a proposal.
 use Rattle.std.specs.Prelude.{ℕ, List}
 use Rattle.fr_base.specs.QueryNames.{purpose_with}
 use Rattle.fr_base.specs.declared.request.Request.{Request}

@@ -41,11 +41,14 @@ abbrev pub IsPrinted : {O E : Type 0} {printed : SinkGhosts O} {told : SinkGhost
 IsPrinted {told = told} out err text status = (done : Result ⊤ WriteFailed) × IsPut out text done
     × MatchResult done (λ _. (status ≡ 0) × (err.new ≡ err.old)) (λ _. (status ≡ 1) × NamesFault told (fault_word fault.WriteFailed) err.old err.new)
 
--- What a job gives is printed. So is what it tells of rows that would be refused, and the status is 1. Of another that is not done its
+-- What a job gives is printed. So is what it tells of rows that would be refused, and the status is 1. Of wishes without a placement it is said
+-- which these are, the file of the others is printed, and the status is 1. Of another that is not done its
 -- refusal's line is said, or its fault's, as far as no write failed.
 abbrev pub IsTold : {O E : Type 0} {printed : SinkGhosts O} {told : SinkGhosts E} → Outlet printed → Outlet told → Result (Vec ℕ) Failure → ℕ → Type 0
 IsTold out err (Ok text) status = IsPrinted out err text.items status
 IsTold out err (Err (failure.RefusedRows text)) status = (status ≡ 1) × ((printed : ℕ) × IsPrinted out err text.items printed)
+IsTold {E = E} {told = told} out err (Err (failure.UnplacedWishes file lines)) status = (status ≡ 1) × ((said : E) × (printed : ℕ) × IsSaid {g = told} (outlet told err.old said) lines.items
+    × IsPrinted out (outlet told said err.new) file.items printed)
 IsTold out err (Err (failure.Refused line)) status = (status ≡ 1) × (out.new ≡ out.old) × IsSaid err line.items
 IsTold {told = told} out err (Err (failure.Fault why)) status = (status ≡ 1) × (out.new ≡ out.old) × NamesFault told (fault_word why) err.old err.new
 

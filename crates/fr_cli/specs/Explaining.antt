@@ -23,9 +23,11 @@ IsUnknown word text = (alike : List ℕ) × ListsAlike word alike
 abbrev pub IsExplained : Option (Bor (List ℕ)) → Result (Vec ℕ) Failure → Type 0
 IsExplained None (Ok text) = ListsAll text.items
 IsExplained None (Err (failure.RefusedRows text)) = ⊥
+IsExplained None (Err (failure.UnplacedWishes file lines)) = ⊥
 IsExplained None (Err (failure.Refused line)) = ⊥
 IsExplained None (Err (failure.Fault fault)) = fault ≡ NoMemory
 IsExplained (Some word) (Ok text) = Explains (meant_word word.now) (Some text)
 IsExplained (Some word) (Err (failure.RefusedRows text)) = ⊥
+IsExplained (Some word) (Err (failure.UnplacedWishes file lines)) = ⊥
 IsExplained (Some word) (Err (failure.Refused line)) = Explains (meant_word word.now) None × IsUnknown word.now line.items
 IsExplained (Some word) (Err (failure.Fault fault)) = fault ≡ NoMemory

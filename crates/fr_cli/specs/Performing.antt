@@ -3,7 +3,7 @@
 use Rattle.std.specs.Prelude.{◌≡◌, ◌++◌, ℕ, List, codes, decimal, Result, Ok, Err, ⊤}
 use Rattle.std.specs.Global.{Vec}
 use Rattle.fr_base.specs.declared.answer.Answer.{Answer}
-use Rattle.fr_cli.specs.Outcomes.{line_of, outcome_of, printed_of}
+use Rattle.fr_cli.specs.Outcomes.{line_of, outcome_of, printed_of, said_of}
 use Rattle.fr_cli.specs.declared.failure.Failure.{Failure}
 use Rattle.fr_cli.specs.declared.failure.Failure.TheVariants as failure
 use Rattle.fr_cli.specs.declared.fault.Fault.{Fault}
@@ -20,6 +20,8 @@ of_script (Err fault) = Err (Script fault)
 abbrev pub Says : (Fault → Type 0) → (Answer → Type 0) → Result (Vec ℕ) Failure → Type 0
 Says May Is (Ok text) = (answer : Answer) × Is answer × (outcome_of answer ≡ outcome.Done) × (text.items ≡ printed_of answer)
 Says May Is (Err (failure.RefusedRows text)) = (answer : Answer) × Is answer × (outcome_of answer ≡ outcome.RefusedRows) × (text.items ≡ printed_of answer)
+Says May Is (Err (failure.UnplacedWishes file lines)) = (answer : Answer) × Is answer × (outcome_of answer ≡ outcome.UnplacedWishes) × (file.items ≡ printed_of answer)
+    × (lines.items ≡ said_of answer)
 Says May Is (Err (failure.Refused line)) = (answer : Answer) × Is answer × (outcome_of answer ≡ outcome.Refused) × (line.items ≡ line_of answer)
 Says May Is (Err (failure.Fault fault)) = May fault
 

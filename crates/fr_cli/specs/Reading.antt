@@ -30,5 +30,6 @@ Stays clean old new = clean → InSound old (λ c b. new c b)
 abbrev pub PrintsRead : {X : Type 0} → (Fault → Type 0) → (Result X Refusal → Type 0) → (X → List ℕ → Type 0) → Result (Vec ℕ) Failure → Type 0
 PrintsRead {X} May Is IsText (Ok text) = (x : X) × Is (Ok x) × IsText x text.items
 PrintsRead May Is IsText (Err (failure.RefusedRows text)) = ⊥
+PrintsRead May Is IsText (Err (failure.UnplacedWishes file lines)) = ⊥
 PrintsRead May Is IsText (Err (failure.Refused line)) = (refusal : Refusal) × Is (Err refusal) × (line.items ≡ line_of (for_reader (answer.Refused refusal)))
 PrintsRead May Is IsText (Err (failure.Fault fault)) = May fault

@@ -1,4 +1,4 @@
--- Report, change, trial: what a command asks of a register, and what it prints of the answer. That is the report, the
+-- Report, change, trial, proposal: what a command asks of a register, and what it prints of the answer. That is the report, the
 -- answer's line, or the line of one that refuses.
 use Rattle.std.specs.Prelude.{◌≡◌, ◌⊎◌, ℕ, List, Result, Ok, Err}
 use Rattle.std.specs.Global.{Vec}
@@ -14,7 +14,7 @@ use Rattle.fr_base.specs.declared.request.Ask.{Ask}
 use Rattle.fr_base.specs.declared.request.Request.{Request}
 use Rattle.fr_world.specs.Held.{Standing}
 use Rattle.fr_cli.specs.Asked.{asked_by}
-use Rattle.fr_cli.specs.Outcomes.{line_of, outcome_of, printed_of}
+use Rattle.fr_cli.specs.Outcomes.{line_of, outcome_of, printed_of, said_of}
 use Rattle.fr_cli.specs.Queries.{reader_of, request_for}
 use Rattle.fr_cli.specs.ScriptRun.{Replied}
 use Rattle.fr_cli.specs.declared.words.inquiry.Inquiry.{Inquiry}
@@ -53,6 +53,8 @@ Leads clean old new asks = clean → InSound old (λ c b. (last : Book) × ((las
 abbrev pub Prints : (Answer → Type 0) → Result (Vec ℕ) Failure → Type 0
 Prints Is (Ok text) = (answer : Answer) × Is answer × (outcome_of answer ≡ outcome.Done) × (text.items ≡ printed_of answer)
 Prints Is (Err (failure.RefusedRows text)) = (answer : Answer) × Is answer × (outcome_of answer ≡ outcome.RefusedRows) × (text.items ≡ printed_of answer)
+Prints Is (Err (failure.UnplacedWishes file lines)) = (answer : Answer) × Is answer × (outcome_of answer ≡ outcome.UnplacedWishes) × (file.items ≡ printed_of answer)
+    × (lines.items ≡ said_of answer)
 Prints Is (Err (failure.Refused line)) = (answer : Answer) × Is answer × (outcome_of answer ≡ outcome.Refused) × (line.items ≡ line_of answer)
 Prints Is (Err (failure.Fault fault)) = fault ≡ NoMemory
 
@@ -63,5 +65,6 @@ IsToldBy answer done = Prints (λ a. a ≡ answer) done
 -- What failed so was answered by this line; or memory was wanting for it.
 abbrev pub IsRefusedBy : Answer → Failure → Type 0
 IsRefusedBy answer (failure.RefusedRows text) = ⊥
+IsRefusedBy answer (failure.UnplacedWishes file lines) = ⊥
 IsRefusedBy answer (failure.Refused line) = line.items ≡ line_of answer
 IsRefusedBy answer (failure.Fault fault) = fault ≡ NoMemory

@@ -28,7 +28,7 @@ use Rattle.fr_cli.specs.declared.words.WordFault.{WordFault}
 use Rattle.fr_cli.specs.declared.words.WordFault.TheVariants.{Help, Usage, NoMemory}
 use Rattle.fr_cli.specs.declared.words.delivery.Delivery.{Delivery}
 use Rattle.fr_base.specs.declared.delivery.Purpose.{Purpose}
-use Rattle.fr_base.specs.declared.delivery.Purpose.TheVariants.{Import as ByLabel, Replacement, Trial}
+use Rattle.fr_base.specs.declared.delivery.Purpose.TheVariants.{Import as ByLabel, Replacement, Trial, Proposal}
 use Rattle.fr_cli.specs.declared.words.inquiry.Inquiry.{Inquiry}
 use Rattle.fr_cli.specs.declared.words.check_subject.CheckSubject.{CheckSubject}
 use Rattle.fr_cli.specs.declared.words.check_subject.CheckSubject.TheVariants as of
@@ -124,17 +124,20 @@ manner_by false false = Some Import
 abbrev pub manner_in : List Row → Option Manner
 manner_in rows = manner_by (is_given (codes "replace") rows) (is_given (codes "whole") rows)
 
--- the subcommand that delivers a file of rows, or tries it
+-- the subcommand that delivers a file of rows, or tries it, or that asks what is proposed for wishes
 abbrev pub word_of_delivery : Purpose (Bor (List ℕ)) → Text
 word_of_delivery (ByLabel label) = codes "import"
 word_of_delivery (Replacement whole) = codes "replace"
 word_of_delivery (Trial manner) = codes "try"
+word_of_delivery (Proposal replace) = codes "propose"
 
--- The label of an import is the word at its place. A replacement is whole where that is said. A file is tried in the manner that is said.
+-- The label of an import is the word at its place. A replacement is whole where that is said. A file is tried in the manner that is said. A proposal
+-- replaces where that is said.
 abbrev pub HasPurpose : Purpose (Bor (List ℕ)) → List Row → Type 0
 HasPurpose (ByLabel label) rows = Has (codes "LABEL") rows label.now
 HasPurpose (Replacement whole) rows = whole ≡ is_given (codes "whole") rows
 HasPurpose (Trial manner) rows = manner_in rows ≡ Some manner
+HasPurpose (Proposal replace) rows = replace ≡ is_given (codes "replace") rows
 
 -- The delivery is of these words.
 abbrev pub IsDeliveryIn : List Row → Delivery → Type 0

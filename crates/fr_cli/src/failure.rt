@@ -1,4 +1,4 @@
-//! A job that is not done: it was refused, or rows of a file would be, or a fault ended it.
+//! A job that is not done: it was refused, or rows of a file would be, or wishes have no placement, or a fault ended it.
 ghost use Rattle.std.specs.Prelude.{◌≡◌};
 
 use crate::fault::Fault;
@@ -11,6 +11,8 @@ pub enum Failure {
     Refused { line: Vec<u8> },
     /// Rows of a file that was tried would be refused; this text tells of each row.
     RefusedRows { text: Vec<u8> },
+    /// Wishes of a file have no placement. This is the file of what is proposed, and the lines that say of the others.
+    UnplacedWishes { file: Vec<u8>, lines: Vec<u8> },
     /// A fault ended it.
     Fault(Fault),
 }

@@ -81,7 +81,7 @@ pub enum Job<'a> {
         since: Option<&'a str>,
         supplier: Option<&'a str>,
     },
-    /// Deliver a file of rows to a register, or try it there.
+    /// Deliver a file of rows to a register, or try it there, or have placements proposed for a file of wishes.
     Deliver {
         db: &'a str,
         delivery: Delivery<'a>,
@@ -184,6 +184,7 @@ fn named_job<'a>(name: &str, found: &ArgMatches<'a>) -> Option<Job<'a>>
         "import" => import_job(found),
         "replace" => replace_job(found),
         "try" => try_job(found),
+        "propose" => propose_job(found),
         "check" => check_job(found),
         "explain" => Some(explain_job(found)),
         _ => report_job(name, found),
@@ -351,6 +352,13 @@ fn try_job<'a>(found: &ArgMatches<'a>) -> Option<Job<'a>>
 {
     let manner = manner(found)?;
     deliver_job(found, Purpose::Trial { manner })
+}
+
+fn propose_job<'a>(found: &ArgMatches<'a>) -> Option<Job<'a>>
+    ensures { IsJobIn result (codes "propose") (rows_of (found_of found.now)) }
+{
+    let replace = flag(found, "replace");
+    deliver_job(found, Purpose::Proposal { replace })
 }
 
 // How the rows of a file act that is tried.

@@ -42,6 +42,7 @@ refusals (refusal.BitTaken bit signal) = refl
 refusals refusal.Unavailable = refl
 refusals refusal.BadKey = refl
 refusals refusal.KeyTaken = refl
+refusals refusal.NoRoom = refl
 
 pub rows : is_explained (codes "BadRow") ≡ true
 unfolding explained

@@ -4,14 +4,15 @@ use Rattle.std.proofs.Common.{◌≡◌, ◌∙◌, ap, refl, sym, subst, ℕ, z
 use Rattle.std.specs.Prelude.{◌&&◌, if◌then◌else◌, nat_lt}
 use Rattle.std.specs.List.{AllByRecursion, list_all}
 use Rattle.std.proofs.lemmas.Bool.{and_from, and_parts, cases_Bool, le-ltb, ltb-false}
-use Rattle.fr_base.specs.ImportRows.{header_of, records_of}
-use Rattle.fr_base.specs.declared.import.Header.{Header}
+use Rattle.fr_base.specs.ImportRows.{records_of}
 use Rattle.fr_base.specs.declared.limits.TheConstants.{MAX_IMPORT_BYTES, MAX_ROWS}
 use Rattle.fr_guide.proofs.TakenRows.{rows_are_taken}
 use Rattle.fr_guide.specs.Faults.{all_fine, is_fine}
+use Rattle.fr_guide.specs.FileKinds.{kind_of}
 use Rattle.fr_guide.specs.Laws.{FineFilesAreTaken, IsFineFile, IsTaken}
 use Rattle.fr_guide.specs.Rows.{fine_below, fine_file, fine_records, fine_rows, is_fine_row}
 use Rattle.fr_guide.specs.declared.line_faults.LineFaults.{LineFaults}
+use Rattle.fr_guide.specs.declared.rows.file_kind.FileKind.{FileKind}
 
 -- whether all of the marks say so
 abbrev all_true : List Bool → Bool
@@ -23,38 +24,38 @@ all_marks (one ∷ told) = ap (λ b. is_fine one && b) (all_marks told)
 
 -- ---- rows below a header
 
-rows-taken : (header : Header) (room : ℕ) (rows : List (List (List ℕ))) → all_true (fine_rows header room rows) ≡ true
-    → (length rows ≤ room) × AllByRecursion (IsTaken header) rows
+rows-taken : (kind : FileKind) (room : ℕ) (rows : List (List (List ℕ))) → all_true (fine_rows kind room rows) ≡ true
+    → (length rows ≤ room) × AllByRecursion (IsTaken kind) rows
 unfolding fine_rows
-rows-taken header room [] fine = (omega arith, tt)
-rows-taken header zero (fields ∷ rows) fine = cc
-rows-taken header (suc room) (fields ∷ rows) fine =
-    let parts = and_parts (is_fine_row header fields) _ fine in
-    let others = rows-taken header room rows parts.1 in
-    (omega (arith, others.0), ((rows_are_taken header fields).taken parts.0, others.1))
+rows-taken kind room [] fine = (omega arith, tt)
+rows-taken kind zero (fields ∷ rows) fine = cc
+rows-taken kind (suc room) (fields ∷ rows) fine =
+    let parts = and_parts (is_fine_row kind fields) _ fine in
+    let others = rows-taken kind room rows parts.1 in
+    (omega (arith, others.0), ((rows_are_taken kind fields).taken parts.0, others.1))
 
-rows-fine : (header : Header) (room : ℕ) (rows : List (List (List ℕ))) → length rows ≤ room → AllByRecursion (IsTaken header) rows
-    → all_true (fine_rows header room rows) ≡ true
+rows-fine : (kind : FileKind) (room : ℕ) (rows : List (List (List ℕ))) → length rows ≤ room → AllByRecursion (IsTaken kind) rows
+    → all_true (fine_rows kind room rows) ≡ true
 unfolding fine_rows
-rows-fine header room [] few taken = refl
-rows-fine header zero (fields ∷ rows) few taken = absurd (omega (arith, few))
-rows-fine header (suc room) (fields ∷ rows) few taken =
-    and_from (is_fine_row header fields) _ ((rows_are_taken header fields).fine taken.0) (rows-fine header room rows (omega (arith, few)) taken.1)
+rows-fine kind room [] few taken = refl
+rows-fine kind zero (fields ∷ rows) few taken = absurd (omega (arith, few))
+rows-fine kind (suc room) (fields ∷ rows) few taken =
+    and_from (is_fine_row kind fields) _ ((rows_are_taken kind fields).fine taken.0) (rows-fine kind room rows (omega (arith, few)) taken.1)
 
 -- ---- the file
 
-below-taken : (bytes : List ℕ) (first : List (List ℕ)) (rows : List (List (List ℕ))) (header : Option Header) → length bytes ≤ MAX_IMPORT_BYTES
-    → records_of bytes ≡ first ∷ rows → header_of first ≡ header → all_true (fine_below header rows) ≡ true → IsFineFile bytes
+below-taken : (bytes : List ℕ) (first : List (List ℕ)) (rows : List (List (List ℕ))) (kind : Option FileKind) → length bytes ≤ MAX_IMPORT_BYTES
+    → records_of bytes ≡ first ∷ rows → kind_of first ≡ kind → all_true (fine_below kind rows) ≡ true → IsFineFile bytes
 below-taken bytes first rows None short records known fine = cc
-below-taken bytes first rows (Some header) short records known fine =
-    let taken = rows-taken header MAX_ROWS rows fine in
-    record { short = short; first = first; rows = rows; records = records; header = header; known = known; few = taken.0; taken = taken.1 }
+below-taken bytes first rows (Some kind) short records known fine =
+    let taken = rows-taken kind MAX_ROWS rows fine in
+    record { short = short; first = first; rows = rows; records = records; kind = kind; known = known; few = taken.0; taken = taken.1 }
 
 records-taken : (bytes : List ℕ) (records : List (List (List ℕ))) → length bytes ≤ MAX_IMPORT_BYTES → records_of bytes ≡ records
     → all_true (fine_records records) ≡ true → IsFineFile bytes
 unfolding fine_records
 records-taken bytes [] short is fine = cc
-records-taken bytes (first ∷ rows) short is fine = below-taken bytes first rows (header_of first) short is refl fine
+records-taken bytes (first ∷ rows) short is fine = below-taken bytes first rows (kind_of first) short is refl fine
 
 file-taken : (bytes : List ℕ) → all_true (fine_file bytes) ≡ true → IsFineFile bytes
 unfolding fine_file
@@ -69,7 +70,7 @@ file-fine : (bytes : List ℕ) → IsFineFile bytes → all_true (fine_file byte
 unfolding fine_file fine_records
 file-fine bytes file =
     let short : nat_lt MAX_IMPORT_BYTES (length bytes) ≡ false = le-ltb MAX_IMPORT_BYTES (length bytes) file.short in
-    rw short (rw file.records (rw file.known (rows-fine file.header MAX_ROWS file.rows file.few file.taken)))
+    rw short (rw file.records (rw file.known (rows-fine file.kind MAX_ROWS file.rows file.few file.taken)))
 
 pub files_are_taken : FineFilesAreTaken
 files_are_taken bytes told (marks, order) =

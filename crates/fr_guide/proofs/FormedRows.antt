@@ -14,10 +14,13 @@ use Rattle.fr_base.specs.declared.import.Header.TheVariants.{Frames, Placements,
 use Rattle.fr_base.specs.declared.params.Params.{Params}
 use Rattle.fr_base.specs.declared.refusal.Refusal.{Refusal}
 use Rattle.fr_base.specs.declared.refusal.Refusal.TheVariants.{BadText, BadName}
-use Rattle.fr_guide.proofs.RequestLaws.{formed_behind, is_formed, named, placement-formed, signal-formed}
+use Rattle.fr_base.specs.Wishes.{spelled_wishes, wish, wish_in, wish_of}
+use Rattle.fr_guide.proofs.RequestLaws.{formed_behind, is_formed, named, placement-formed, signal-formed, wish-formed}
 use Rattle.fr_base.specs.declared.import.Header.{Header}
-use Rattle.fr_guide.specs.Laws.{is_misformed, is_of_form}
+use Rattle.fr_guide.specs.Laws.{is_misformed, is_of_form, misforms}
 use Rattle.fr_guide.specs.Rows.{name_at}
+use Rattle.fr_guide.specs.declared.rows.file_kind.FileKind.{FileKind}
+use Rattle.fr_guide.specs.declared.rows.file_kind.FileKind.TheVariants.{Rows, Wishes}
 
 -- What is refused is refused for its form.
 OnlyForm : {A : Type 0} → Result A Refusal → Type 0
@@ -36,6 +39,9 @@ is_formed_signal : List (List ℕ) → Bool
 is_formed_signal fields = is_ok (name_at fields 0) && is_ok (name_at fields 1) && is_ok (number_at fields 2) && is_ok (number_at fields 3)
     && is_ok (text_at fields 4)
 
+is_formed_wish : List (List ℕ) → Bool
+is_formed_wish fields = is_ok (name_at fields 0) && is_ok (name_at fields 1) && is_ok (text_at fields 2) && is_ok (number_at fields 3)
+
 has_formed_fields : Header → List (List ℕ) → Bool
 has_formed_fields Frames fields = is_formed_frame fields
 has_formed_fields Placements fields = is_formed_placement fields
@@ -43,6 +49,10 @@ has_formed_fields Signals fields = is_formed_signal fields
 
 pub is_formed_row : Header → List (List ℕ) → Bool
 is_formed_row header fields = (length fields == length (spelled header)) && has_formed_fields header fields
+
+pub is_formed_record : FileKind → List (List ℕ) → Bool
+is_formed_record (Rows header) fields = is_formed_row header fields
+is_formed_record Wishes fields = (length fields == length spelled_wishes) && is_formed_wish fields
 
 -- ---- a line of a row: a field that has its form, and what stands behind it
 
@@ -123,6 +133,10 @@ five : (t0 t1 n2 n3 t4 m0 m1 : Bool) → (m0 ≡ true → t0 ≡ true) → (m1 �
     → (t0 && (t1 && (n2 && (n3 && (t4 && (m0 && (m1 && true))))))) ≡ (m0 && m1 && n2 && n3 && t4)
 five t0 t1 n2 n3 t4 m0 m1 first second = grind (arith, first, second)
 
+four : (t0 t1 t2 n3 m0 m1 : Bool) → (m0 ≡ true → t0 ≡ true) → (m1 ≡ true → t1 ≡ true)
+    → (t0 && (t1 && (t2 && (n3 && (m0 && (m1 && true)))))) ≡ (m0 && m1 && t2 && n3)
+four t0 t1 t2 n3 m0 m1 first second = grind (arith, first, second)
+
 -- the names behind the fields
 names_are : (fields : List (List ℕ)) (one other : List ℕ) → text_at fields 0 ≡ Ok one → text_at fields 1 ≡ Ok other
     → (is_name one && (is_name other && true)) ≡ (is_ok (name_at fields 0) && (is_ok (name_at fields 1) && true))
@@ -164,6 +178,18 @@ signals fields =
     ∙ five (is_ok (text_at fields 0)) (is_ok (text_at fields 1)) (is_ok (number_at fields 2)) (is_ok (number_at fields 3)) (is_ok (text_at fields 4))
     (is_ok (name_at fields 0)) (is_ok (name_at fields 1)) (is_text fields 0) (is_text fields 1)
 
+wishes : (p : Params) (fields : List (List ℕ)) → is_formed (wish_in p fields) ≡ is_formed_wish fields
+unfolding wish_in wish is_formed_wish
+wishes p fields =
+    asked (text_at fields 0) _ _ (text_at-only fields 0) (λ frame is0.
+    asked (text_at fields 1) _ _ (text_at-only fields 1) (λ node is1.
+    asked (text_at fields 2) _ _ (text_at-only fields 2) (λ channels is2.
+    asked (number_at fields 3) _ (is_ok (name_at fields 0) && (is_ok (name_at fields 1) && true)) (number_at-only fields 3) (λ repetition is3.
+    named frame _ _ (named node _ true (wish-formed p channels repetition (λ cs. record { frame = frame; node = node; channels = cs; repetition = repetition })))
+    ∙ names_are fields frame node is0 is1))))
+    ∙ four (is_ok (text_at fields 0)) (is_ok (text_at fields 1)) (is_ok (text_at fields 2)) (is_ok (number_at fields 3)) (is_ok (name_at fields 0)) (is_ok (name_at fields 1))
+    (is_text fields 0) (is_text fields 1)
+
 pub misformed_rows : (p : Params) (header : Header) (fields : List (List ℕ)) → is_formed_row header fields ≡ not (is_misformed (row_of p header fields))
 unfolding is_formed_row has_formed_fields row_of ◌>>◌ refuse◌when◌
 misformed_rows p Frames fields = by (length fields == length (spelled Frames))
@@ -180,4 +206,14 @@ misformed_rows p Signals fields = by (length fields == length (spelled Signals))
   where
     by : (fits : Bool) → (fits && is_formed_signal fields) ≡ is_formed ((refuse BadText when not fits) >> signal_in fields)
     by true = sym (signals fields)
+    by false = refl
+
+-- so of a record of any kind
+pub misformed_records : (p : Params) (kind : FileKind) (fields : List (List ℕ)) → is_formed_record kind fields ≡ not (misforms p kind fields)
+unfolding is_formed_record wish_of ◌>>◌ refuse◌when◌
+misformed_records p (Rows header) fields = misformed_rows p header fields
+misformed_records p Wishes fields = by (length fields == length spelled_wishes)
+  where
+    by : (fits : Bool) → (fits && is_formed_wish fields) ≡ is_formed ((refuse BadText when not fits) >> wish_in p fields)
+    by true = sym (wishes p fields)
     by false = refl

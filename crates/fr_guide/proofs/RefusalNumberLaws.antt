@@ -61,3 +61,4 @@ numbers (refusal.BitTaken bit signal) = refl
 numbers refusal.Unavailable = refl
 numbers refusal.BadKey = refl
 numbers refusal.KeyTaken = refl
+numbers refusal.NoRoom = refl

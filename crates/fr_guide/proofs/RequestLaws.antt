@@ -2,6 +2,8 @@
 use Rattle.std.proofs.Common.{◌≡◌, ◌∙◌, ap, refl, sym, ℕ, Bool, true, false, cond, List, Option, Some, None, Result, Ok, Err}
 use Rattle.std.specs.Prelude.{not, ◌&&◌, nat_le}
 use Rattle.std.specs.List.{list_all}
+use Rattle.fr_base.specs.declared.channel.Channels.{Channels}
+use Rattle.fr_base.specs.declared.wish.Wish.{Wish}
 use Rattle.fr_base.specs.Channels.{channel_of_text, channels_in, channels_of_text, has_channel}
 use Rattle.fr_base.specs.Checks.{asking, channel, channels, check, cycles, key, name, beginning, placement, purpose, query, signal, slot}
 use Rattle.fr_base.specs.Cycles.{Cycles, are_cycles, is_repetition}
@@ -17,7 +19,7 @@ use Rattle.fr_base.specs.declared.beginning.Beginning.TheVariants.{Empty, From, 
 use Rattle.fr_base.specs.declared.query.Query.TheVariants.{Register as OfRegister, Variant as OfVariant, Difference as OfTwo}
 use Rattle.fr_base.specs.declared.report.Report.TheVariants.{Grants, Frames, Schedule, Gaps, Layout, Load, Rows, Room, Export}
 use Rattle.fr_base.specs.declared.request.Request.TheVariants as request
-use Rattle.fr_base.specs.declared.delivery.Purpose.TheVariants.{Import, Replacement, Trial}
+use Rattle.fr_base.specs.declared.delivery.Purpose.TheVariants.{Import, Replacement, Trial, Proposal}
 use Rattle.fr_base.specs.declared.signal.Order.{Order}
 use Rattle.fr_guide.specs.Laws.{MisformedRequestsAreRefused, is_misformed}
 use Rattle.fr_guide.specs.Requests.{formed_in}
@@ -88,6 +90,15 @@ pub channels-formed : (p : Params) (text : List ℕ) → is_formed (channels p t
 unfolding channels
 channels-formed p text = found-formed (channels_of_text text) _ (λ cs. refused-formed (not (list_all (has_channel p.channels) (channels_in cs))) cs)
 
+pub wish-formed : (p : Params) (text : List ℕ) (repetition : ℕ) (make : Channels → Wish)
+    → is_formed ((refuse BadCycles when not (is_repetition p.cycles repetition)) >> (channels p text >>= λ cs. Ok (make cs))) ≡ true
+unfolding ◌>>◌ refuse◌when◌
+wish-formed p text repetition make = by (is_repetition p.cycles repetition)
+  where
+    by : (is : Bool) → is_formed ((refuse BadCycles when not is) >> (channels p text >>= λ cs. Ok (make cs))) ≡ true
+    by true = formed_behind (channels p text) _ (channels-formed p text) (λ cs. refl)
+    by false = refl
+
 pub placement-formed : (p : Params) (n : ℕ) (text : List ℕ) (base repetition : ℕ) → is_formed (placement p n text base repetition) ≡ true
 unfolding placement
 placement-formed p n text base repetition =
@@ -150,6 +161,7 @@ misformed_requests p s (request.DropSignal v frame x) = sym (named v _ _ (named 
 misformed_requests p s (request.Deliver v (Import label) body) = sym (named v _ (is_name label && true) (named_within label _ _ refl))
 misformed_requests p s (request.Deliver v (Replacement whole) body) = sym (named v _ true refl)
 misformed_requests p s (request.Deliver v (Trial how) body) = sym (named v _ true refl)
+misformed_requests p s (request.Deliver v (Proposal replace) body) = sym (named v _ true refl)
 misformed_requests p s (request.Query (OfRegister inventory)) = refl
 misformed_requests p s (request.Query (OfVariant v Grants)) = sym (named_within v _ _ refl)
 misformed_requests p s (request.Query (OfVariant v Frames)) = sym (named_within v _ _ refl)

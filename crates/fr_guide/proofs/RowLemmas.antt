@@ -4,13 +4,14 @@ use Rattle.std.specs.Prelude.{IfOk, if◌then◌else◌}
 use Rattle.std.proofs.lemmas.Bool.{lt-ltb}
 use Rattle.std.proofs.lemmas.List.{map-append}
 use Rattle.std.specs.Global.{Vec}
-use Rattle.fr_base.specs.ImportRows.{header_of, records_of}
-use Rattle.fr_base.specs.declared.import.Header.{Header}
+use Rattle.fr_base.specs.ImportRows.{records_of}
 use Rattle.fr_base.specs.declared.limits.TheConstants.{MAX_IMPORT_BYTES, MAX_ROWS}
 use Rattle.fr_guide.specs.Faults.{is_fine}
+use Rattle.fr_guide.specs.FileKinds.{kind_of}
 use Rattle.fr_guide.proofs.LineLemmas.{one_in_order}
 use Rattle.fr_guide.specs.Rows.{AreInOrder, AreToldOfRows, fine_file, fine_records, fine_rows, is_fine_row, line_count, numbers_of}
 use Rattle.fr_guide.specs.declared.line_faults.LineFaults.{LineFaults}
+use Rattle.fr_guide.specs.declared.rows.file_kind.FileKind.{FileKind}
 
 -- of one line is told as is asked
 pub marks_are : {E : Type 0} (r : Result (Vec LineFaults) E) (fine : Bool) (asked : List Bool) → IfOk r (λ told. map is_fine told.items ≡ fine ∷ []) → fine ∷ [] ≡ asked
@@ -34,18 +35,18 @@ no_record bytes fields records rest found all read none =
 
 -- one whose first record is no header
 pub no_header : (bytes : List ℕ) (fields : List (List ℕ)) (records rest : List (List (List ℕ))) (found : Bool) → records ≡ records_of bytes
-    → records ≡ (if found then fields ∷ rest else []) → found ≡ true → header_of fields ≡ None → false ∷ [] ≡ fine_records (records_of bytes)
+    → records ≡ (if found then fields ∷ rest else []) → found ≡ true → kind_of fields ≡ None → false ∷ [] ≡ fine_records (records_of bytes)
 unfolding fine_records
 no_header bytes fields records rest found all read some none =
     let first : records_of bytes ≡ fields ∷ rest = sym all ∙ read ∙ ap (λ b. if b then fields ∷ rest else []) some in
     rw first (rw none refl)
 
 -- one whose first record is
-pub a_header : (bytes : List ℕ) (fields : List (List ℕ)) (records rest : List (List (List ℕ))) (found : Bool) (header : Header) → records ≡ records_of bytes
-    → records ≡ (if found then fields ∷ rest else []) → found ≡ true → header_of fields ≡ Some header
-    → true ∷ fine_rows header MAX_ROWS rest ≡ fine_records (records_of bytes)
+pub a_header : (bytes : List ℕ) (fields : List (List ℕ)) (records rest : List (List (List ℕ))) (found : Bool) (kind : FileKind) → records ≡ records_of bytes
+    → records ≡ (if found then fields ∷ rest else []) → found ≡ true → kind_of fields ≡ Some kind
+    → true ∷ fine_rows kind MAX_ROWS rest ≡ fine_records (records_of bytes)
 unfolding fine_records
-a_header bytes fields records rest found header all read some is =
+a_header bytes fields records rest found kind all read some is =
     let first : records_of bytes ≡ fields ∷ rest = sym all ∙ read ∙ ap (λ b. if b then fields ∷ rest else []) some in
     rw first (rw is refl)
 
@@ -72,27 +73,27 @@ pub no_more : (told : List LineFaults) (left asked : List Bool) → map is_fine 
 no_more told left asked so none = sym (append-nil (map is_fine told)) ∙ ap (λ l. map is_fine told ++ l) (sym none) ∙ so
 
 -- a record is one row too many
-pub too_many : (header : Header) (room : ℕ) (fields : List (List ℕ)) (records rest : List (List (List ℕ))) (found fine : Bool)
-    → records ≡ (if found then fields ∷ rest else []) → found ≡ true → room ≡ 0 → fine ≡ false → fine_rows header room records ≡ fine ∷ []
+pub too_many : (kind : FileKind) (room : ℕ) (fields : List (List ℕ)) (records rest : List (List (List ℕ))) (found fine : Bool)
+    → records ≡ (if found then fields ∷ rest else []) → found ≡ true → room ≡ 0 → fine ≡ false → fine_rows kind room records ≡ fine ∷ []
 unfolding fine_rows
-too_many header room fields records rest found fine read is none not = rw (read, is, none, not) refl
+too_many kind room fields records rest found fine read is none not = rw (read, is, none, not) refl
 
 -- it is a row
-pub a_row : (header : Header) (room : ℕ) (fields : List (List ℕ)) (records rest : List (List (List ℕ))) (found fine : Bool)
-    → records ≡ (if found then fields ∷ rest else []) → found ≡ true → 1 ≤ room → fine ≡ is_fine_row header fields
-    → fine_rows header room records ≡ fine ∷ fine_rows header (room - 1) rest
+pub a_row : (kind : FileKind) (room : ℕ) (fields : List (List ℕ)) (records rest : List (List (List ℕ))) (found fine : Bool)
+    → records ≡ (if found then fields ∷ rest else []) → found ≡ true → 1 ≤ room → fine ≡ is_fine_row kind fields
+    → fine_rows kind room records ≡ fine ∷ fine_rows kind (room - 1) rest
 unfolding fine_rows
-a_row header zero fields records rest found fine read is some same = absurd (omega (arith, some))
-a_row header (suc room) fields records rest found fine read is some same =
+a_row kind zero fields records rest found fine read is some same = absurd (omega (arith, some))
+a_row kind (suc room) fields records rest found fine read is some same =
     let one_less : room ≡ suc room - 1 = omega arith in
-    ap (fine_rows header (suc room)) (read ∙ ap (λ b. if b then fields ∷ rest else []) is)
-    ∙ ap (λ b. b ∷ fine_rows header room rest) (sym same) ∙ ap (λ n. fine ∷ fine_rows header n rest) one_less
+    ap (fine_rows kind (suc room)) (read ∙ ap (λ b. if b then fields ∷ rest else []) is)
+    ∙ ap (λ b. b ∷ fine_rows kind room rest) (sym same) ∙ ap (λ n. fine ∷ fine_rows kind n rest) one_less
 
 -- there is none
-pub no_row : (header : Header) (room : ℕ) (fields : List (List ℕ)) (records rest : List (List (List ℕ))) (found : Bool)
-    → records ≡ (if found then fields ∷ rest else []) → found ≡ false → fine_rows header room records ≡ []
+pub no_row : (kind : FileKind) (room : ℕ) (fields : List (List ℕ)) (records rest : List (List (List ℕ))) (found : Bool)
+    → records ≡ (if found then fields ∷ rest else []) → found ≡ false → fine_rows kind room records ≡ []
 unfolding fine_rows
-no_row header room fields records rest found read is = ap (fine_rows header room) (read ∙ ap (λ b. if b then fields ∷ rest else []) is)
+no_row kind room fields records rest found read is = ap (fine_rows kind room) (read ∙ ap (λ b. if b then fields ∷ rest else []) is)
 
 -- ---- a file that is too long
 

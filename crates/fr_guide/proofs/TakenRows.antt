@@ -22,12 +22,16 @@ use Rattle.fr_base.specs.declared.import.Row.TheVariants.{AddFrame, AddSignal, P
 use Rattle.fr_base.specs.declared.params.Params.{Params}
 use Rattle.fr_base.specs.declared.params.RawParams.{RawParams}
 use Rattle.fr_base.specs.declared.refusal.Refusal.{Refusal}
-use Rattle.fr_base.specs.declared.refusal.Refusal.TheVariants.{BadName, BadText}
+use Rattle.fr_base.specs.declared.refusal.Refusal.TheVariants.{BadCycles, BadName, BadText}
 use Rattle.fr_base.specs.declared.signal.Order.{Order}
 use Rattle.fr_base.proofs.SoundRefusing.{gives_bind, gives_each, gives_or, gives_unless, gives_when}
-use Rattle.fr_guide.proofs.FormedRows.{is_formed_row, misformed_rows, name_of}
-use Rattle.fr_guide.specs.Laws.{FineRowsAreTaken, IsTaken, is_misformed}
-use Rattle.fr_guide.specs.Rows.{is_base_below, is_fine_frame, is_fine_placement, is_fine_row, is_fine_signal, is_some_repetition, name_at, passes, repeats_in, writes_channels, writes_order}
+use Rattle.fr_base.specs.Wishes.{spelled_wishes, wish, wish_in, wish_of}
+use Rattle.fr_base.specs.declared.wish.Wish.{Wish}
+use Rattle.fr_guide.proofs.FormedRows.{is_formed_record, misformed_records, name_of}
+use Rattle.fr_guide.specs.Laws.{FineRowsAreTaken, IsTaken, is_misformed, misforms}
+use Rattle.fr_guide.specs.Rows.{is_base_below, is_fine_frame, is_fine_placement, is_fine_row, is_fine_signal, is_fine_wish, is_some_repetition, name_at, passes, repeats_in, writes_channels, writes_order}
+use Rattle.fr_guide.specs.declared.rows.file_kind.FileKind.{FileKind}
+use Rattle.fr_guide.specs.declared.rows.file_kind.FileKind.TheVariants.{Rows, Wishes}
 
 -- ---- what is read, and passes a test
 
@@ -57,6 +61,13 @@ six_parts true true true false e f is = cc
 six_parts true true true true false f is = cc
 six_parts true true true true true false is = cc
 
+four_parts : (a b c d : Bool) → (a && b && c && d) ≡ true → (a ≡ true) × (b ≡ true) × (c ≡ true) × (d ≡ true)
+four_parts true true true true is = (refl, refl, refl, refl)
+four_parts false b c d is = cc
+four_parts true false c d is = cc
+four_parts true true false d is = cc
+four_parts true true true false is = cc
+
 five_parts : (a b c d e : Bool) → (a && b && c && d && e) ≡ true → (a ≡ true) × (b ≡ true) × (c ≡ true) × (d ≡ true) × (e ≡ true)
 five_parts true true true true true is = (refl, refl, refl, refl, refl)
 five_parts false b c d e is = cc
@@ -67,6 +78,9 @@ five_parts true true true true false is = cc
 
 six_from : (a b c d e f : Bool) → a ≡ true → b ≡ true → c ≡ true → d ≡ true → e ≡ true → f ≡ true → (a && b && c && d && e && f) ≡ true
 six_from a b c d e f ha hb hc hd he hf = rw (ha, hb, hc, hd, he, hf) refl
+
+four_from : (a b c d : Bool) → a ≡ true → b ≡ true → c ≡ true → d ≡ true → (a && b && c && d) ≡ true
+four_from a b c d ha hb hc hd = rw (ha, hb, hc, hd) refl
 
 five_from : (a b c d e : Bool) → a ≡ true → b ≡ true → c ≡ true → d ≡ true → e ≡ true → (a && b && c && d && e) ≡ true
 five_from a b c d e ha hb hc hd he = rw (ha, hb, hc, hd, he) refl
@@ -120,6 +134,15 @@ few_slots p =
     gives_when _ _ _ _ (λ _.
     gives_when _ _ _ _ (λ _.
     gives_when _ _ _ _ (λ _. ltb-false 1023 p.static_slots (or_parts (nat_lt p.static_slots 2) (nat_lt 1023 p.static_slots) few).1)))))
+
+counted_cycles : (p : RawParams) → IfOk (check_params p) (λ _. is_cycle_count p.cycles ≡ true)
+unfolding check_params
+counted_cycles p =
+    gives_when _ _ _ _ (λ _.
+    gives_when _ _ _ _ (λ _.
+    gives_when _ _ _ _ (λ _.
+    gives_when _ _ _ _ (λ _.
+    gives_unless _ _ (is_cycle_count p.cycles) _ (λ counted. counted)))))
 
 cycles-told : (p : Params) (base repetition : ℕ) → IfOk (cycles p base repetition) (λ _. (nat_lt base repetition ≡ true) × (is_some_repetition repetition ≡ true))
 unfolding cycles
@@ -215,12 +238,26 @@ signal-fine fields =
     five_from _ _ _ _ _ (name_there fields 0 frame is0 named0) (name_there fields 1 named is1 named1)
     (ap is_ok is2) (passing is_signal_length _ length is3 may.0) (passing writes_order _ order is4 may.1)))))))))
 
+wish-fine : (p : Params) (fields : List (List ℕ)) → is_cycle_count p.cycles ≡ true → IfOk (wish_in p fields) (λ _. is_fine_wish fields ≡ true)
+unfolding wish_in wish is_fine_wish
+wish-fine p fields counted =
+    gives_each _ (text_at fields 0) _ (λ frame is0.
+    gives_each _ (text_at fields 1) _ (λ node is1.
+    gives_each _ (text_at fields 2) _ (λ text is2.
+    gives_each _ (number_at fields 3) _ (λ repetition is3.
+    gives_bind _ _ (name frame) _ (name-told frame) (λ f named0.
+    gives_bind _ _ (name node) _ (name-told node) (λ n named1.
+    gives_unless _ _ (is_repetition p.cycles repetition) _ (λ divides.
+    gives_bind _ _ (channels p text) _ (channels-told p text) (λ cs writes.
+    four_from _ _ _ _ (name_there fields 0 frame is0 named0) (name_there fields 1 node is1 named1) (passing writes_channels _ text is2 writes)
+    (passing is_some_repetition _ repetition is3 (some_repetition repetition p.cycles counted divides))))))))))
+
 -- behind the test of how many fields there are
 last : {A : Type 0} (r : Result A Refusal) (fine fits : Bool) → fits ≡ true → IfOk r (λ _. fine ≡ true) → IfOk r (λ _. (fits && fine) ≡ true)
 last (Ok x) fine fits is others = and_from fits fine is others
 last (Err refusal) fine fits is others = tt
 
-row-fine : (p : Params) (header : Header) (fields : List (List ℕ)) → p.static_slots ≤ 1023 → IfOk (row_of p header fields) (λ _. is_fine_row header fields ≡ true)
+row-fine : (p : Params) (header : Header) (fields : List (List ℕ)) → p.static_slots ≤ 1023 → IfOk (row_of p header fields) (λ _. is_fine_row (Rows header) fields ≡ true)
 unfolding row_of is_fine_row
 row-fine p Frames fields few =
     gives_unless _ _ (length fields == length (spelled Frames)) _ (λ fits.
@@ -232,10 +269,19 @@ row-fine p Signals fields few =
     gives_unless _ _ (length fields == length (spelled Signals)) _ (λ fits.
     last (signal_in fields) (is_fine_signal fields) (length fields == length (spelled Signals)) fits (signal-fine fields))
 
-taken_is_fine : (header : Header) (fields : List (List ℕ)) → IsTaken header fields → is_fine_row header fields ≡ true
-taken_is_fine header fields (p, form, row, is) =
+wish_of-fine : (p : Params) (fields : List (List ℕ)) → is_cycle_count p.cycles ≡ true → IfOk (wish_of p fields) (λ _. is_fine_row Wishes fields ≡ true)
+unfolding wish_of is_fine_row
+wish_of-fine p fields counted =
+    gives_unless _ _ (length fields == length spelled_wishes) _ (λ fits.
+    last (wish_in p fields) (is_fine_wish fields) (length fields == length spelled_wishes) fits (wish-fine p fields counted))
+
+taken_is_fine : (kind : FileKind) (fields : List (List ℕ)) → IsTaken kind fields → is_fine_row kind fields ≡ true
+taken_is_fine (Rows header) fields (p, form, row, is) =
     let few : p.static_slots ≤ 1023 = subst (λ r. IfOk r (λ _. p.static_slots ≤ 1023)) form (few_slots p) in
-    subst (λ r. IfOk r (λ _. is_fine_row header fields ≡ true)) is (row-fine p header fields few)
+    subst (λ r. IfOk r (λ _. is_fine_row (Rows header) fields ≡ true)) is (row-fine p header fields few)
+taken_is_fine Wishes fields (p, form, wish, is) =
+    let counted : is_cycle_count p.cycles ≡ true = subst (λ r. IfOk r (λ _. is_cycle_count p.cycles ≡ true)) form (counted_cycles p) in
+    subst (λ r. IfOk r (λ _. is_fine_row Wishes fields ≡ true)) is (wish_of-fine p fields counted)
 
 -- ---- a fine row is taken by a cluster with as many slots as there may be, and both channels
 
@@ -259,6 +305,11 @@ cluster_of count = record {
 is_cluster : (count : ℕ) → is_cycle_count count ≡ true → check_params (cluster_of count) ≡ Ok (cluster_of count)
 unfolding check_params ◌>>◌ refuse◌when◌
 is_cluster count counted = rw counted refl
+
+-- what is not refused goes on
+unrefused : {B : Type 0} (fits : Bool) (r : Result B Refusal) (result : Result B Refusal) → fits ≡ true → r ≡ result → ((refuse BadCycles when not fits) >> r) ≡ result
+unfolding ◌>>◌ refuse◌when◌
+unrefused fits r result is others = rw is others
 
 is_a_name : (text : List ℕ) → is_name text ≡ true → name text ≡ Ok text
 unfolding name
@@ -366,37 +417,66 @@ signal-taken fields fine =
           (behind _ _ made _ (is_a_signal named.0 start.0 long.0 text.0 order.0 order.1 long.2) refl))))))),
     )
 
+wish-taken : (fields : List (List ℕ)) → is_fine_wish fields ≡ true
+    → (count : ℕ) × (is_cycle_count count ≡ true) × (wish : Wish) × (wish_in (cluster_of count) fields ≡ Ok wish)
+unfolding is_fine_wish wish_in wish
+wish-taken fields fine =
+    let parts = four_parts (is_ok (name_at fields 0)) (is_ok (name_at fields 1)) (passes writes_channels (text_at fields 2)) (passes is_some_repetition (number_at fields 3)) fine in
+    let frame = named_there fields 0 parts.0 in
+    let node = named_there fields 1 parts.1 in
+    let text = passed writes_channels (text_at fields 2) parts.2 in
+    let cs = found (channels_of_text text.0) text.2 in
+    let r = passed is_some_repetition (number_at fields 3) parts.3 in
+    let in_some = some_count r.0 r.2 in
+    let count : ℕ = in_some.0 in
+    let counted = and_parts (is_cycle_count count) (is_repetition count r.0) in_some.1 in (
+      count,
+      counted.0,
+      record { frame = frame.0; node = node.0; channels = cs.0; repetition = r.0 },
+      behind _ _ frame.0 _ frame.1 (behind _ _ node.0 _ node.1 (behind _ _ text.0 _ text.1 (behind _ _ r.0 _ r.1
+          (behind _ _ frame.0 _ (is_a_name frame.0 frame.2) (behind _ _ node.0 _ (is_a_name node.0 node.2)
+          (unrefused _ _ _ counted.1 (behind _ _ cs.0 _ (are_channels count text.0 cs.0 cs.1) refl))))))),
+    )
+
 -- the fields of a row, of which there are as many as the header has
 fitting : {A : Type 0} (fits : Bool) (r : Result A Refusal) (x : A) → fits ≡ true → r ≡ Ok x → ((refuse BadText when not fits) >> r) ≡ Ok x
 unfolding ◌>>◌ refuse◌when◌
 fitting fits r x is others = rw is others
 
-fine_is_taken : (header : Header) (fields : List (List ℕ)) → is_fine_row header fields ≡ true → IsTaken header fields
-unfolding is_fine_row row_of
-fine_is_taken Frames fields fine =
+fine_is_taken : (kind : FileKind) (fields : List (List ℕ)) → is_fine_row kind fields ≡ true → IsTaken kind fields
+unfolding is_fine_row row_of wish_of
+fine_is_taken (Rows Frames) fields fine =
     let parts = and_parts (length fields == length (spelled Frames)) (is_fine_frame fields) fine in
     let taken = frame-taken fields parts.1 in
     (cluster_of 64, is_cluster 64 refl, taken.0, fitting _ _ taken.0 parts.0 taken.1)
-fine_is_taken Placements fields fine =
+fine_is_taken (Rows Placements) fields fine =
     let parts = and_parts (length fields == length (spelled Placements)) (is_fine_placement fields) fine in
     let taken = placement-taken fields parts.1 in
     (cluster_of taken.0, is_cluster taken.0 taken.1, taken.2, fitting _ _ taken.2 parts.0 taken.3)
-fine_is_taken Signals fields fine =
+fine_is_taken (Rows Signals) fields fine =
     let parts = and_parts (length fields == length (spelled Signals)) (is_fine_signal fields) fine in
     let taken = signal-taken fields parts.1 in
     (cluster_of 64, is_cluster 64 refl, taken.0, fitting _ _ taken.0 parts.0 taken.1)
 
--- ---- a row that is refused for its text or a name is not fine
+fine_is_taken Wishes fields fine =
+    let parts = and_parts (length fields == length spelled_wishes) (is_fine_wish fields) fine in
+    let taken = wish-taken fields parts.1 in
+    (cluster_of taken.0, is_cluster taken.0 taken.1, taken.2, fitting _ _ taken.2 parts.0 taken.3)
 
-misformed_is_not : (header : Header) (fields : List (List ℕ)) (p : Params) → is_misformed (row_of p header fields) ≡ true → is_fine_row header fields ≡ false
-misformed_is_not header fields p refused = elim (cases_Bool (is_fine_row header fields)) [
+-- ---- a record that is refused for its text or a name is not fine
+
+taken_is_formed : (kind : FileKind) (fields : List (List ℕ)) → IsTaken kind fields → is_formed_record kind fields ≡ true
+taken_is_formed (Rows header) fields (p, form, row, is) = misformed_records p (Rows header) fields ∙ ap (λ r. not (is_misformed r)) is
+taken_is_formed Wishes fields (p, form, wish, is) = misformed_records p Wishes fields ∙ ap (λ r. not (is_misformed r)) is
+
+misformed_is_not : (kind : FileKind) (fields : List (List ℕ)) (p : Params) → misforms p kind fields ≡ true → is_fine_row kind fields ≡ false
+misformed_is_not kind fields p refused = elim (cases_Bool (is_fine_row kind fields)) [
   | inl fine ↦
-      let (q, form, row, is) = fine_is_taken header fields fine in
-      let formed : is_formed_row header fields ≡ true = misformed_rows q header fields ∙ ap (λ r. not (is_misformed r)) is in
-      let none : is_formed_row header fields ≡ false = misformed_rows p header fields ∙ ap not refused in
+      let formed : is_formed_record kind fields ≡ true = taken_is_formed kind fields (fine_is_taken kind fields fine) in
+      let none : is_formed_record kind fields ≡ false = misformed_records p kind fields ∙ ap not refused in
       cc
   | inr not_fine ↦ not_fine
 ]
 
 pub rows_are_taken : FineRowsAreTaken
-rows_are_taken header fields = record { taken = fine_is_taken header fields; fine = taken_is_fine header fields; misformed = misformed_is_not header fields }
+rows_are_taken kind fields = record { taken = fine_is_taken kind fields; fine = taken_is_fine kind fields; misformed = misformed_is_not kind fields }

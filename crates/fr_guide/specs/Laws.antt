@@ -5,12 +5,11 @@
 use Rattle.std.specs.Prelude.{◌≡◌, ◌↔◌, ◌≤◌, ℕ, Bool, true, false, not, List, ◌∷◌, length, codes, Some, Result, Ok, Err}
 use Rattle.std.specs.List.{AllByRecursion}
 use Rattle.fr_base.specs.Checks.{check}
-use Rattle.fr_base.specs.ImportRows.{header_of, records_of, row_of}
+use Rattle.fr_base.specs.ImportRows.{records_of, row_of}
 use Rattle.fr_base.specs.Parameters.{check_params}
 use Rattle.fr_base.specs.Refusals.{name_of}
 use Rattle.fr_base.specs.declared.actor.Actor.{Actor}
 use Rattle.fr_base.specs.declared.actor.Actor.TheVariants.{Integrator, Supplier}
-use Rattle.fr_base.specs.declared.import.Header.{Header}
 use Rattle.fr_base.specs.declared.import.Row.{Row}
 use Rattle.fr_base.specs.declared.limits.TheConstants.{MAX_IMPORT_BYTES, MAX_ROWS}
 use Rattle.fr_base.specs.declared.name.Name.{Name}
@@ -19,13 +18,18 @@ use Rattle.fr_base.specs.declared.refusal.Refusal.{Refusal}
 use Rattle.fr_base.specs.declared.refusal.Refusal.TheVariants.{BadKey, BadName, BadText}
 use Rattle.fr_base.specs.declared.request.Request.{Request}
 use Rattle.fr_base.specs.declared.request.Request.TheVariants as request
+use Rattle.fr_base.specs.declared.wish.Wish.{Wish}
+use Rattle.fr_base.specs.Wishes.{wish_of}
 use Rattle.fr_text.specs.ClusterFile.{config_fault_word}
 use Rattle.fr_text.specs.declared.cluster_file.ConfigFault.{ConfigFault}
 use Rattle.fr_guide.specs.Faults.{all_fine}
+use Rattle.fr_guide.specs.FileKinds.{kind_of}
 use Rattle.fr_guide.specs.Requests.{formed_in, have_forms}
 use Rattle.fr_guide.specs.Rows.{AreToldOfRows, is_fine_row}
 use Rattle.fr_guide.specs.Topics.{is_explained}
 use Rattle.fr_guide.specs.declared.line_faults.LineFaults.{LineFaults}
+use Rattle.fr_guide.specs.declared.rows.file_kind.FileKind.{FileKind}
+use Rattle.fr_guide.specs.declared.rows.file_kind.FileKind.TheVariants.{Rows, Wishes}
 
 -- Each refusal's name is explained, and so is that of an import's refused row.
 abbrev pub EachRefusalIsExplained : Type 0
@@ -63,32 +67,38 @@ asked_by s _ = Supplier s
 abbrev pub MisformedRequestsAreRefused : Type 0
 MisformedRequestsAreRefused = (p : Params) (s : Name) (r : Request) → have_forms (formed_in r) ≡ not (is_misformed (check p (asked_by s r) r))
 
--- Some cluster takes the row that a record is below a header.
-abbrev pub IsTaken : Header → List (List ℕ) → Type 0
-IsTaken header fields = (p : Params) × (check_params p ≡ Ok p) × (row : Row) × (row_of p header fields ≡ Ok row)
+-- Some cluster takes the row that a record is below a header, or the wish.
+abbrev pub IsTaken : FileKind → List (List ℕ) → Type 0
+IsTaken (Rows header) fields = (p : Params) × (check_params p ≡ Ok p) × (row : Row) × (row_of p header fields ≡ Ok row)
+IsTaken Wishes fields = (p : Params) × (check_params p ≡ Ok p) × (wish : Wish) × (wish_of p fields ≡ Ok wish)
 
--- A record is fine below a header exactly where some cluster takes its row. It is not where one
--- refuses the row for its text or a name.
-pub record IsFineWhereTaken (header : Header) (fields : List (List ℕ)) : Type 0 where
-  pub taken : is_fine_row header fields ≡ true → IsTaken header fields
-  pub fine : IsTaken header fields → is_fine_row header fields ≡ true
-  pub misformed : (p : Params) → is_misformed (row_of p header fields) ≡ true → is_fine_row header fields ≡ false
+-- whether a cluster refuses the record for its text or a name
+abbrev pub misforms : Params → FileKind → List (List ℕ) → Bool
+misforms p (Rows header) fields = is_misformed (row_of p header fields)
+misforms p Wishes fields = is_misformed (wish_of p fields)
+
+-- A record of a kind is fine exactly where some cluster takes its row or wish. It is not where one
+-- refuses that for its text or a name.
+pub record IsFineWhereTaken (kind : FileKind) (fields : List (List ℕ)) : Type 0 where
+  pub taken : is_fine_row kind fields ≡ true → IsTaken kind fields
+  pub fine : IsTaken kind fields → is_fine_row kind fields ≡ true
+  pub misformed : (p : Params) → misforms p kind fields ≡ true → is_fine_row kind fields ≡ false
 
 -- So is each record.
 abbrev pub FineRowsAreTaken : Type 0
-FineRowsAreTaken = (header : Header) (fields : List (List ℕ)) → IsFineWhereTaken header fields
+FineRowsAreTaken = (kind : FileKind) (fields : List (List ℕ)) → IsFineWhereTaken kind fields
 
--- The file is no longer than an import may be, its first record is a header, at most as many rows as
--- an import may have stand below, and each is one that some cluster takes.
+-- The file is no longer than an import may be, its first record is a header, of rows or of wishes, at most as many of these as
+-- an import may have rows stand below, and each is one that some cluster takes.
 pub record IsFineFile (bytes : List ℕ) : Type 0 where
   pub short : length bytes ≤ MAX_IMPORT_BYTES
   pub first : List (List ℕ)
   pub rows : List (List (List ℕ))
   pub records : records_of bytes ≡ first ∷ rows
-  pub header : Header
-  pub known : header_of first ≡ Some header
+  pub kind : FileKind
+  pub known : kind_of first ≡ Some kind
   pub few : length rows ≤ MAX_ROWS
-  pub taken : AllByRecursion (IsTaken header) rows
+  pub taken : AllByRecursion (IsTaken kind) rows
 
 -- What is told of a file has no fault exactly where it is such a file.
 abbrev pub FineFilesAreTaken : Type 0

@@ -4,6 +4,7 @@ pub mod Examining
 pub mod Laws
 pub mod Faults
 pub mod Requests
+pub mod FileKinds
 pub mod Rows
 pub mod RequestFile
 pub mod Advice

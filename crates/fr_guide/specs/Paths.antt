@@ -44,6 +44,7 @@ forms =
     ∷ of_variant (codes "rows" ∷ codes "whole" ∷ [])
     ∷ of_variant (codes "tries" ∷ [])
     ∷ of_variant (codes "tries" ∷ codes "whole" ∷ [])
+    ∷ of_variant (codes "proposals" ∷ [])
     ∷ of_variant (codes "picture" ∷ [])
     ∷ of_variant (codes "since" ∷ codes "{from}" ∷ codes "picture" ∷ [])
     ∷ []

@@ -43,7 +43,8 @@ numbered =
     ∷ (codes "28", codes "Unavailable")
     ∷ (codes "29", codes "BadRow")
     ∷ (codes "30", codes "BadKey")
-    ∷ (codes "31", codes "KeyTaken") ∷ []
+    ∷ (codes "31", codes "KeyTaken")
+    ∷ (codes "32", codes "NoRoom") ∷ []
 
 -- the name that a number has in these rows, or else the word itself
 abbrev pub named_in : List (List ℕ × List ℕ) → List ℕ → List ℕ

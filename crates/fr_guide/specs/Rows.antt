@@ -1,4 +1,4 @@
--- Fine row: a record below a header that is a row in some cluster. It has as many fields as the
+-- Fine row: a record below a header that is a row, or a wish, in some cluster. It has as many fields as the
 -- header, its names are names, its numbers are numbers, and each of its values may stand there in
 -- some cluster. Which records of a file are fine, of as many as an import takes. Which lines the
 -- file has.
@@ -8,17 +8,19 @@ use Rattle.std.specs.Result.{is_ok}
 use Rattle.fr_base.specs.Channels.{channels_of_text}
 use Rattle.fr_base.specs.Checks.{name}
 use Rattle.fr_base.specs.Cycles.{is_cycle_count, is_repetition}
-use Rattle.fr_base.specs.ImportRows.{header_of, number_at, records_of, spelled, text_at}
+use Rattle.fr_base.specs.ImportRows.{number_at, records_of, text_at}
 use Rattle.fr_base.specs.Numbers.{is_slot}
 use Rattle.fr_base.specs.Refusing.{◌>>=◌}
 use Rattle.fr_base.specs.Signals.{is_signal_length, order_of_text}
-use Rattle.fr_base.specs.declared.import.Header.{Header}
 use Rattle.fr_base.specs.declared.import.Header.TheVariants.{Frames, Placements, Signals}
 use Rattle.fr_base.specs.declared.limits.TheConstants.{MAX_IMPORT_BYTES, MAX_ROWS}
 use Rattle.fr_base.specs.declared.name.Name.{Name}
 use Rattle.fr_base.specs.declared.refusal.Refusal.{Refusal}
 use Rattle.fr_guide.specs.Faults.{is_fine}
+use Rattle.fr_guide.specs.FileKinds.{kind_of, spelled_kind}
 use Rattle.fr_guide.specs.declared.line_faults.LineFaults.{LineFaults}
+use Rattle.fr_guide.specs.declared.rows.file_kind.FileKind.{FileKind}
+use Rattle.fr_guide.specs.declared.rows.file_kind.FileKind.TheVariants.{Rows, Wishes}
 
 -- the name that is the field at a place
 unfoldable pub name_at : List (List ℕ) → ℕ → Result Name Refusal
@@ -66,32 +68,38 @@ unfoldable pub is_fine_signal : List (List ℕ) → Bool
 is_fine_signal fields = is_ok (name_at fields 0) && is_ok (name_at fields 1) && is_ok (number_at fields 2)
     && passes is_signal_length (number_at fields 3) && passes writes_order (text_at fields 4)
 
--- whether the fields are those of a row below this header
-abbrev pub has_fine_fields : Header → List (List ℕ) → Bool
-has_fine_fields Frames fields = is_fine_frame fields
-has_fine_fields Placements fields = is_fine_placement fields
-has_fine_fields Signals fields = is_fine_signal fields
+-- whether the fields are those of a wish in some cluster
+unfoldable pub is_fine_wish : List (List ℕ) → Bool
+is_fine_wish fields = is_ok (name_at fields 0) && is_ok (name_at fields 1) && passes writes_channels (text_at fields 2)
+    && passes is_some_repetition (number_at fields 3)
 
--- whether a record is fine below this header
-unfoldable pub is_fine_row : Header → List (List ℕ) → Bool
-is_fine_row header fields = (length fields == length (spelled header)) && has_fine_fields header fields
+-- whether the fields are those of a record of this kind
+abbrev pub has_fine_fields : FileKind → List (List ℕ) → Bool
+has_fine_fields (Rows Frames) fields = is_fine_frame fields
+has_fine_fields (Rows Placements) fields = is_fine_placement fields
+has_fine_fields (Rows Signals) fields = is_fine_signal fields
+has_fine_fields Wishes fields = is_fine_wish fields
+
+-- whether a record is fine below the header of this kind
+unfoldable pub is_fine_row : FileKind → List (List ℕ) → Bool
+is_fine_row kind fields = (length fields == length (spelled_kind kind)) && has_fine_fields kind fields
 
 -- Which records below a header are fine, where so many more rows may stand. The record behind these
 -- is one too many, whatever it holds. What comes behind that is not read.
-unfoldable pub fine_rows : Header → ℕ → List (List (List ℕ)) → List Bool
-fine_rows header room [] = []
-fine_rows header zero (fields ∷ records) = false ∷ []
-fine_rows header (suc room) (fields ∷ records) = is_fine_row header fields ∷ fine_rows header room records
+unfoldable pub fine_rows : FileKind → ℕ → List (List (List ℕ)) → List Bool
+fine_rows kind room [] = []
+fine_rows kind zero (fields ∷ records) = false ∷ []
+fine_rows kind (suc room) (fields ∷ records) = is_fine_row kind fields ∷ fine_rows kind room records
 
 -- which records below a header are fine; where there is no header, none is read
-abbrev pub fine_below : Option Header → List (List (List ℕ)) → List Bool
+abbrev pub fine_below : Option FileKind → List (List (List ℕ)) → List Bool
 fine_below None records = false ∷ []
-fine_below (Some header) records = true ∷ fine_rows header MAX_ROWS records
+fine_below (Some kind) records = true ∷ fine_rows kind MAX_ROWS records
 
 -- which records are fine, the header first; a file without a record lacks its header
 unfoldable pub fine_records : List (List (List ℕ)) → List Bool
 fine_records [] = false ∷ []
-fine_records (first ∷ records) = fine_below (header_of first) records
+fine_records (first ∷ records) = fine_below (kind_of first) records
 
 -- which records of a file are fine; a file that is too long for an import is not read
 unfoldable pub fine_file : List ℕ → List Bool

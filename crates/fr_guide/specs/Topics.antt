@@ -49,6 +49,10 @@ rows = codes "BadRow" ∷ []
 abbrev pub keys : List (List ℕ)
 keys = codes "BadKey" ∷ codes "KeyTaken" ∷ []
 
+-- the refusal of a wish
+abbrev pub wishes : List (List ℕ)
+wishes = codes "NoRoom" ∷ []
+
 -- faults of a cluster file: its text, its keys and the bounds of its slots
 abbrev pub clusters : List (List ℕ)
 clusters = codes "BadToml" ∷ codes "BadField" ∷ codes "BadSlots" ∷ codes "BadPayload" ∷ []
@@ -68,7 +72,7 @@ files = codes "CannotOpen" ∷ codes "NotEmpty" ∷ codes "NotARegister" ∷ cod
 
 -- all words that are explained: the refusals in the order of their numbers, then the faults
 unfoldable pub explained : List (List ℕ)
-explained = senders ++ fields ++ labels ++ variants ++ missing ++ grants ++ edits ++ signals ++ register ++ rows ++ keys
+explained = senders ++ fields ++ labels ++ variants ++ missing ++ grants ++ edits ++ signals ++ register ++ rows ++ keys ++ wishes
     ++ clusters ++ segments ++ inputs ++ files
 
 -- whether the word is explained

@@ -190,7 +190,7 @@ fn no_form(alloc: Global, path: &str) -> Result<Vec<String>, NoMemory>
 
 // The forms that paths have.
 #[tactic(auto, unfolding(crate::specs::Paths::forms))]
-fn path_forms() -> [PathForm; 22]
+fn path_forms() -> [PathForm; 23]
     ensures { map (λ form. map (λ part. part.now) form.now) result ≡ forms }
 {
     [
@@ -255,6 +255,7 @@ fn path_forms() -> [PathForm; 22]
         &["", "v1", "variants", "{variant}", "rows", "whole"],
         &["", "v1", "variants", "{variant}", "tries"],
         &["", "v1", "variants", "{variant}", "tries", "whole"],
+        &["", "v1", "variants", "{variant}", "proposals"],
         &["", "v1", "variants", "{variant}", "picture"],
         &[
             "",

@@ -25,7 +25,7 @@ fn find<'a>(
 
 // The refusals' numbers, as they are written, and their names. Number 29 is that of an import's row that is refused.
 #[tactic(auto, unfolding(crate::specs::RefusalNumbers::numbered))]
-fn rows() -> [(&'static str, &'static str); 31]
+fn rows() -> [(&'static str, &'static str); 32]
     ensures { pairs_of result ≡ numbered }
 {
     [
@@ -60,5 +60,6 @@ fn rows() -> [(&'static str, &'static str); 31]
         ("29", "BadRow"),
         ("30", "BadKey"),
         ("31", "KeyTaken"),
+        ("32", "NoRoom"),
     ]
 }

@@ -1,4 +1,4 @@
-//! The faults of the rows of an import's file.
+//! The faults of the rows, or the wishes, of a supplier's file.
 ghost use Rattle.std.specs.Prelude.{◌≡◌, ◌∷◌, ◌++◌, ◌<◌, ◌+◌, ◌^◌, [], IfOk, OnOk, false, if◌then◌else◌, map};
 ghost use Rattle.csv.specs.Records.{fields_of};
 ghost use Rattle.fr_base.specs.ImportRows.{records_of};
@@ -7,20 +7,22 @@ ghost use Rattle.fr_guide.specs.Faults.{are_none, is_fine};
 ghost use Rattle.fr_guide.specs.Rows.{AreInOrder, AreToldOfRows, fine_records, fine_rows, line_count, line_ends, numbers_of};
 
 mod fields;
+mod file_kind;
 mod header;
 mod place;
 mod wanted;
 
 use crate::line_faults::{LineFaults, one_fault};
 use crate::rows::fields::field_faults;
+use crate::rows::file_kind::FileKind;
 use crate::rows::header::header_faults;
 use crate::rows::place::Place;
 use csv::ByteRecord;
-use fr_base::{Header, MAX_IMPORT_BYTES, MAX_ROWS, NoMemory};
-use fr_text::{Records, header_of};
+use fr_base::{MAX_IMPORT_BYTES, MAX_ROWS, NoMemory};
+use fr_text::Records;
 use std::alloc::{AllocError, Global};
 
-/// What is wrong with each record of an import's file, the header first: why it is a row of no cluster. A file that is too
+/// What is wrong with each record of a file, the header first: why it is a row, or a wish, of no cluster. A file that is too
 /// long is not read, nor is what stands below what is no header, or behind one row too many. Whether something is told of a
 /// record is said by clauses; in which words, and of which of the file's lines, is not, but that the lines are in order. The
 /// cluster is not known, nor what the register holds: a slot may be above the cluster's, or not be granted.
@@ -50,12 +52,12 @@ fn record_faults(alloc: Global, body: &[u8]) -> Result<Vec<LineFaults>, NoMemory
     }
     let mut place = Place::new(body);
     let line = place.line_behind(bytes_before(&fields));
-    match header_of(&fields) {
-        Some(header) => {
+    match FileKind::of(&fields) {
+        Some(kind) => {
             let mut told = one_line(alloc, line, Vec::new(alloc))?;
             tell_rows(
                 alloc,
-                header,
+                kind,
                 &mut records,
                 &mut fields,
                 &mut place,
@@ -77,10 +79,10 @@ fn one_line(alloc: Global, line: usize, faults: Vec<String>) -> Result<Vec<LineF
     Ok(told)
 }
 
-// Adds the faults of each record that is left, as a row below this header, up to one row too many.
+// Adds the faults of each record that is left, as one of this kind, up to one too many.
 fn tell_rows(
     alloc: Global,
-    header: Header,
+    kind: FileKind,
     records: &mut Records<'_>,
     fields: &mut ByteRecord,
     place: &mut Place<'_>,
@@ -88,7 +90,7 @@ fn tell_rows(
 ) -> Result<(), NoMemory>
     requires room { place.old.line + line_ends place.old.rest.now < 2 ^ 64 }
     ensures rows { OnOk result (map is_fine told.new.items ≡ map is_fine told.old.items
-        ++ fine_rows header MAX_ROWS records.old) }
+        ++ fine_rows kind MAX_ROWS records.old) }
     ensures lines { OnOk result (AreInOrder 1 place.old.line (numbers_of told.old.items)
         → AreInOrder 1 place.new.line (numbers_of told.new.items)) }
     ensures all { place.new.line + line_ends place.new.rest.now
@@ -103,7 +105,7 @@ fn tell_rows(
             return Ok(());
         }
         room -= 1;
-        let faults = field_faults(alloc, header, fields)?;
+        let faults = field_faults(alloc, kind, fields)?;
         told.push(LineFaults { line, faults })?;
     }
     Ok(())

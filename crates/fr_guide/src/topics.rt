@@ -19,6 +19,7 @@ mod segments;
 mod senders;
 mod signals;
 mod variants;
+mod wishes;
 
 use crate::topic::Topic;
 use fr_base::NoMemory;
@@ -40,6 +41,7 @@ pub fn topics(alloc: Global) -> Result<Vec<Topic>, NoMemory>
     add(&mut all, &register::topics())?;
     add(&mut all, &rows::topics())?;
     add(&mut all, &keys::topics())?;
+    add(&mut all, &wishes::topics())?;
     add(&mut all, &clusters::topics())?;
     add(&mut all, &segments::topics())?;
     add(&mut all, &inputs::topics())?;
@@ -69,6 +71,7 @@ pub fn are_about(word: &str) -> bool
         | has(&register::topics(), word)
         | has(&rows::topics(), word)
         | has(&keys::topics(), word)
+        | has(&wishes::topics(), word)
         | has(&clusters::topics(), word)
         | has(&segments::topics(), word)
         | has(&inputs::topics(), word)

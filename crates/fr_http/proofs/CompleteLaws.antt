@@ -86,7 +86,7 @@ refused : (unasked : Unasked) → is_fault unasked ≡ false → unasked ≢ Fau
 refused unasked none is = true≢false (sym (ap is_fault is) ∙ none)
 
 cause_of : Result Exchange Unasked → Unasked
-cause_of (Ok exchange) = Page
+cause_of (Ok exchange) = Explained None
 cause_of (Err unasked) = unasked
 
 made_or_not : (who : List ℕ → Option Actor) (head : HeadData) (method : Method) (made : Result Operation Unasked)
@@ -99,8 +99,8 @@ whole : (who : List ℕ → Option Actor) (head : HeadData) (rest body : List �
     → outcome_of who head rest ≢ Err (Fault Truncated)
 unfolding outcome_of ◌>>=◌ ◌>>◌ ◌or◌
 whole who head rest body w plan there is =
-    let ended : ends who head (method_of w.route) (operation_by w.route (path_of head.target) body) ≡ outcome_of who head rest = rw plan (rw there refl) in
-    made_or_not who head (method_of w.route) (operation_by w.route (path_of head.target) body) (why_not w.route (path_of head.target) body) (ended ∙ is)
+    let ended : ends who head (method_of w.route) (operation_by w.route (path_of head.target) head.fields body) ≡ outcome_of who head rest = rw plan (rw there refl) in
+    made_or_not who head (method_of w.route) (operation_by w.route (path_of head.target) head.fields body) (why_not w.route (path_of head.target) head.fields body) (ended ∙ is)
 
 -- ---- what is needed behind a head
 
@@ -251,7 +251,7 @@ cut_outcome bytes (Engine (MethodNotAllowed methods)) may short fails = absurd f
 cut_outcome bytes (Engine LengthRequired) may short fails = absurd fails
 cut_outcome bytes (Engine PayloadTooLarge) may short fails = absurd fails
 cut_outcome bytes (Engine NotImplemented) may short fails = absurd fails
-cut_outcome bytes Page may short fails = absurd fails
+cut_outcome bytes (Page part held) may short fails = absurd fails
 cut_outcome bytes (Explained word) may short fails = absurd fails
 cut_outcome bytes (Refused refusal) may short fails = absurd fails
 cut_outcome bytes (Fault ReadFailed) may short fails = absurd fails

@@ -73,7 +73,7 @@ module _ (who alone : List ℕ → Option Actor) (exchange : Exchange) (heard : 
   asks_alike head rest =
       bind_alike (by_engine (plan_of head)) _ _ exchange (λ plan.
       bind_alike (front plan.length rest or Fault Truncated) _ _ exchange (λ body.
-      bind_alike (operation_by plan.route (path_of head.target) body) _ _ exchange (λ what.
+      bind_alike (operation_by plan.route (path_of head.target) head.fields body) _ _ exchange (λ what.
       held_alike (key_of head) what (method_of plan.route))))
 
   outcome_alike : (bytes before : List ℕ) → IsOutcome who bytes before (Ok exchange) → IsOutcome alone bytes before (Ok exchange)
@@ -116,7 +116,7 @@ module _ (who alone : List ℕ → Option Actor) (unasked : Unasked) (nobodys : 
   unasked_alike head rest =
       bind_refused_alike (by_engine (plan_of head)) _ _ unasked (λ plan.
       bind_refused_alike (front plan.length rest or Fault Truncated) _ _ unasked (λ body.
-      bind_refused_alike (operation_by plan.route (path_of head.target) body) _ _ unasked (λ what.
+      bind_refused_alike (operation_by plan.route (path_of head.target) head.fields body) _ _ unasked (λ what.
       refused_alike (key_of head) what (method_of plan.route))))
 
   unasked_outcome_alike : (bytes before : List ℕ) → IsOutcome who bytes before (Err unasked) → IsOutcome alone bytes before (Err unasked)

@@ -1,4 +1,5 @@
 pub mod HeadLaws
+pub mod ConditionLaws
 pub mod RouteLaws
 pub mod ReplyLaws
 pub mod PlanLaws

@@ -101,28 +101,28 @@ module _ (who : List ℕ → Option Actor) where
   text-plain (Some request) found method = found-plain found method (operation.Request request)
   text-plain None found method = refl
 
-  by_route : (route : Route) (path body : List ℕ) (found : Option Actor) (method : Method) → is_explanation route ≡ false → tells (operation_by route path body >>= found_by found method) ≡ false
+  by_route : (route : Route) (path : List ℕ) (fields : List (List ℕ × List ℕ)) (body : List ℕ) (found : Option Actor) (method : Method) → is_explanation route ≡ false → tells (operation_by route path fields body >>= found_by found method) ≡ false
   unfolding operation_by ◌>>=◌
-  by_route OwnPage path body found method plain = refl
-  by_route Explanations path body found method plain = absurd (true≢false plain)
-  by_route Explanation path body found method plain = absurd (true≢false plain)
-  by_route (Advice subject) path body found method plain = found-plain found method (operation.Advice subject body)
-  by_route Commands path body found method plain = text-plain (request_of body) found method
-  by_route (Deliver how) path body found method plain = found-plain found method (operation.Request (request.Deliver (part named.Variant path) (purpose_with (λ name. part name path) how) body))
-  by_route (Query asked) path body found method plain =
+  by_route (OwnPage part) path fields body found method plain = refl
+  by_route Explanations path fields body found method plain = absurd (true≢false plain)
+  by_route Explanation path fields body found method plain = absurd (true≢false plain)
+  by_route (Advice subject) path fields body found method plain = found-plain found method (operation.Advice subject body)
+  by_route Commands path fields body found method plain = text-plain (request_of body) found method
+  by_route (Deliver how) path fields body found method plain = found-plain found method (operation.Request (request.Deliver (part named.Variant path) (purpose_with (λ name. part name path) how) body))
+  by_route (Query asked) path fields body found method plain =
       text-plain (option_map request.Query (query_by (λ name. part name path) (λ name. number_in name path) asked)) found method
-  by_route (Picture since) path body found method plain = found-plain found method (operation.Picture (part named.Variant path) (other_variant since path))
+  by_route (Picture since) path fields body found method plain = found-plain found method (operation.Picture (part named.Variant path) (other_variant since path))
 
-  by_body : (body : Option (List ℕ)) (route : Route) (path : List ℕ) (found : Option Actor) (method : Method) → is_explanation route ≡ false
-      → tells ((body or Fault Truncated) >>= λ body. operation_by route path body >>= found_by found method) ≡ false
+  by_body : (body : Option (List ℕ)) (route : Route) (path : List ℕ) (fields : List (List ℕ × List ℕ)) (found : Option Actor) (method : Method) → is_explanation route ≡ false
+      → tells ((body or Fault Truncated) >>= λ body. operation_by route path fields body >>= found_by found method) ≡ false
   unfolding ◌>>=◌ ◌or◌
-  by_body None route path found method plain = refl
-  by_body (Some body) route path found method plain = by_route route path body found method plain
+  by_body None route path fields found method plain = refl
+  by_body (Some body) route path fields found method plain = by_route route path fields body found method plain
 
   by_plan : (head : HeadData) (rest : List ℕ) (plan : Result Wanted Rejection) → plans_explanation plan ≡ false
-      → tells (by_engine plan >>= λ plan. (front plan.length rest or Fault Truncated) >>= λ body. operation_by plan.route (path_of head.target) body >>= found_by (holder who (key_of head)) (method_of plan.route)) ≡ false
+      → tells (by_engine plan >>= λ plan. (front plan.length rest or Fault Truncated) >>= λ body. operation_by plan.route (path_of head.target) head.fields body >>= found_by (holder who (key_of head)) (method_of plan.route)) ≡ false
   unfolding ◌>>=◌
-  by_plan head rest (Ok wanted) plain = by_body (front wanted.length rest) wanted.route (path_of head.target) (holder who (key_of head)) (method_of wanted.route) plain
+  by_plan head rest (Ok wanted) plain = by_body (front wanted.length rest) wanted.route (path_of head.target) head.fields (holder who (key_of head)) (method_of wanted.route) plain
   by_plan head rest (Err rejection) plain = refl
 
   outcome-plain : (head : HeadData) (rest : List ℕ) → asks_explanation head ≡ false → tells (outcome_of who head rest) ≡ false
@@ -139,7 +139,7 @@ module _ (who : List ℕ → Option Actor) where
 -- the reply where nothing is asked is one, but for what is explained
 same_without : (unasked : Unasked) (one other : Reply) → is_told unasked ≡ false → IsReplyWithout unasked one → IsReplyWithout unasked other → one ≡ other
 same_without (Engine rejection) one other plain is too = is ∙ sym too
-same_without Page one other plain is too = is ∙ sym too
+same_without (Page part held) one other plain is too = is ∙ sym too
 same_without (Explained word) one other plain is too = absurd (true≢false plain)
 same_without (Refused refusal) one other plain is too = is ∙ sym too
 same_without (Fault fault) one other plain is too = absurd is

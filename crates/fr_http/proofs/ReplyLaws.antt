@@ -4,12 +4,16 @@ use Rattle.std.proofs.Math.Seq.{take-append_seam, drop-append_seam}
 use Rattle.fr_text.proofs.WordsLemmas.{adds}
 use Rattle.std.specs.Prelude.{codes}
 use Rattle.http.specs.StatusCode.{IsStatusCode}
+use Rattle.fr_page.specs.Page.{text_of}
+use Rattle.fr_page.specs.declared.Part.{Part}
+use Rattle.fr_http.specs.Conditions.{tag_of}
+use Rattle.fr_http.specs.PageReply.{part_fields, part_reply}
 use Rattle.fr_http.specs.Reply.{allow, closing, engine_reply, field_line, print, reply_with, status_line, status_of_rejection}
 use Rattle.fr_http.specs.Replying.{head_with}
 use Rattle.fr_http.specs.declared.fault.Rejection.{Rejection}
 use Rattle.fr_base.specs.Refusals.{status_of}
 use Rattle.fr_base.specs.declared.refusal.Refusal.{Refusal}
-use Rattle.fr_base.specs.declared.refusal.Refusal.TheVariants.{BadText, UnknownKey, NotYours, BadName, BadCycles, BadSlot, BadChannel, BadSignal, LabelUsed, NoVariant, Released, NotReleased, TooDeep, NoSupplier, NoNode, NoFrame, NoSignal, NoPlacement, Exists, NodeDiffers, NotGranted, InUse, Limit, Taken, CellTaken, OutOfPayload, BitTaken, Unavailable, BadKey, KeyTaken}
+use Rattle.fr_base.specs.declared.refusal.Refusal.TheVariants.{BadText, UnknownKey, NotYours, BadName, BadCycles, BadSlot, BadChannel, BadSignal, LabelUsed, NoVariant, Released, NotReleased, TooDeep, NoSupplier, NoNode, NoFrame, NoSignal, NoPlacement, Exists, NodeDiffers, NotGranted, InUse, Limit, Taken, CellTaken, OutOfPayload, BitTaken, Unavailable, BadKey, KeyTaken, NoRoom}
 
 -- ---- statuses
 
@@ -44,6 +48,7 @@ refusal_has_status (BitTaken bit signal) = (omega arith, omega arith)
 refusal_has_status Unavailable = (omega arith, omega arith)
 refusal_has_status BadKey = (omega arith, omega arith)
 refusal_has_status KeyTaken = (omega arith, omega arith)
+refusal_has_status NoRoom = (omega arith, omega arith)
 
 -- one text at the end, and then another, if there was memory for it
 pub last_adds : {E : Type 0} (r : Result (Unit {0}) E) (old a mid b new : List ℕ) → mid ≡ old ++ a → OnOk r (new ≡ mid ++ b) → OnOk r (new ≡ old ++ (a ++ b))
@@ -68,3 +73,11 @@ engine_written rejection status old bytes empty is written =
 pub body_written : (status n : ℕ) (type body bytes : List ℕ) → n ≡ length body → bytes ≡ head_with status type n ++ body → bytes ≡ print (reply_with status type body)
 unfolding print
 body_written status n type body bytes size written = written ∙ ap (λ k. head_with status type k ++ body) size
+
+pub part_written : (part : Part) (n : ℕ) (tag body : List ℕ) → n ≡ length body → body ≡ text_of part → tag ≡ tag_of (text_of part)
+    → status_line 200 ++ part_fields part n tag ++ closing ++ body ≡ print (part_reply part)
+unfolding print part_reply
+part_written part n tag body size whole is =
+    ap (λ k. status_line 200 ++ part_fields part k tag ++ closing ++ body) size
+    ∙ ap (λ b. status_line 200 ++ part_fields part (length b) tag ++ closing ++ b) whole
+    ∙ ap (λ t. status_line 200 ++ part_fields part (length (text_of part)) t ++ closing ++ text_of part) is

@@ -46,7 +46,7 @@ unfolding outcome_of ◌>>=◌ ◌>>◌ ◌or◌
 cut who head rest w h none = rw h (rw none refl)
 
 no_text : (who : List ℕ → Option Actor) (head : HeadData) (rest body : List ℕ) (w : Wanted) (unasked : Unasked) → plan_of head ≡ Ok w → front w.length rest ≡ Some body
-    → operation_by w.route (path_of head.target) body ≡ Err unasked → outcome_of who head rest ≡ Err unasked
+    → operation_by w.route (path_of head.target) head.fields body ≡ Err unasked → outcome_of who head rest ≡ Err unasked
 unfolding outcome_of ◌>>=◌ ◌>>◌ ◌or◌
 no_text who head rest body w unasked h there none = rw h (rw there (rw none refl))
 
@@ -63,28 +63,28 @@ text_no_fault : (asked : Option Request) → has_fault (asked_or_refused asked) 
 text_no_fault (Some request) = refl
 text_no_fault None = refl
 
-operation_no_fault : (route : Route) (path body : List ℕ) → has_fault (operation_by route path body) ≡ false
+operation_no_fault : (route : Route) (path : List ℕ) (fields : List (List ℕ × List ℕ)) (body : List ℕ) → has_fault (operation_by route path fields body) ≡ false
 unfolding operation_by
-operation_no_fault OwnPage path body = refl
-operation_no_fault Explanations path body = refl
-operation_no_fault Explanation path body = refl
-operation_no_fault (Advice subject) path body = refl
-operation_no_fault Commands path body = text_no_fault _
-operation_no_fault (Deliver how) path body = refl
-operation_no_fault (Query asked) path body = text_no_fault _
-operation_no_fault (Picture since) path body = refl
+operation_no_fault (OwnPage part) path fields body = refl
+operation_no_fault Explanations path fields body = refl
+operation_no_fault Explanation path fields body = refl
+operation_no_fault (Advice subject) path fields body = refl
+operation_no_fault Commands path fields body = text_no_fault _
+operation_no_fault (Deliver how) path fields body = refl
+operation_no_fault (Query asked) path fields body = text_no_fault _
+operation_no_fault (Picture since) path fields body = refl
 
 -- a route asks nothing for no fault
-pub why_not : (route : Route) (path body : List ℕ) (unasked : Unasked) → operation_by route path body ≡ Err unasked → is_fault unasked ≡ false
-why_not route path body unasked is = sym (ap has_fault is) ∙ operation_no_fault route path body
+pub why_not : (route : Route) (path : List ℕ) (fields : List (List ℕ × List ℕ)) (body : List ℕ) (unasked : Unasked) → operation_by route path fields body ≡ Err unasked → is_fault unasked ≡ false
+why_not route path fields body unasked is = sym (ap has_fault is) ∙ operation_no_fault route path fields body
 
 nobody : (who : List ℕ → Option Actor) (head : HeadData) (rest body : List ℕ) (w : Wanted) (what : Operation) → plan_of head ≡ Ok w → front w.length rest ≡ Some body
-    → operation_by w.route (path_of head.target) body ≡ Ok what → holder who (key_of head) ≡ None → outcome_of who head rest ≡ Err (Refused UnknownKey)
+    → operation_by w.route (path_of head.target) head.fields body ≡ Ok what → holder who (key_of head) ≡ None → outcome_of who head rest ≡ Err (Refused UnknownKey)
 unfolding outcome_of ◌>>=◌ ◌>>◌ ◌or◌
 nobody who head rest body w what h there made none = rw h (rw there (rw made (rw none refl)))
 
 asks : (who : List ℕ → Option Actor) (head : HeadData) (rest body : List ℕ) (w : Wanted) (what : Operation) (actor : Actor) → plan_of head ≡ Ok w
-    → front w.length rest ≡ Some body → operation_by w.route (path_of head.target) body ≡ Ok what → holder who (key_of head) ≡ Some actor
+    → front w.length rest ≡ Some body → operation_by w.route (path_of head.target) head.fields body ≡ Ok what → holder who (key_of head) ≡ Some actor
     → outcome_of who head rest ≡ Ok (asked_by actor (method_of w.route) what)
 unfolding outcome_of ◌>>=◌ ◌>>◌ ◌or◌
 asks who head rest body w what actor h there made found = rw h (rw there (rw made (rw found refl)))
@@ -122,7 +122,7 @@ received_nothing stands input left held (Engine r) (bytes, consumed, fails, size
   takes = (tt, λ c b s i. inr (record { none = fails.none; unasked = Engine r; fails = fails.fails; asks = refl; interim = refl }));
   bound = inl size;
 }
-received_nothing stands input left held Page (bytes, consumed, fails, size) = absurd fails
+received_nothing stands input left held (Page part has) (bytes, consumed, fails, size) = absurd fails
 received_nothing stands input left held (Explained word) (bytes, consumed, fails, size) = absurd fails
 received_nothing stands input left held (Refused refusal) (bytes, consumed, fails, size) = absurd fails
 received_nothing stands input left held (Fault Truncated) (bytes, consumed, fails, size) = record {
@@ -206,7 +206,7 @@ not_invited stands input left held now received w fault (bytes, consumed, (h, be
 takes_so : (stands : Standing) (bytes written : List ℕ) (left : Option (List ℕ)) (unasked : Unasked) → is_fault unasked ≡ false → IsInterim bytes written
     → InSound stands (λ c b. IsOutcome (actor_of c b) bytes written (Err unasked)) → Takes stands bytes written left (Err unasked)
 takes_so stands bytes written left (Engine rejection) none only so = (only, so)
-takes_so stands bytes written left Page none only so = (only, so)
+takes_so stands bytes written left (Page part held) none only so = (only, so)
 takes_so stands bytes written left (Explained word) none only so = (only, so)
 takes_so stands bytes written left (Refused refusal) none only so = (only, so)
 takes_so stands bytes written left (Fault fault) none only so = absurd (true≢false none)
@@ -277,16 +277,16 @@ module _ (stands : Standing) (input mid left held now : Option (List ℕ)) (rece
 
   -- a request's text is none, or what is asked for is the engine's own, or memory was wanting
   pub no_operation : (invited : Invited input mid held now received w) → Behind mid left received w more → (body : List ℕ) → front w.length (received.1 ++ more) ≡ Some body
-      → (unasked : Unasked) → MakesOperation w.route (path_of received.0.target) body (Err unasked) → HasTaken stands input left held now (Err unasked)
+      → (unasked : Unasked) → MakesOperation w.route (path_of received.0.target) received.0.fields body (Err unasked) → HasTaken stands input left held now (Err unasked)
   no_operation invited behind body there unasked (inl lacks) =
       subst (λ u. HasTaken stands input left held now (Err u)) (sym lacks) (by_head invited behind _ (refl, is_interim invited))
   no_operation invited behind body there unasked (inr none) =
-      by_head invited behind (Err unasked) (takes_so stands _ _ left unasked (why_not w.route (path_of received.0.target) body unasked none) (is_interim invited)
+      by_head invited behind (Err unasked) (takes_so stands _ _ left unasked (why_not w.route (path_of received.0.target) received.0.fields body unasked none) (is_interim invited)
       (λ c b s i. outcome_with invited (actor_of c b) (Err unasked) (no_text (actor_of c b) received.0 (received.1 ++ more) body w unasked invited.plan there none)))
 
   -- the key is nobody's
   pub no_actor : (invited : Invited input mid held now received w) → Behind mid left received w more → (body : List ℕ) → front w.length (received.1 ++ more) ≡ Some body
-      → (what : Operation) → operation_by w.route (path_of received.0.target) body ≡ Ok what → FindsActor stands received.0 None
+      → (what : Operation) → operation_by w.route (path_of received.0.target) received.0.fields body ≡ Ok what → FindsActor stands received.0 None
       → HasTaken stands input left held now (Err (Refused UnknownKey))
   no_actor invited behind body there what made none =
       by_head invited behind _ (
@@ -297,7 +297,7 @@ module _ (stands : Standing) (input mid left held now : Option (List ℕ)) (rece
 
   -- the register is to be asked
   pub to_ask : (invited : Invited input mid held now received w) → Behind mid left received w more → (body : List ℕ) → front w.length (received.1 ++ more) ≡ Some body
-      → (what : Operation) → operation_by w.route (path_of received.0.target) body ≡ Ok what → (actor : Actor) → FindsActor stands received.0 (Some actor)
+      → (what : Operation) → operation_by w.route (path_of received.0.target) received.0.fields body ≡ Ok what → (actor : Actor) → FindsActor stands received.0 (Some actor)
       → HasTaken stands input left held now (Ok (asked_by actor (method_of w.route) what))
   to_ask invited behind body there what made actor found =
       by_head invited behind _ (

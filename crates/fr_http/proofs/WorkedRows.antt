@@ -20,6 +20,9 @@ use Rattle.fr_text.specs.AnswerText.{report_of, text_of, text_of_refusal}
 use Rattle.fr_text.specs.Report.{frame_record, header_line, lines_of, lines_of_rows, node_line, schedule_line}
 use Rattle.fr_text.specs.Styles.{plain_lines, json_lines}
 use Rattle.fr_text.specs.Words.{right_in}
+use Rattle.httparse.specs.Grammar.{trim_ows}
+use Rattle.fr_page.specs.declared.Part.TheVariants as page
+use Rattle.fr_http.specs.Conditions.{elements, none_matches}
 use Rattle.fr_http.specs.Head.{HeadData, values}
 use Rattle.fr_http.specs.Routes.{method_of, of_variant, operation_by, part, place, report, route_of, router, table, text_of_method, with_route}
 use Rattle.fr_http.specs.Outcome.{due, interim, length_in, outcome_of, plan_of}
@@ -43,7 +46,7 @@ use Rattle.fr_http.specs.declared.routes.Route.TheVariants.{Commands, Deliver, Q
 
 -- what an answer unfolds to compute these definitions
 unfoldable rows : ⊤
-unfolding seek param_step scan values part operation_by route_of router table with_route interim due length_in outcome_of plan_of answer_reply engine_reply page_reply body_of print ◌>>=◌ ◌>>◌ ◌or◌ refuse◌when◌ report_of text_of text_of_refusal lines_of lines_of_rows frame_record header_line node_line schedule_line number plain_lines json_lines right_in digits
+unfolding elements none_matches trim_ows seek param_step scan values part operation_by route_of router table with_route interim due length_in outcome_of plan_of answer_reply engine_reply page_reply body_of print ◌>>=◌ ◌>>◌ ◌or◌ refuse◌when◌ report_of text_of text_of_refusal lines_of lines_of_rows frame_record header_line node_line schedule_line number plain_lines json_lines right_in digits
 rows = tt
 
 abbrev head : List ℕ → List ℕ → List (List ℕ × List ℕ) → HeadData
@@ -81,20 +84,47 @@ pub routes_of_wholes :
 unfolding rows
 routes_of_wholes = refl
 
--- the planner's page stands at the first path alone, which has no other method, and a `?` behind it changes nothing
+-- the parts of the planner's page stand at three paths, which have no other method, and a `?` behind one changes nothing
 pub route_of_the_page :
     map plan_of (
     head (codes "GET") (codes "/") [] ∷ head (codes "GET") (codes "/?x=1") [] ∷ head (codes "POST") (codes "/") [] ∷ head (codes "GET") (codes "//") []
-    ∷ head (codes "GET") (codes "/index.html") [] ∷ []
+    ∷ head (codes "GET") (codes "/index.html") [] ∷ head (codes "GET") (codes "/slotplan.css") [] ∷ head (codes "GET") (codes "/slotplan.js?x=1") []
+    ∷ head (codes "PUT") (codes "/slotplan.js") [] ∷ head (codes "GET") (codes "/slotplan.js/") [] ∷ []
     )
-    ≡ Ok (record { route = OwnPage; length = 0 }) ∷ Ok (record { route = OwnPage; length = 0 }) ∷ Err (MethodNotAllowed (Only Get)) ∷ Err NotFound ∷ Err NotFound ∷ []
+    ≡ Ok (record { route = OwnPage page.Document; length = 0 }) ∷ Ok (record { route = OwnPage page.Document; length = 0 }) ∷ Err (MethodNotAllowed (Only Get))
+    ∷ Err NotFound ∷ Err NotFound ∷ Ok (record { route = OwnPage page.Style; length = 0 }) ∷ Ok (record { route = OwnPage page.Program; length = 0 })
+    ∷ Err (MethodNotAllowed (Only Get)) ∷ Err NotFound ∷ []
 unfolding rows
 route_of_the_page = refl
 
 -- whoever has which key, nothing is asked of it
-pub page_for_everybody : (who : List ℕ → Option Actor) → outcome_of who (head (codes "GET") (codes "/") []) (codes "x") ≡ Err Page
+pub page_for_everybody : (who : List ℕ → Option Actor) → outcome_of who (head (codes "GET") (codes "/") []) (codes "x") ≡ Err (Page page.Document false)
 unfolding rows
 page_for_everybody who = refl
+
+-- who holds any tag holds the part as it is
+pub page_that_is_held : (who : List ℕ → Option Actor)
+    → outcome_of who (head (codes "GET") (codes "/slotplan.css") ((codes "If-None-Match", codes "*") ∷ [])) [] ≡ Err (Page page.Style true)
+unfolding rows
+page_that_is_held who = refl
+
+-- ---- conditions
+
+pub elements_of_a_list :
+    map elements (codes "\"a\"" ∷ codes " \"a\" ,\t W/\"b\"\t,," ∷ [] ∷ codes "a b , *" ∷ [])
+    ≡ (codes "\"a\"" ∷ []) ∷ (codes "\"a\"" ∷ codes "W/\"b\"" ∷ [] ∷ [] ∷ []) ∷ ([] ∷ []) ∷ (codes "a b" ∷ codes "*" ∷ []) ∷ []
+unfolding rows
+elements_of_a_list = refl
+
+-- a tag that is listed, weak or not, in any of the fields; or `*`; and none that is like it
+pub conditions :
+    map (none_matches (codes "\"a\"")) (
+    [] ∷ (codes "\"a\"" ∷ []) ∷ (codes "W/\"a\"" ∷ []) ∷ (codes "\"b\"" ∷ codes "\"c\" ,\"a\"" ∷ []) ∷ (codes "\"b\", *" ∷ []) ∷ (codes "\"A\"" ∷ [])
+    ∷ (codes "a" ∷ []) ∷ (codes "w/\"a\"" ∷ []) ∷ (codes "W/W/\"a\"" ∷ []) ∷ (codes "\"a\"\"b\"" ∷ []) ∷ (codes "W/*" ∷ []) ∷ []
+    )
+    ≡ true ∷ false ∷ false ∷ false ∷ false ∷ true ∷ true ∷ true ∷ true ∷ true ∷ true ∷ []
+unfolding rows
+conditions = refl
 
 pub route_of_room : route_of (codes "/v1/variants/v/frames/f/room/4") ≡ Some (report (Room named.Frame named.Repetition))
 unfolding rows
@@ -143,10 +173,10 @@ unfolding rows
 no_routes = refl
 
 pub operations :
-    operation_by (Deliver (purpose.Import named.Label)) (codes "/v1/variants/v1/imports/a") (codes "x")
-    ∷ operation_by (of_variant Schedule) (codes "/v1/variants/v1/schedule") []
-    ∷ operation_by (of_variant (Layout named.Frame)) (codes "/v1/variants/v1/frames/f1/layout") []
-    ∷ operation_by (Picture false) (codes "/v1/variants/v1/picture") [] ∷ operation_by (Picture true) (codes "/v1/variants/v2/since/v1/picture") []
+    operation_by (Deliver (purpose.Import named.Label)) (codes "/v1/variants/v1/imports/a") [] (codes "x")
+    ∷ operation_by (of_variant Schedule) (codes "/v1/variants/v1/schedule") [] []
+    ∷ operation_by (of_variant (Layout named.Frame)) (codes "/v1/variants/v1/frames/f1/layout") [] []
+    ∷ operation_by (Picture false) (codes "/v1/variants/v1/picture") [] [] ∷ operation_by (Picture true) (codes "/v1/variants/v2/since/v1/picture") [] []
     ∷ []
     ≡ Ok (operation.Request (request.Deliver (codes "v1") (purpose.Import (codes "a")) (codes "x"))) ∷ Ok (operation.Request (request.Query (OfVariant (codes "v1") Schedule)))
     ∷ Ok (operation.Request (request.Query (OfVariant (codes "v1") (Layout (codes "f1"))))) ∷ Ok (operation.Picture (codes "v1") None)
@@ -155,9 +185,9 @@ unfolding rows
 operations = refl
 
 pub operations_of_rows :
-    operation_by (Deliver (purpose.Replacement false)) (codes "/v1/variants/v1/rows") (codes "x")
-    ∷ operation_by (of_variant (Room named.Frame named.Repetition)) (codes "/v1/variants/v1/frames/f1/room/0000000004") []
-    ∷ operation_by (of_variant (Export header.Signals named.Part)) (codes "/v1/variants/v1/exports/signals/4294967295") []
+    operation_by (Deliver (purpose.Replacement false)) (codes "/v1/variants/v1/rows") [] (codes "x")
+    ∷ operation_by (of_variant (Room named.Frame named.Repetition)) (codes "/v1/variants/v1/frames/f1/room/0000000004") [] []
+    ∷ operation_by (of_variant (Export header.Signals named.Part)) (codes "/v1/variants/v1/exports/signals/4294967295") [] []
     ∷ []
     ≡ Ok (operation.Request (request.Deliver (codes "v1") (purpose.Replacement false) (codes "x")))
     ∷ Ok (operation.Request (request.Query (OfVariant (codes "v1") (Room (codes "f1") 4))))
@@ -168,7 +198,7 @@ operations_of_rows = refl
 
 -- where a number is none, the request is refused
 pub no_numbers :
-    map (λ text. operation_by (of_variant (Export header.Frames named.Part)) (codes "/v1/variants/v1/exports/frames/" ++ text) [])
+    map (λ text. operation_by (of_variant (Export header.Frames named.Part)) (codes "/v1/variants/v1/exports/frames/" ++ text) [] [])
     (codes "x" ∷ codes "-1" ∷ codes "+1" ∷ codes "1.0" ∷ codes "4294967296" ∷ codes "00000000000" ∷ [])
     ≡ Err (Refused refusal.BadText) ∷ Err (Refused refusal.BadText) ∷ Err (Refused refusal.BadText) ∷ Err (Refused refusal.BadText) ∷ Err (Refused refusal.BadText) ∷ Err (Refused refusal.BadText) ∷ []
 unfolding rows
@@ -229,10 +259,26 @@ unfolding rows
 tries = refl
 
 pub operations_of_tries :
-    operation_by (Deliver (purpose.Trial manner.Import)) (codes "/v1/variants/v1/tries") (codes "x") ∷ operation_by (Deliver (purpose.Trial (manner.Replace false))) (codes "/v1/variants/v1/tries") (codes "x") ∷ []
+    operation_by (Deliver (purpose.Trial manner.Import)) (codes "/v1/variants/v1/tries") [] (codes "x") ∷ operation_by (Deliver (purpose.Trial (manner.Replace false))) (codes "/v1/variants/v1/tries") [] (codes "x") ∷ []
     ≡ Ok (operation.Request (request.Deliver (codes "v1") (purpose.Trial manner.Import) (codes "x"))) ∷ Ok (operation.Request (request.Deliver (codes "v1") (purpose.Trial (manner.Replace false)) (codes "x"))) ∷ []
 unfolding rows
 operations_of_tries = refl
+
+-- a file of wishes: beside what is there where it is posted, and as a replacement where it is put
+pub proposals :
+    map plan_of (
+    head (codes "POST") (codes "/v1/variants/v1/proposals") (length_field (codes "7") ∷ []) ∷ head (codes "PUT") (codes "/v1/variants/v1/proposals") (length_field (codes "7") ∷ [])
+    ∷ head (codes "PUT") (codes "/v1/variants/v1/proposals") [] ∷ head (codes "GET") (codes "/v1/variants/v1/proposals") [] ∷ []
+    )
+    ≡ Ok (record { route = Deliver (purpose.Proposal false); length = 7 }) ∷ Ok (record { route = Deliver (purpose.Proposal true); length = 7 }) ∷ Err LengthRequired ∷ Err (MethodNotAllowed (Either Post Put)) ∷ []
+unfolding rows
+proposals = refl
+
+pub operations_of_proposals :
+    operation_by (Deliver (purpose.Proposal false)) (codes "/v1/variants/v1/proposals") [] (codes "x") ∷ operation_by (Deliver (purpose.Proposal true)) (codes "/v1/variants/v1/proposals") [] (codes "x") ∷ []
+    ≡ Ok (operation.Request (request.Deliver (codes "v1") (purpose.Proposal false) (codes "x"))) ∷ Ok (operation.Request (request.Deliver (codes "v1") (purpose.Proposal true) (codes "x"))) ∷ []
+unfolding rows
+operations_of_proposals = refl
 
 -- a file that is sent, or tried, as the whole: by PUT alone
 pub wholes :
@@ -245,7 +291,7 @@ unfolding rows
 wholes = refl
 
 pub operations_of_wholes :
-    operation_by (Deliver (purpose.Replacement true)) (codes "/v1/variants/v1/rows/whole") (codes "x") ∷ operation_by (Deliver (purpose.Trial (manner.Replace true))) (codes "/v1/variants/v1/tries/whole") (codes "x") ∷ []
+    operation_by (Deliver (purpose.Replacement true)) (codes "/v1/variants/v1/rows/whole") [] (codes "x") ∷ operation_by (Deliver (purpose.Trial (manner.Replace true))) (codes "/v1/variants/v1/tries/whole") [] (codes "x") ∷ []
     ≡ Ok (operation.Request (request.Deliver (codes "v1") (purpose.Replacement true) (codes "x"))) ∷ Ok (operation.Request (request.Deliver (codes "v1") (purpose.Trial (manner.Replace true)) (codes "x"))) ∷ []
 unfolding rows
 operations_of_wholes = refl

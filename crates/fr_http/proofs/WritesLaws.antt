@@ -39,7 +39,7 @@ module _ {W : Type 0} (writes : Writes W) (flushes : Flushes W) where
   -- where no head came
   pub unreceived : (input left : Option (List ℕ)) (unasked : Unasked) (last : W) → HasReceived input left (Err unasked) → MayFailAsking writes flushes unasked last
   unreceived input left (Engine rejection) last has = tt
-  unreceived input left Page last has = tt
+  unreceived input left (Page part held) last has = tt
   unreceived input left (Explained word) last has = tt
   unreceived input left (Refused refusal) last has = tt
   unreceived input left (Fault Truncated) last has = tt
@@ -59,25 +59,25 @@ module _ {W : Type 0} (writes : Writes W) (flushes : Flushes W) where
   -- what is no fault is none of writing
   unfailed : (unasked : Unasked) (last : W) → is_fault unasked ≡ false → MayFailAsking writes flushes unasked last
   unfailed (Engine rejection) last none = tt
-  unfailed Page last none = tt
+  unfailed (Page part held) last none = tt
   unfailed (Explained word) last none = tt
   unfailed (Refused refusal) last none = tt
   unfailed (Fault fault) last none = absurd (true≢false none)
 
   -- where the text is no request
-  pub unmade : (route : Route) (path body : List ℕ) (unasked : Unasked) (last : W) → MakesOperation route path body (Err unasked) → MayFailAsking writes flushes unasked last
-  unmade route path body unasked last (inl lacks) = subst (λ u. MayFailAsking writes flushes u last) (sym lacks) tt
-  unmade route path body unasked last (inr none) = unfailed unasked last (why_not route path body unasked none)
+  pub unmade : (route : Route) (path : List ℕ) (fields : List (List ℕ × List ℕ)) (body : List ℕ) (unasked : Unasked) (last : W) → MakesOperation route path fields body (Err unasked) → MayFailAsking writes flushes unasked last
+  unmade route path fields body unasked last (inl lacks) = subst (λ u. MayFailAsking writes flushes u last) (sym lacks) tt
+  unmade route path fields body unasked last (inr none) = unfailed unasked last (why_not route path fields body unasked none)
 
 -- a fault of reading is no cause that a route asks nothing
-pub unread : {R : Type 0} (reads : Reads R) (route : Route) (path body : List ℕ) (unasked : Unasked) (new : R) (left : ℕ) → MakesOperation route path body (Err unasked)
+pub unread : {R : Type 0} (reads : Reads R) (route : Route) (path : List ℕ) (fields : List (List ℕ × List ℕ)) (body : List ℕ) (unasked : Unasked) (new : R) (left : ℕ) → MakesOperation route path fields body (Err unasked)
     → MayEndAsking reads unasked new left
-unread reads route path body unasked new left (inl lacks) = subst (λ u. MayEndAsking reads u new left) (sym lacks) tt
-unread reads route path body unasked new left (inr none) = unended unasked (why_not route path body unasked none)
+unread reads route path fields body unasked new left (inl lacks) = subst (λ u. MayEndAsking reads u new left) (sym lacks) tt
+unread reads route path fields body unasked new left (inr none) = unended unasked (why_not route path fields body unasked none)
   where
     unended : (u : Unasked) → is_fault u ≡ false → MayEndAsking reads u new left
     unended (Engine rejection) none = tt
-    unended Page none = tt
+    unended (Page part held) none = tt
     unended (Explained word) none = tt
     unended (Refused refusal) none = tt
     unended (Fault fault) none = absurd (true≢false none)

@@ -59,7 +59,8 @@ abbrev pub Takes : Standing → List ℕ → List ℕ → Option (List ℕ) → 
 Takes stands bytes written left (Ok exchange) = IsInterim bytes written × InSound stands (λ c b. IsOutcome (actor_of c b) bytes written (Ok exchange))
 Takes stands bytes written left (Err (Engine rejection)) =
     IsInterim bytes written × InSound stands (λ c b. IsOutcome (actor_of c b) bytes written (Err (Engine rejection)))
-Takes stands bytes written left (Err Page) = IsInterim bytes written × InSound stands (λ c b. IsOutcome (actor_of c b) bytes written (Err Page))
+Takes stands bytes written left (Err (Page part held)) =
+    IsInterim bytes written × InSound stands (λ c b. IsOutcome (actor_of c b) bytes written (Err (Page part held)))
 Takes stands bytes written left (Err (Explained word)) =
     IsInterim bytes written × InSound stands (λ c b. IsOutcome (actor_of c b) bytes written (Err (Explained word)))
 Takes stands bytes written left (Err (Refused refusal)) =

@@ -28,7 +28,8 @@ use Rattle.fr_guide.specs.RefusalNumbers.{meant_word}
 use Rattle.fr_guide.specs.declared.advice.Subject.{Subject}
 use Rattle.fr_http.specs.Head.{BeginsWith, said}
 use Rattle.fr_http.specs.Outcome.{IsOutcome, asked_before, continue_reply, interim, is_ask}
-use Rattle.fr_http.specs.Reply.{Reply, advice_reply, answer_reply, engine_reply, explanation_reply, page_reply, planner_reply, print}
+use Rattle.fr_http.specs.Reply.{Reply, advice_reply, answer_reply, engine_reply, explanation_reply, page_reply, print}
+use Rattle.fr_http.specs.PageReply.{planner_reply}
 use Rattle.fr_http.specs.declared.exchange.Exchange.{Exchange}
 use Rattle.fr_http.specs.declared.exchange.Exchange.TheVariants as exchange
 use Rattle.fr_http.specs.declared.fault.LinkFault.{LinkFault}
@@ -93,7 +94,7 @@ AdvisesOn subject text reply = (lines : List ℕ) × IsAdvice subject text lines
 abbrev pub IsReplyWithout : Unasked → Reply → Type 0
 IsReplyWithout (Explained word) reply = IsExplanation word reply
 IsReplyWithout (Engine rejection) reply = reply ≡ engine_reply rejection
-IsReplyWithout Page reply = reply ≡ planner_reply
+IsReplyWithout (Page part held) reply = reply ≡ planner_reply part held
 IsReplyWithout (Refused refusal) reply = reply ≡ answer_reply Post (answer.Refused refusal)
 IsReplyWithout (Fault fault) reply = ⊥
 

@@ -1,5 +1,7 @@
 pub mod Head
 pub mod Received
+pub mod Conditions
+pub mod Listed
 pub mod Routes
 pub mod Outcome
 pub mod Planning
@@ -10,6 +12,7 @@ pub mod Operations
 pub mod Calls
 pub mod Complete
 pub mod Reply
+pub mod PageReply
 pub mod Replying
 pub mod Exchanges
 pub mod Connection

@@ -37,9 +37,9 @@ CountsPart path name result = MatchResult result
     (λ unasked. (unasked ≡ Refused BadText) × (number_in name path ≡ None))
 
 -- The operation is the route's, or that is why the route asks nothing; or memory was wanting.
-abbrev pub MakesOperation : Route → List ℕ → List ℕ → Result Operation Unasked → Type 0
-MakesOperation route path body (Ok operation) = operation_by route path body ≡ Ok operation
-MakesOperation route path body (Err unasked) = (unasked ≡ Fault (NoMemory false)) ⊎ (operation_by route path body ≡ Err unasked)
+abbrev pub MakesOperation : Route → List ℕ → List (List ℕ × List ℕ) → List ℕ → Result Operation Unasked → Type 0
+MakesOperation route path fields body (Ok operation) = operation_by route path fields body ≡ Ok operation
+MakesOperation route path fields body (Err unasked) = (unasked ≡ Fault (NoMemory false)) ⊎ (operation_by route path fields body ≡ Err unasked)
 
 -- In a sound book this actor has the head's key, or nobody has it.
 abbrev pub FindsActor : Standing → HeadData → Option Actor → Type 0

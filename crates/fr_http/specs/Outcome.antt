@@ -124,7 +124,7 @@ unfoldable pub outcome_of : (List ℕ → Option Actor) → HeadData → List �
 outcome_of who head rest = do
   plan ← by_engine (plan_of head)
   body ← front plan.length rest or Fault Truncated
-  operation ← operation_by plan.route (path_of head.target) body
+  operation ← operation_by plan.route (path_of head.target) head.fields body
   actor ← holder who (key_of head) or Refused UnknownKey
   Ok (asked_by actor (method_of plan.route) operation)
 

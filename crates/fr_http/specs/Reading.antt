@@ -32,7 +32,7 @@ pub record Fails (bytes : List ℕ) (unasked : Unasked) : Type 0 where
 -- a fault came that says nothing of the bytes.
 abbrev pub FailsToReceive : List ℕ → Option (List ℕ) → Unasked → Type 0
 FailsToReceive bytes left (Engine rejection) = Fails bytes (Engine rejection)
-FailsToReceive bytes left Page = ⊥
+FailsToReceive bytes left (Page part held) = ⊥
 FailsToReceive bytes left (Explained _) = ⊥
 FailsToReceive bytes left (Refused _) = ⊥
 FailsToReceive bytes left (Fault Truncated) = Fails bytes (Fault Truncated) × IsAtEnd left

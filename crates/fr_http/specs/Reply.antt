@@ -1,5 +1,5 @@
--- Reply: the bytes of a reply: one that the engine gives itself, the planner's page and what is
--- explained among them, one with a picture's page or with advice, or one to an answer of the register.
+-- Reply: the bytes of a reply: one that the engine gives itself, what is explained among them, one
+-- with a picture's page or with advice, or one to an answer of the register.
 use Rattle.std.specs.Prelude.{ℕ, Bool, true, false, ◌==◌, List, [], ◌++◌, length, codes, decimal, unwrap_or, if◌then◌else◌}
 use Rattle.http.specs.StatusCode.{reason_phrase}
 use Rattle.fr_base.specs.Refusals.{status_of}
@@ -7,7 +7,6 @@ use Rattle.fr_base.specs.declared.answer.Answer.{Answer}
 use Rattle.fr_base.specs.declared.answer.Answer.TheVariants.{Refused, RefusedRow, Report}
 use Rattle.fr_base.specs.declared.answer.ReportRows.TheVariants.{FrameRecords, PlacementRecords, SignalRecords}
 use Rattle.fr_text.specs.AnswerText.{report_of, text_of}
-use Rattle.fr_page.specs.Page.{page_text, policy_text}
 use Rattle.fr_http.specs.Routes.{text_of_allowed}
 use Rattle.fr_http.specs.declared.fault.Rejection.{Rejection}
 use Rattle.fr_http.specs.declared.fault.Rejection.TheVariants.{BadRequest, NotFound, MethodNotAllowed, LengthRequired, PayloadTooLarge, HeadTooLarge, NotImplemented}
@@ -64,26 +63,6 @@ engine_reply rejection = record {
   status = status_of_rejection rejection;
   fields = field_line (codes "content-length") (codes "0") ++ allow rejection;
   body = [];
-}
-
--- what a browser may do with the planner's page, whom it tells of it, and that it asks each time whether it has changed
-unfoldable pub planner_fields : List ℕ
-planner_fields =
-    field_line (codes "content-security-policy") policy_text
-    ++ field_line (codes "x-content-type-options") (codes "nosniff")
-    ++ field_line (codes "referrer-policy") (codes "no-referrer")
-    ++ field_line (codes "cross-origin-opener-policy") (codes "same-origin")
-    ++ field_line (codes "cache-control") (codes "no-cache")
-
--- the reply that has the planner's page, which is the same for everybody
-unfoldable pub planner_reply : Reply
-planner_reply = record {
-  status = 200;
-  fields =
-      field_line (codes "content-type") (codes "text/html; charset=utf-8")
-      ++ field_line (codes "content-length") (decimal (length page_text))
-      ++ planner_fields;
-  body = page_text;
 }
 
 -- ---- the register's answers

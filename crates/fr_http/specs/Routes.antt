@@ -1,5 +1,5 @@
 -- Route: what a path asks for, by `matchit`, with its names and numbers.
-use Rattle.std.specs.Prelude.{ℕ, ◌==◌, Bool, true, false, List, [], ◌∷◌, ◌++◌, codes, Option, Some, None, Result, Ok, Err, if◌then◌else◌, unwrap_or}
+use Rattle.std.specs.Prelude.{ℕ, ◌==◌, not, Bool, true, false, List, [], ◌∷◌, ◌++◌, codes, Option, Some, None, Result, Ok, Err, if◌then◌else◌, unwrap_or}
 use Rattle.std.specs.List.{before_first, fold, list_all, slice_get, slice_split}
 use Rattle.std.specs.Option.{option_map}
 use Rattle.std.specs.Result.{result_ok}
@@ -30,6 +30,11 @@ use Rattle.fr_text.specs.RequestText.{request_of}
 use Rattle.fr_guide.specs.RefusalNumbers.{meant_word}
 use Rattle.fr_guide.specs.Topics.{is_explained}
 use Rattle.fr_guide.specs.declared.advice.Subject.TheVariants as subject
+use Rattle.fr_page.specs.Page.{text_of}
+use Rattle.fr_page.specs.declared.Part.{Part}
+use Rattle.fr_page.specs.declared.Part.TheVariants as page
+use Rattle.fr_http.specs.Conditions.{none_matches, tag_of}
+use Rattle.fr_http.specs.Head.{values}
 use Rattle.fr_http.specs.declared.exchange.Operation.{Operation}
 use Rattle.fr_http.specs.declared.exchange.Operation.TheVariants as operation
 use Rattle.fr_http.specs.declared.fault.Unasked.{Unasked}
@@ -57,13 +62,15 @@ method_of_delivery (purpose.Import label) = Post
 method_of_delivery (purpose.Replacement whole) = Put
 method_of_delivery (purpose.Trial (manner.Replace whole)) = Put
 method_of_delivery (purpose.Trial manner.Import) = Post
+method_of_delivery (purpose.Proposal true) = Put
+method_of_delivery (purpose.Proposal false) = Post
 
 abbrev pub method_of : Route → Method
 method_of Commands = Post
 method_of (Deliver how) = method_of_delivery how
 method_of (Query asked) = Get
 method_of (Picture since) = Get
-method_of Page = Get
+method_of (Page part) = Get
 method_of Explanations = Get
 method_of Explanation = Get
 method_of (Advice on) = Post
@@ -110,7 +117,9 @@ export header = report (Export header named.Part)
 -- what each path leads to, by the pattern that it matches
 unfoldable pub table : List (List ℕ × Resource)
 table =
-    (codes "/", One Page)
+    (codes "/", One (Page page.Document))
+    ∷ (codes "/slotplan.css", One (Page page.Style))
+    ∷ (codes "/slotplan.js", One (Page page.Program))
     ∷ (codes "/v1/explanations", One Explanations)
     ∷ (codes "/v1/explanations/{word}", One Explanation)
     ∷ (codes "/v1/checks/rows", One (Advice subject.Rows))
@@ -135,6 +144,7 @@ table =
     ∷ (codes "/v1/variants/{variant}/rows/whole", One (Deliver (purpose.Replacement true)))
     ∷ (codes "/v1/variants/{variant}/tries", Two (Deliver (purpose.Trial manner.Import)) (Deliver (purpose.Trial (manner.Replace false))))
     ∷ (codes "/v1/variants/{variant}/tries/whole", One (Deliver (purpose.Trial (manner.Replace true))))
+    ∷ (codes "/v1/variants/{variant}/proposals", Two (Deliver (purpose.Proposal false)) (Deliver (purpose.Proposal true)))
     ∷ (codes "/v1/variants/{variant}/picture", One (Picture false))
     ∷ (codes "/v1/variants/{variant}/since/{from}/picture", One (Picture true))
     ∷ []
@@ -204,16 +214,20 @@ asked_or_refused None = Err (Refused BadText)
 abbrev pub other_variant : Bool → List ℕ → Option (List ℕ)
 other_variant since path = if since then Some (part named.From path) else None
 
+-- whether whoever sends these fields holds the part of the page as it is
+abbrev pub is_held : Part → List (List ℕ × List ℕ) → Bool
+is_held part fields = not (none_matches (tag_of (text_of part)) (values (codes "if-none-match") fields))
+
 -- What a route asks for, or why it asks nothing: the planner's page and what is explained are the engine's own. Its names
 -- and numbers are parts of the path, and the body is a command's text or a file. Where a part is not
 -- a number, the route asks for nothing.
-unfoldable pub operation_by : Route → List ℕ → List ℕ → Result Operation Unasked
-operation_by Page path body = Err OwnPage
-operation_by Explanations path body = Err (Explained None)
-operation_by Explanation path body = Err (Explained (Some (part named.Word path)))
-operation_by (Advice on) path body = Ok (operation.Advice on body)
-operation_by Commands path body = asked_or_refused (request_of body)
-operation_by (Deliver how) path body = Ok (operation.Request (request.Deliver (part named.Variant path) (purpose_with (λ name. part name path) how) body))
-operation_by (Query asked) path body =
+unfoldable pub operation_by : Route → List ℕ → List (List ℕ × List ℕ) → List ℕ → Result Operation Unasked
+operation_by (Page part) path fields body = Err (OwnPage part (is_held part fields))
+operation_by Explanations path fields body = Err (Explained None)
+operation_by Explanation path fields body = Err (Explained (Some (part named.Word path)))
+operation_by (Advice on) path fields body = Ok (operation.Advice on body)
+operation_by Commands path fields body = asked_or_refused (request_of body)
+operation_by (Deliver how) path fields body = Ok (operation.Request (request.Deliver (part named.Variant path) (purpose_with (λ name. part name path) how) body))
+operation_by (Query asked) path fields body =
     asked_or_refused (option_map request.Query (query_by (λ name. part name path) (λ name. number_in name path) asked))
-operation_by (Picture since) path body = Ok (operation.Picture (part named.Variant path) (other_variant since path))
+operation_by (Picture since) path fields body = Ok (operation.Picture (part named.Variant path) (other_variant since path))

@@ -2,8 +2,10 @@
 ghost use Rattle.std.specs.Prelude.{◌≡◌, IfOk};
 ghost use Rattle.fr_http.specs.Operations.{FindsActor, MakesCommand, MakesOperation, unasked_by};
 ghost use Rattle.fr_http.specs.Outcome.{asked_by, is_ask};
-ghost use Rattle.fr_http.specs.Routes.{other_variant, part};
+ghost use Rattle.fr_http.specs.Routes.{is_held, other_variant, part};
 
+use crate::conditions::none_matches;
+use crate::engine::Engine;
 use crate::fault::{LinkFault, Unasked};
 use crate::head::Head;
 use crate::method::Method;
@@ -12,6 +14,7 @@ use crate::plan::Plan;
 use crate::routes::{Route, part};
 use fr_base::{Actor, Ask, Body, Desk, NoMemory, QueryReader, Refusal, Request, Text};
 use fr_guide::Subject;
+use fr_page::Part;
 use fr_text::{read_command, read_number};
 use std::alloc::Global;
 use std::str;
@@ -84,21 +87,26 @@ impl Operation {
     }
 }
 
-/// What a route asks for, with the body that came with the request, or why it asks nothing.
+/// What a route asks for, with the fields and the body that came with the request, or why it asks nothing.
 #[tactic(auto, unfolding(crate::specs::Routes::operation_by))]
 pub(crate) fn asked_operation(
-    alloc: Global,
+    engine: &Engine,
     plan: &Plan<'_>,
+    head: &Head<'_>,
     body: &[u8],
 ) -> Result<Operation, Unasked>
-    ensures { MakesOperation plan.now.route plan.now.path.now body.now result }
+    ensures { MakesOperation plan.now.route plan.now.path.now head.now.0.fields body.now result }
 {
+    let alloc = engine.alloc();
     let words = PathWords {
         alloc,
         path: plan.path,
     };
     match plan.route {
-        Route::Page => Err(Unasked::Page),
+        Route::Page(part) => Err(Unasked::Page {
+            part,
+            held: is_held(engine, part, head),
+        }),
         Route::Explanations => Err(Unasked::Explained { word: None }),
         Route::Explanation => Err(Unasked::Explained {
             word: Some(copy_part(alloc, plan.path, PathName::Word)?),
@@ -119,6 +127,13 @@ pub(crate) fn asked_operation(
             since: other_variant(alloc, plan.path, since)?,
         }),
     }
+}
+
+// Whether whoever sends this head holds the part of the page as it is.
+fn is_held(engine: &Engine, part: Part, head: &Head<'_>) -> bool
+    ensures { result ≡ is_held part head.now.0.fields }
+{
+    !none_matches(head.values("if-none-match"), engine.tag(part))
 }
 
 // The other variant of a path that names one.

@@ -2,6 +2,7 @@
 //! or a fault ends the connection.
 use crate::method::Allowed;
 use fr_base::{NoMemory, Refusal, Text};
+use fr_page::Part;
 
 /// The answers that the engine gives itself.
 #[derive(Clone, Copy, PartialEq, Eq)]
@@ -44,8 +45,8 @@ pub enum LinkFault {
 pub enum Unasked {
     /// The engine answers itself.
     Engine(Rejection),
-    /// The planner's page is asked for, which is the engine's own.
-    Page,
+    /// A part of the planner's page is asked for, which is the engine's own. Who asks may hold it as it is.
+    Page { part: Part, held: bool },
     /// The meaning of a word or number is asked for, or a line on each word that is explained.
     Explained { word: Option<Text> },
     /// The request is refused: its text is not a request, or its key is nobody's.

@@ -3,6 +3,7 @@
 #![tactic(auto)]
 
 mod body;
+mod conditions;
 mod engine;
 mod exchange;
 mod exchange_reply;
@@ -12,6 +13,8 @@ mod input;
 mod laws;
 mod method;
 mod need;
+mod page_reply;
+mod page_tags;
 mod path_name;
 mod plan;
 mod receive;

@@ -1,7 +1,7 @@
 //! Writes the bytes of a reply.
 ghost use Rattle.std.specs.Prelude.{◌≡◌, ◌++◌, IfOk, OnOk};
 ghost use Rattle.fr_base.specs.Refusals.{status_of};
-ghost use Rattle.fr_http.specs.Reply.{advice_reply, allow, answer_reply, authenticate, body_of, closing, engine_reply, explanation_reply, field_line, is_file, is_report, page_reply, phrase_of, planner_fields, planner_reply, reply_with, status_line, status_of_answer, status_of_rejection, type_of};
+ghost use Rattle.fr_http.specs.Reply.{advice_reply, allow, answer_reply, authenticate, body_of, closing, engine_reply, explanation_reply, field_line, is_file, is_report, page_reply, phrase_of, reply_with, status_line, status_of_answer, status_of_rejection, type_of};
 ghost use Rattle.fr_http.specs.Routes.{text_of_allowed};
 ghost use Rattle.fr_http.specs.Replying.{IsReply, RepliesExplained, head_with};
 
@@ -9,7 +9,6 @@ use crate::fault::Rejection;
 use crate::method::{Allowed, Method};
 use fr_base::{Answer, NoMemory, Refusal, ReportRows, Text};
 use fr_guide::{explanation, meant_word, overview};
-use fr_page::{planner_page, policy};
 use fr_text::{write_answer, write_lines};
 use http::StatusCode;
 use itoa::Buffer;
@@ -84,41 +83,6 @@ fn status_of_rejection(rejection: Rejection) -> StatusCode
         Rejection::HeadTooLarge => StatusCode::REQUEST_HEADER_FIELDS_TOO_LARGE,
         Rejection::NotImplemented => StatusCode::NOT_IMPLEMENTED,
     }
-}
-
-/// The reply that has the planner's page.
-#[tactic(auto, unfolding(crate::specs::Reply::planner_reply))]
-pub(crate) fn planner_reply(alloc: Global) -> Result<ReplyText, NoMemory>
-    ensures { IfOk result (λ reply. IsReply planner_reply reply) }
-{
-    let page = planner_page();
-    let mut bytes = Vec::new(alloc);
-    push_status(StatusCode::OK, &mut bytes)?;
-    push_field("content-type", "text/html; charset=utf-8", &mut bytes)?;
-    push_field(
-        "content-length",
-        Buffer::new().format(page.len()),
-        &mut bytes,
-    )?;
-    push_planner_fields(&mut bytes)?;
-    push_close(&mut bytes)?;
-    push(page, &mut bytes)?;
-    Ok(ReplyText {
-        status: StatusCode::OK.as_u16(),
-        bytes,
-    })
-}
-
-// Appends what a browser may do with the planner's page.
-#[tactic(auto, unfolding(crate::specs::Reply::planner_fields))]
-fn push_planner_fields(out: &mut Vec<u8>) -> Result<(), NoMemory>
-    ensures { OnOk result (out.new.items ≡ out.old.items ++ planner_fields) }
-{
-    push_field("content-security-policy", policy(), out)?;
-    push_field("x-content-type-options", "nosniff", out)?;
-    push_field("referrer-policy", "no-referrer", out)?;
-    push_field("cross-origin-opener-policy", "same-origin", out)?;
-    push_field("cache-control", "no-cache", out)
 }
 
 /// The reply that says what the word means, or the refusal of this number; that there is nothing
@@ -281,8 +245,8 @@ fn push_authenticate(status: StatusCode, out: &mut Vec<u8>) -> Result<(), NoMemo
     }
 }
 
-// Appends the first line of a reply.
-fn push_status(status: StatusCode, out: &mut Vec<u8>) -> Result<(), NoMemory>
+/// Appends the first line of a reply.
+pub(crate) fn push_status(status: StatusCode, out: &mut Vec<u8>) -> Result<(), NoMemory>
     ensures { OnOk result (out.new.items ≡ out.old.items ++ status_line status) }
 {
     push("HTTP/1.1 ", out)?;
@@ -302,8 +266,8 @@ fn phrase(status: StatusCode) -> &'static str
     }
 }
 
-// Appends a field's line.
-fn push_field(name: &str, value: &str, out: &mut Vec<u8>) -> Result<(), NoMemory>
+/// Appends a field's line.
+pub(crate) fn push_field(name: &str, value: &str, out: &mut Vec<u8>) -> Result<(), NoMemory>
     ensures { OnOk result (out.new.items ≡ out.old.items ++ field_line name.now value.now) }
 {
     push(name, out)?;
@@ -312,8 +276,8 @@ fn push_field(name: &str, value: &str, out: &mut Vec<u8>) -> Result<(), NoMemory
     push("\r\n", out)
 }
 
-// Appends the last field's line, and the empty line behind the fields.
-fn push_close(out: &mut Vec<u8>) -> Result<(), NoMemory>
+/// Appends the last field's line, and the empty line behind the fields.
+pub(crate) fn push_close(out: &mut Vec<u8>) -> Result<(), NoMemory>
     ensures { OnOk result (out.new.items ≡ out.old.items ++ closing) }
 {
     push_field("connection", "close", out)?;

@@ -10,13 +10,14 @@ use crate::method::{Allowed, Method};
 use crate::path_name::PathName;
 use fr_base::{Header, Inventory, Manner, Purpose, Query, Report};
 use fr_guide::{Subject, explains, meant_word};
+use fr_page::Part;
 use std::str;
 
 /// A route: what a path asks for.
 #[derive(Clone, Copy, PartialEq, Eq)]
 pub enum Route {
-    /// The planner's page, which is the same for everybody.
-    Page,
+    /// A part of the planner's page, which is the same for everybody.
+    Page(Part),
     /// A line on each word that is explained.
     Explanations,
     /// What the word or number of the path means.
@@ -25,7 +26,7 @@ pub enum Route {
     Advice(Subject),
     /// The body is a request.
     Commands,
-    /// The body is a file of rows that is delivered. The label of an import stands in the path.
+    /// The body is a file of rows or wishes that is delivered. The label of an import stands in the path.
     Deliver(Purpose<PathName>),
     /// A query. Each name and number in it stands in the path.
     Query(Query<PathName, PathName>),
@@ -41,7 +42,7 @@ impl Route {
         match self {
             Route::Advice(_) | Route::Commands => Method::Post,
             Route::Deliver(how) => method_of_delivery(how),
-            Route::Page
+            Route::Page(_)
             | Route::Explanations
             | Route::Explanation
             | Route::Query(_)
@@ -57,7 +58,7 @@ impl Route {
     }
 }
 
-// The method by which a file of rows is delivered: an import adds, and a replacement puts rows in place of others.
+// The method by which a file is delivered: an import adds, and a replacement puts rows in place of others.
 fn method_of_delivery(how: Purpose<PathName>) -> Method
     ensures { result ≡ method_of_delivery how }
 {
@@ -65,11 +66,13 @@ fn method_of_delivery(how: Purpose<PathName>) -> Method
         Purpose::Import { .. }
         | Purpose::Trial {
             manner: Manner::Import,
-        } => Method::Post,
+        }
+        | Purpose::Proposal { replace: false } => Method::Post,
         Purpose::Replacement { .. }
         | Purpose::Trial {
             manner: Manner::Replace { .. },
-        } => Method::Put,
+        }
+        | Purpose::Proposal { replace: true } => Method::Put,
     }
 }
 
@@ -213,16 +216,25 @@ fn trial(manner: Manner) -> Route
     Route::Deliver(Purpose::Trial { manner })
 }
 
+// The route for a file of wishes.
+fn proposal(replace: bool) -> Route
+    ensures { result ≡ Route.Deliver (Purpose.Proposal replace) }
+{
+    Route::Deliver(Purpose::Proposal { replace })
+}
+
 /// What each path leads to, by the pattern that it matches.
 #[tactic(auto, unfolding(crate::specs::Routes::table))]
-pub(crate) fn routes() -> [(&'static str, Resource); 27]
+pub(crate) fn routes() -> [(&'static str, Resource); 30]
     ensures { map (λ entry. (entry.0.now, entry.1)) result ≡ table }
 {
     use Resource::{One, Two};
     use Route::*;
 
     [
-        ("/", One(Page)),
+        ("/", One(Page(Part::Document))),
+        ("/slotplan.css", One(Page(Part::Style))),
+        ("/slotplan.js", One(Page(Part::Program))),
         ("/v1/explanations", One(Explanations)),
         ("/v1/explanations/{word}", One(Explanation)),
         ("/v1/checks/rows", One(Advice(Subject::Rows))),
@@ -291,6 +303,10 @@ pub(crate) fn routes() -> [(&'static str, Resource); 27]
             deliver(Purpose::Trial {
                 manner: Manner::Replace { whole: true },
             }),
+        ),
+        (
+            "/v1/variants/{variant}/proposals",
+            Two(proposal(false), proposal(true)),
         ),
         (
             "/v1/variants/{variant}/picture",

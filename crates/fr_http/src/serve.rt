@@ -16,9 +16,10 @@ use crate::fault::{LinkFault, Unasked};
 use crate::head::{Head, Values};
 use crate::input::{Input, MAX_READS};
 use crate::method::Method;
+use crate::page_reply::planner_reply;
 use crate::plan::{Plan, make_plan};
 use crate::receive::receive;
-use crate::reply::{ReplyText, answer_reply, engine_reply, explained_reply, planner_reply};
+use crate::reply::{ReplyText, answer_reply, engine_reply, explained_reply};
 use crate::source::Source;
 use fr_base::{Answer, Desk, NoMemory, Refusal};
 use fr_text::{Output, Sink, WriteFailed};
@@ -86,7 +87,7 @@ fn serve<R: Source, W: Sink, D: Desk>(
     match take(engine, input, output, desk) {
         Ok(exchange) => answer(alloc, &exchange, output, desk),
         Err(Unasked::Engine(rejection)) => send(engine_reply(alloc, rejection), output, false),
-        Err(Unasked::Page) => send(planner_reply(alloc), output, false),
+        Err(Unasked::Page { part, held }) => send(planner_reply(engine, part, held), output, false),
         Err(Unasked::Explained { word }) => send(
             explained_reply(alloc, word.as_ref()),
             output,
@@ -122,7 +123,7 @@ fn take<R: Source, W: Sink, D: Desk>(
     let plan = make_plan(engine, &head)?;
     invite(&head, &plan, output)?;
     let body = read_body(alloc, input, head.rest(), plan.length)?;
-    let operation = asked_operation(alloc, &plan, &body)?;
+    let operation = asked_operation(engine, &plan, &head, &body)?;
     let actor = actor(desk, &head).ok_or(Unasked::Refused(Refusal::UnknownKey))?;
     Ok(operation.asked_by(actor, plan.route.method()))
 }

@@ -8,12 +8,14 @@ use Rattle.fr_base.specs.Cluster.{Cluster}
 use Rattle.fr_base.specs.Book.{Kept, Variant, Book, own}
 use Rattle.fr_base.specs.ImportRows.{header_of_body, rows_of_body, all_rows_of_body, up_to_refused}
 use Rattle.fr_base.specs.Names.{same_text}
+use Rattle.fr_base.specs.Proposals.{proposal}
 use Rattle.fr_base.specs.Sound.{IsSound}
-use Rattle.fr_base.specs.Step.{Outcome, OwnRows, RefusedAt, at_line, deliver, fates_of, import, imported, replace, replaced, replace_rows as book_rows, tried, try, whole_of, with_freed}
+use Rattle.fr_base.specs.Wishes.{wishes_of_body}
+use Rattle.fr_base.specs.Step.{Outcome, OwnRows, RefusedAt, at_line, deliver, fates_of, import, imported, own_rows, propose, replace, replaced, replace_rows as book_rows, tried, try, whole_of, with_freed}
 use Rattle.fr_base.specs.declared.answer.Answer.{Answer}
 use Rattle.fr_base.specs.declared.answer.Answer.TheVariants.{Imported, Replaced, Report, RefusedRow}
 use Rattle.fr_base.specs.declared.answer.FateRow.{FateRow}
-use Rattle.fr_base.specs.declared.answer.ReportRows.TheVariants.{Fates}
+use Rattle.fr_base.specs.declared.answer.ReportRows.TheVariants.{Fates, Proposal as Proposed}
 use Rattle.fr_base.specs.declared.delivery.Delivery.{Delivery}
 use Rattle.fr_base.specs.declared.delivery.Manner.{Manner}
 use Rattle.fr_base.specs.declared.delivery.Purpose.{Purpose}
@@ -29,7 +31,7 @@ use Rattle.fr_base.proofs.TrialLaws.{body_ends}
 use Rattle.fr_world.specs.BookEdits.{applied, all_applied}
 use Rattle.fr_world.specs.Drafts.{IsOfSame}
 use Rattle.fr_world.specs.Edits.{Leads, all_edited, edited, releases}
-use Rattle.fr_world.specs.FileDecisions.{file_edits, is_trial}
+use Rattle.fr_world.specs.FileDecisions.{file_edits, is_proposal, is_trial}
 use Rattle.fr_world.specs.Fits.{AllFit}
 use Rattle.fr_world.specs.Held.{Leaving, LeavesEdited, Standing, Tells}
 use Rattle.fr_world.specs.ImportLabels.{label_decision, after_label}
@@ -45,13 +47,14 @@ use Rattle.fr_world.proofs.BookFits.{import-fits, replacement-fits}
 use Rattle.fr_world.proofs.FileLaws.{all-readable}
 use Rattle.fr_world.proofs.ImportRoom.{new-import-decides}
 use Rattle.fr_world.proofs.LabelLaws.{label-decides}
+use Rattle.fr_world.proofs.PageLaws.{rows-registers}
 use Rattle.fr_world.proofs.ReplacementsDecide.{replacement-decides}
 use Rattle.fr_world.proofs.RowsDecide.{applied-more, rows-checked}
 use Rattle.fr_world.proofs.RowsLead.{leads-last}
 use Rattle.fr_world.proofs.TrialsDecide.{trial-decides}
 use Rattle.fr_office.specs.Carried.{IsRefused, Replies}
 use Rattle.fr_office.specs.Decided.{LeadsTo, Opens, open_page}
-use Rattle.fr_office.specs.Deliveries.{AfterDelivery, GivesDelivery, GivesFile, LeavesFile, WhereActed, WhereImported, WhereReplaced, acted_answer, acted_outcome, edits_of_file, file_outcome, label_said, rows_on}
+use Rattle.fr_office.specs.Deliveries.{AfterDelivery, GivesDelivery, GivesFile, LeavesFile, WhereActed, WhereImported, WhereReplaced, acted_answer, acted_outcome, edits_of_file, file_outcome, label_said, proposal_answer, rows_on}
 use Rattle.fr_office.proofs.FreshLaws.{lead-taken, leads-taken}
 use Rattle.fr_office.proofs.RowsLaws.{opened-there, some_has}
 
@@ -154,12 +157,23 @@ module _ (c : Cluster) (b : Book) (d : Delivery) where
         (λ i. (get b.variants d.variant or NoVariant) >>= λ x. (refuse Released when x.released) >> one_limit (nat_lt MAX_IMPORT_BYTES (length d.body)) (told_in manner x) i)
         ∙ by_page (purpose.Trial manner) (told_in manner) (λ x there unreleased. ap telling (trial-decides c b d.supplier d.variant x d.body manner sound there unreleased known))
 
+    -- what is proposed in a variant, by the supplier's rows of the register
+    abbrev proposing : Bool → OwnRows → Outcome
+    proposing replace own = record { book = b; answer = Report false (Proposed replace (proposal own replace (wishes_of_body c.params d.body))) }
+
+    proposal_told : (replace : Bool) → propose c.params b d replace ≡ (open_page c.params b d.supplier d.variant >>= made_of (purpose.Proposal replace))
+    unfolding propose file_room
+    proposal_told replace =
+        (λ i. (get b.variants d.variant or NoVariant) >>= λ x. (refuse Released when x.released) >> one_limit (nat_lt MAX_IMPORT_BYTES (length d.body)) (proposing replace (own_rows c.params b d.supplier x)) i)
+        ∙ by_page (purpose.Proposal replace) (λ x. proposing replace (own_rows c.params b d.supplier x)) (λ x there unreleased. ap (proposing replace) (sym (rows-registers c b d.supplier d.variant x)))
+
     -- a file that is no kept import is decided by its page, and then the room for it
     pub told : (how : Purpose Name) → label_said b d how ≡ Ok None → deliver c.params b d how ≡ (open_page c.params b d.supplier d.variant >>= made_of how)
     unfolding deliver
     told (purpose.Import label) is = import_told label (new_label (get b.imports (d.supplier, label)) d is)
     told (purpose.Replacement whole) is = replacement_told whole
     told (purpose.Trial manner) is = trial_told manner
+    told (purpose.Proposal replace) is = proposal_told replace
 
   -- another file is kept under its label
   label_used : (how : Purpose Name) (e : Refusal) → label_said b d how ≡ Err e → deliver c.params b d how ≡ Err e
@@ -167,6 +181,7 @@ module _ (c : Cluster) (b : Book) (d : Delivery) where
   label_used (purpose.Import label) e is = label-decides c.params b d label (get b.imports (d.supplier, label)) ∙ ap (λ r. r >>= after_label c.params b d label) is
   label_used (purpose.Replacement whole) e is = cc
   label_used (purpose.Trial manner) e is = cc
+  label_used (purpose.Proposal replace) e is = cc
 
   -- the same is
   label_kept : (how : Purpose Name) (rows : ℕ) → label_said b d how ≡ Ok (Some rows) → deliver c.params b d how ≡ Ok (record { book = b; answer = Imported rows })
@@ -174,6 +189,7 @@ module _ (c : Cluster) (b : Book) (d : Delivery) where
   label_kept (purpose.Import label) rows is = label-decides c.params b d label (get b.imports (d.supplier, label)) ∙ ap (λ r. r >>= after_label c.params b d label) is
   label_kept (purpose.Replacement whole) rows is = cc
   label_kept (purpose.Trial manner) rows is = cc
+  label_kept (purpose.Proposal replace) rows is = cc
 
 -- what is no import is not limited by how many are kept
 pub no_limit : (d : Delivery) (how : Purpose Name) (m n : ℕ) → is_import how ≡ false → file_room d how m ≡ file_room d how n
@@ -213,40 +229,41 @@ all_replaced (read ∷ rest) d last made = elim (replace_read d read) as (λ r. 
   | Err e ↦ λ is h. cc
 ] refl made
 
-decided_read : (how : Purpose Name) (page : PageData) (header : Option Header) (reads : List RowRead) (edits : List Edit) → is_trial how ≡ false → file_edits how page header reads ≡ Ok edits → AllByRecursion IsRead (up_to_refused reads)
+decided_read : (how : Purpose Name) (page : PageData) (header : Option Header) (reads : List RowRead) (edits : List Edit) → is_trial how ≡ false → is_proposal how ≡ false → file_edits how page header reads ≡ Ok edits → AllByRecursion IsRead (up_to_refused reads)
 unfolding rows_decision replacement_decision ◌>>=◌
-decided_read (purpose.Import label) page header reads edits acts decided =
+decided_read (purpose.Import label) page header reads edits acts rows decided =
     let rows : List RowRead = up_to_refused reads in
     elim (make_rows (draft_of page) rows) as (λ r. make_rows (draft_of page) rows ≡ r → (r >>= λ last. Ok last.edits) ≡ Ok edits → AllByRecursion IsRead rows) [
       | Ok last ↦ λ made h. all_made rows (draft_of page) last made
       | Err e ↦ λ made h. cc
     ] refl decided
-decided_read (purpose.Replacement whole) page header reads edits acts decided =
+decided_read (purpose.Replacement whole) page header reads edits acts rows decided =
     let rows : List RowRead = up_to_refused reads in
     let start : DraftData = begun (draft_of page) (whole_of whole header) rows in
     elim (replace_rows start rows) as (λ r. replace_rows start rows ≡ r → (r >>= λ last. Ok (edits_between page.variant (own_rows_of page) last.page)) ≡ Ok edits → AllByRecursion IsRead rows) [
       | Ok last ↦ λ made h. all_replaced rows start last made
       | Err e ↦ λ made h. cc
     ] refl decided
-decided_read (purpose.Trial manner) page header reads edits acts decided = cc
+decided_read (purpose.Trial manner) page header reads edits acts rows decided = cc
+decided_read (purpose.Proposal replace) page header reads edits acts rows decided = cc
 
 -- so they are few, and all that the file has
-pub few_rows_act : (how : Purpose Name) (page : PageData) (header : Option Header) (body : List ℕ) (edits : List Edit) → is_trial how ≡ false → file_edits how page header (all_rows_of_body page.params body) ≡ Ok edits →
+pub few_rows_act : (how : Purpose Name) (page : PageData) (header : Option Header) (body : List ℕ) (edits : List Edit) → is_trial how ≡ false → is_proposal how ≡ false → file_edits how page header (all_rows_of_body page.params body) ≡ Ok edits →
     (length (all_rows_of_body page.params body) ≤ MAX_ROWS) × (up_to_refused (all_rows_of_body page.params body) ≡ all_rows_of_body page.params body)
-few_rows_act how page header body edits acts decided =
+few_rows_act how page header body edits acts rows decided =
     let reads : List RowRead = all_rows_of_body page.params body in
-    let read : AllByRecursion IsRead (up_to_refused reads) = decided_read how page header reads edits acts decided in
+    let read : AllByRecursion IsRead (up_to_refused reads) = decided_read how page header reads edits acts rows decided in
     let all : up_to_refused reads ≡ reads = all-readable reads read in
     (subst (λ rows. length rows ≤ MAX_ROWS) (sym (body_ends page.params body) ∙ all) (few_rows page.params body (subst (AllByRecursion IsRead) (body_ends page.params body) read)), all)
 
 -- what the rows that were read come to, so many, is what those of the file come to
-pub acted_rows : (d : Delivery) (how : Purpose Name) (page : PageData) (header : Option Header) (reads : List RowRead) (edits : List Edit) (count : ℕ) → is_trial how ≡ false → reads ≡ rows_on page d → header ≡ header_of_body d.body →
+pub acted_rows : (d : Delivery) (how : Purpose Name) (page : PageData) (header : Option Header) (reads : List RowRead) (edits : List Edit) (count : ℕ) → is_trial how ≡ false → is_proposal how ≡ false → reads ≡ rows_on page d → header ≡ header_of_body d.body →
     count ≡ length reads → file_edits how page header reads ≡ Ok edits →
     (file_edits how page (header_of_body d.body) (rows_on page d) ≡ Ok edits) × (count ≡ length (up_to_refused (rows_on page d)))
-acted_rows d how page header reads edits count acts read headed counted decided =
+acted_rows d how page header reads edits count acts rows read headed counted decided =
     let said : file_edits how page (header_of_body d.body) (rows_on page d) ≡ Ok edits =
     subst (λ (rows : List RowRead). file_edits how page (header_of_body d.body) rows ≡ Ok edits) read (subst (λ (h : Option Header). file_edits how page h reads ≡ Ok edits) headed decided) in
-    (said, counted ∙ ap length (read ∙ sym (few_rows_act how page (header_of_body d.body) d.body edits acts said).1))
+    (said, counted ∙ ap length (read ∙ sym (few_rows_act how page (header_of_body d.body) d.body edits acts rows said).1))
 
 -- what rows that were carried out hold of the answer
 pub serves_acted : (P : Type 0) (r : Result Answer Refusal) → OnOk r P → IfOk r (λ said. WhereActed said P)
@@ -267,39 +284,48 @@ module _ (d : Delivery) (how : Purpose Name) (page : PageData) where
       by_how (purpose.Import label) decided = rw decided (refl, stood)
       by_how (purpose.Replacement whole) decided = rw decided (refl, stood)
       by_how (purpose.Trial manner) decided = cc
+      by_how (purpose.Proposal replace) decided = cc
 
   -- the fate of each is
   pub rows_told : (old : Standing) (manner : Manner) (fates : List FateRow) → how ≡ purpose.Trial manner → fates ≡ trial manner page (header_of_body d.body) (rows_on page d) → GivesFile old old (Ok (Report false (Fates fates))) d how page
   rows_told old manner fates is told c b stood sound known free opened =
       subst (λ (h : Purpose Name). (Report false (Fates fates) ≡ (file_outcome b d h page).answer) × old c (file_outcome b d h page).book) (sym is) (ap (λ l. Report false (Fates l)) told, stood)
 
-  module _ (edits : List Edit) (count : ℕ) (acts : is_trial how ≡ false) (decided : file_edits how page (header_of_body d.body) (rows_on page d) ≡ Ok edits) (unreleased : page.released ≡ false)
+  -- what is proposed is told
+  pub proposal_given : (old : Standing) (replace : Bool) (r : Result Answer Refusal) → how ≡ purpose.Proposal replace → MatchResult r (λ said. said ≡ proposal_answer d replace page) (λ e. e ≡ Unavailable) → GivesFile old old r d how page
+  proposal_given old replace (Ok said) is told c b stood sound known free opened =
+      subst (λ (h : Purpose Name). (said ≡ (file_outcome b d h page).answer) × old c (file_outcome b d h page).book) (sym is) (told, stood)
+  proposal_given old replace (Err e) is told c b stood sound known free opened = (told, stood)
+
+  module _ (edits : List Edit) (count : ℕ) (acts : is_trial how ≡ false) (rows : is_proposal how ≡ false) (decided : file_edits how page (header_of_body d.body) (rows_on page d) ≡ Ok edits) (unreleased : page.released ≡ false)
       (counted : count ≡ length (up_to_refused (rows_on page d))) where
     outcome-is : (b : Book) → file_outcome b d how page ≡ record { book = all_applied b (edits_of_file d how edits count); answer = acted_answer how count }
-    outcome-is b = by_how how acts decided
+    outcome-is b = by_how how acts rows decided
       where
-        by_how : (how : Purpose Name) → is_trial how ≡ false → file_edits how page (header_of_body d.body) (rows_on page d) ≡ Ok edits → file_outcome b d how page ≡ record { book = all_applied b (edits_of_file d how edits count); answer = acted_answer how count }
-        by_how (purpose.Import label) acts decided = rw (counted, decided) refl
-        by_how (purpose.Replacement whole) acts decided = rw (counted, decided) refl
-        by_how (purpose.Trial manner) acts decided = cc
+        by_how : (how : Purpose Name) → is_trial how ≡ false → is_proposal how ≡ false → file_edits how page (header_of_body d.body) (rows_on page d) ≡ Ok edits → file_outcome b d how page ≡ record { book = all_applied b (edits_of_file d how edits count); answer = acted_answer how count }
+        by_how (purpose.Import label) acts rows decided = rw (counted, decided) refl
+        by_how (purpose.Replacement whole) acts rows decided = rw (counted, decided) refl
+        by_how (purpose.Trial manner) acts rows decided = cc
+        by_how (purpose.Proposal replace) acts rows decided = cc
 
     all_fit : (c : Cluster) (b : Book) → IsSound c b → contains b.suppliers d.supplier ≡ true → label_said b d how ≡ Ok None → open_page c.params b d.supplier d.variant ≡ Ok page → AllFit c.params b (edits_of_file d how edits count)
-    all_fit c b sound known free opened = by_how how acts free decided
+    all_fit c b sound known free opened = by_how how acts rows free decided
       where
-        by_how : (how : Purpose Name) → is_trial how ≡ false → label_said b d how ≡ Ok None → file_edits how page (header_of_body d.body) (rows_on page d) ≡ Ok edits → AllFit c.params b (edits_of_file d how edits count)
-        by_how (purpose.Import label) acts free decided =
+        by_how : (how : Purpose Name) → is_trial how ≡ false → is_proposal how ≡ false → label_said b d how ≡ Ok None → file_edits how page (header_of_body d.body) (rows_on page d) ≡ Ok edits → AllFit c.params b (edits_of_file d how edits count)
+        by_how (purpose.Import label) acts rows free decided =
             let t = opened-there c.params b d.supplier d.variant page opened in
             import-fits c b d.supplier d.variant label t.0 d.body (rows_of_body c.params d.body) edits count sound t.1 (ap (λ (q : PageData). q.released) t.2 ∙ unreleased) known
             (new_label (get b.imports (d.supplier, label)) d free) (rows-checked c.params d.body)
             (ap (rows_decision (page_in c.params b d.supplier d.variant t.0)) (sym (body_ends c.params d.body))
             ∙ ap (λ (q : PageData). rows_decision q (up_to_refused (rows_on q d))) t.2 ∙ decided)
-        by_how (purpose.Replacement whole) acts free decided =
+        by_how (purpose.Replacement whole) acts rows free decided =
             let t = opened-there c.params b d.supplier d.variant page opened in
             let kind : Option Header = whole_of whole (header_of_body d.body) in
             replacement-fits c b d.supplier d.variant t.0 kind (rows_of_body c.params d.body) edits sound t.1 (ap (λ (q : PageData). q.released) t.2 ∙ unreleased) (rows-checked c.params d.body)
             (ap (replacement_decision (page_in c.params b d.supplier d.variant t.0) kind) (sym (body_ends c.params d.body))
             ∙ ap (λ (q : PageData). replacement_decision q kind (up_to_refused (rows_on q d))) t.2 ∙ decided)
-        by_how (purpose.Trial manner) acts free decided = cc
+        by_how (purpose.Trial manner) acts rows free decided = cc
+        by_how (purpose.Proposal replace) acts rows free decided = cc
 
     -- the edits are made, or they are not
     pub rows_acted : (old new : Standing) (r : Result Answer Refusal) → ((c : Cluster) (b : Book) → old c b → AllFit c.params b (edits_of_file d how edits count) → MatchResult r
@@ -356,6 +382,7 @@ file_leads d how count page new edits leads same still = by_how how
     }
     by_how (purpose.Replacement whole) = plain
     by_how (purpose.Trial manner) = plain
+    by_how (purpose.Proposal replace) = plain
 
 -- ---- the delivery
 
@@ -374,6 +401,7 @@ after_rows stands d (purpose.Import label) P (Err e) h = tt
 after_rows stands d (purpose.Replacement whole) P (Ok said) h = replaced_where said P h
 after_rows stands d (purpose.Replacement whole) P (Err e) h = tt
 after_rows stands d (purpose.Trial manner) P r h = tt
+after_rows stands d (purpose.Proposal replace) P r h = tt
 
 -- what is said of an answer is said of no refusal
 pub after_refused : (stands : Standing) (d : Delivery) (how : Purpose Name) (P : Type 0) (r : Result Answer Refusal) (e : Refusal) → r ≡ Err e → AfterDelivery stands d how r P
@@ -414,6 +442,7 @@ module _ (d : Delivery) (how : Purpose Name) (old mid : Standing) where
           cc
       by_how (purpose.Replacement whole) kept = tt
       by_how (purpose.Trial manner) kept = tt
+      by_how (purpose.Proposal replace) kept = tt
 
   -- none is
   pub label_free : (found : Option ℕ) → found ≡ None → Replies (λ c b. label_said b d how) old mid (Ok found) → IsNew old mid d how

@@ -7,7 +7,7 @@ use Rattle.fr_base.specs.Checks.{check}
 use Rattle.fr_base.specs.Queries.{found, reply}
 use Rattle.fr_base.specs.Refusing.{◌or◌}
 use Rattle.fr_base.specs.Sound.{IsSound}
-use Rattle.fr_base.specs.Step.{Outcome, RefusedAt, act, deliver, add_node, add_supplier, set_key, change_rows, common, done, import, imported, knows, outcome, perform, replace, replaced, try, step}
+use Rattle.fr_base.specs.Step.{Outcome, RefusedAt, act, deliver, add_node, add_supplier, set_key, change_rows, common, done, import, imported, knows, outcome, perform, replace, replaced, propose, try, step}
 use Rattle.fr_base.specs.Tables.{get}
 use Rattle.fr_base.specs.declared.actor.Actor.{Actor}
 use Rattle.fr_base.specs.declared.answer.Answer.{Answer}
@@ -25,7 +25,7 @@ use Rattle.fr_base.specs.declared.delivery.Delivery.{Delivery}
 use Rattle.fr_base.specs.declared.delivery.Manner.{Manner}
 use Rattle.fr_base.specs.declared.query.Query.{Query}
 use Rattle.fr_base.proofs.SoundRefusing.{gives_bind, gives_bind_last, gives_each, gives_unless, gives_when}
-use Rattle.fr_base.proofs.SoundTrials.{trial-leaves}
+use Rattle.fr_base.proofs.SoundTrials.{trial-leaves, proposal-leaves}
 use Rattle.fr_office.specs.Deliveries.{AfterDelivery}
 use Rattle.fr_office.specs.Answers.{AfterAct, WhereChanged}
 use Rattle.fr_world.specs.Held.{Standing}
@@ -81,6 +81,13 @@ trial-told : (p : Params) (b : Book) (t : Delivery) (how : Manner) → IfOk (try
 unfolding try
 trial-told p b t how =
     gives_each _ (get b.variants t.variant or NoVariant) _ (λ x _.
+    gives_when _ _ _ _ (λ _.
+    gives_when _ _ _ _ (λ _. (refl, refl))))
+
+proposal-told : (p : Params) (b : Book) (d : Delivery) (replace : Bool) → IfOk (propose p b d replace) (λ o. IsNoChange o.answer)
+unfolding propose
+proposal-told p b d replace =
+    gives_each _ (get b.variants d.variant or NoVariant) _ (λ x _.
     gives_when _ _ _ _ (λ _.
     gives_when _ _ _ _ (λ _. (refl, refl))))
 
@@ -142,6 +149,7 @@ module _ (b : Book) where
   delivered-quiet p d (purpose.Import label) = import-quiet p d label (get b.imports (d.supplier, label))
   delivered-quiet p d (purpose.Replacement whole) = replace-quiet p d whole
   delivered-quiet p d (purpose.Trial how) = gives_bind_last Quiet (λ (o : Outcome). o.book ≡ b) _ (trial-leaves (λ e. e ≡ b) b refl p d how) (λ o still quiet. still)
+  delivered-quiet p d (purpose.Proposal replace) = gives_bind_last Quiet (λ (o : Outcome). o.book ≡ b) _ (proposal-leaves (λ e. e ≡ b) b refl p d replace) (λ o still quiet. still)
 
   act-quiet : (c : Cluster) (actor : Actor) (what : Checked) → IfOk (act c b actor what) Quiet
   unfolding act
@@ -179,6 +187,8 @@ module _ (c : Cluster) (b : Book) (actor : Actor) where
       absurd (true≢false (subst (λ r. IfOk r (λ (o : Outcome). IsNoImport o.answer)) made (replace-told c.params b d whole)).0)
   delivered_done stands d (purpose.Trial how) P after made =
       absurd (true≢false (subst (λ r. IfOk r (λ (o : Outcome). IsNoChange o.answer)) made (trial-told c.params b d how)).0)
+  delivered_done stands d (purpose.Proposal replace) P after made =
+      absurd (true≢false (subst (λ r. IfOk r (λ (o : Outcome). IsNoChange o.answer)) made (proposal-told c.params b d replace)).0)
 
   delivered_imported : (stands : Standing) (d : Delivery) (how : Purpose Name) (P : Type 0) (after : Book) (rows : ℕ) → stands c b → IsSound c b → deliver c.params b d how ≡ Ok (record { book = after; answer = Imported rows })
       → AfterDelivery stands d how (Ok (Imported rows)) P → (after ≡ b) ⊎ P
@@ -192,6 +202,8 @@ module _ (c : Cluster) (b : Book) (actor : Actor) where
       absurd (true≢false (subst (λ r. IfOk r (λ (o : Outcome). IsNoImport o.answer)) made (replace-told c.params b d whole)).1)
   delivered_imported stands d (purpose.Trial how) P after rows stood sound made h =
       inl (subst (λ r. IfOk r (λ (o : Outcome). o.book ≡ b)) made (trial-leaves (λ e. e ≡ b) b refl c.params d how))
+  delivered_imported stands d (purpose.Proposal replace) P after rows stood sound made h =
+      inl (subst (λ r. IfOk r (λ (o : Outcome). o.book ≡ b)) made (proposal-leaves (λ e. e ≡ b) b refl c.params d replace))
 
   delivered_replaced : (stands : Standing) (d : Delivery) (how : Purpose Name) (P : Type 0) (after : Book) (rows : ℕ) → deliver c.params b d how ≡ Ok (record { book = after; answer = Replaced rows })
       → AfterDelivery stands d how (Ok (Replaced rows)) P → P
@@ -201,6 +213,8 @@ module _ (c : Cluster) (b : Book) (actor : Actor) where
   delivered_replaced stands d (purpose.Replacement whole) P after rows made h = h
   delivered_replaced stands d (purpose.Trial how) P after rows made h =
       absurd (true≢false (subst (λ r. IfOk r (λ (o : Outcome). IsNoChange o.answer)) made (trial-told c.params b d how)).1)
+  delivered_replaced stands d (purpose.Proposal replace) P after rows made h =
+      absurd (true≢false (subst (λ r. IfOk r (λ (o : Outcome). IsNoChange o.answer)) made (proposal-told c.params b d replace)).1)
 
   done_so : (stands : Standing) (valid : Checked) (P : Type 0) (after : Book) → act c b actor valid ≡ Ok (record { book = after; answer = Done }) → AfterAct stands valid (Ok Done) P → P
   unfolding act

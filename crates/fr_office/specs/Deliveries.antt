@@ -1,16 +1,18 @@
--- Delivery: a delivered file is carried out or tried as the definition says, and its rows as they are
--- decided on the supplier's page; or nothing is done. What a crash leaves of it. What a call that does
+-- Delivery: a delivered file is carried out, tried or answered by a proposal as the definition says, and its rows
+-- or wishes as they are decided on the supplier's page; or nothing is done. What a crash leaves of it. What a call that does
 -- so comes to, in a record.
 use Rattle.std.specs.Prelude.{◌≡◌, ◌⊎◌, ℕ, Bool, false, List, [], ◌∷◌, ◌++◌, length, Option, None, Result, Ok, Err, IfOk, OnOk, IsTrue, MatchResult, ⊤}
 use Rattle.fr_base.specs.Book.{Book}
 use Rattle.fr_base.specs.Cluster.{Cluster}
 use Rattle.fr_base.specs.ImportRows.{header_of_body, all_rows_of_body, up_to_refused}
+use Rattle.fr_base.specs.Proposals.{proposal}
 use Rattle.fr_base.specs.Sound.{IsSound}
 use Rattle.fr_base.specs.Step.{Outcome, RefusedAt, deliver}
 use Rattle.fr_base.specs.Tables.{get, contains}
+use Rattle.fr_base.specs.Wishes.{wishes_of_body}
 use Rattle.fr_base.specs.declared.answer.Answer.{Answer}
 use Rattle.fr_base.specs.declared.answer.Answer.TheVariants.{Imported, Replaced, Report, RefusedRow}
-use Rattle.fr_base.specs.declared.answer.ReportRows.TheVariants.{Fates}
+use Rattle.fr_base.specs.declared.answer.ReportRows.TheVariants.{Fates, Proposal as Proposed}
 use Rattle.fr_base.specs.declared.delivery.Delivery.{Delivery}
 use Rattle.fr_base.specs.declared.delivery.Purpose.{Purpose}
 use Rattle.fr_base.specs.declared.delivery.Purpose.TheVariants as purpose
@@ -23,7 +25,7 @@ use Rattle.fr_world.specs.FileDecisions.{file_edits}
 use Rattle.fr_world.specs.Fits.{AllFit}
 use Rattle.fr_world.specs.Held.{Leaving, LeavesEdited, Standing}
 use Rattle.fr_world.specs.ImportLabels.{label_decision}
-use Rattle.fr_world.specs.Pages.{PageData}
+use Rattle.fr_world.specs.Pages.{PageData, own_rows_of}
 use Rattle.fr_world.specs.Trials.{trial}
 use Rattle.fr_world.specs.declared.edit.Edit.{Edit}
 use Rattle.fr_world.specs.declared.edit.Edit.TheVariants.{KeepImport}
@@ -55,8 +57,13 @@ abbrev pub acted_outcome : Book → Delivery → Purpose Name → ℕ → Result
 acted_outcome b d how rows (Ok edits) = record { book = all_applied b (edits_of_file d how edits rows); answer = acted_answer how rows }
 acted_outcome b d how rows (Err fault) = record { book = b; answer = RefusedRow fault.line fault.refusal }
 
--- the outcome of the file, as its rows are decided on this page
+-- the answer to a file of wishes on this page: what is proposed for them by its rows
+abbrev pub proposal_answer : Delivery → Bool → PageData → Answer
+proposal_answer d replace page = Report false (Proposed replace (proposal (own_rows_of page) replace (wishes_of_body page.params d.body)))
+
+-- the outcome of the file, as its rows are decided on this page, or its wishes
 abbrev pub file_outcome : Book → Delivery → Purpose Name → PageData → Outcome
+file_outcome b d (purpose.Proposal replace) page = record { book = b; answer = proposal_answer d replace page }
 file_outcome b d (purpose.Trial manner) page = record { book = b; answer = Report false (Fates (trial manner page (header_of_body d.body) (rows_on page d))) }
 file_outcome b d how page = acted_outcome b d how (length (up_to_refused (rows_on page d))) (file_edits how page (header_of_body d.body) (rows_on page d))
 
@@ -111,6 +118,7 @@ AfterDelivery stands d (purpose.Import label) r P =
     IfOk r (λ answer. (c : Cluster) (b : Book) → stands c b → IsSound c b → get b.imports (d.supplier, label) ≡ None → WhereImported answer P)
 AfterDelivery stands d (purpose.Replacement whole) r P = IfOk r (λ answer. WhereReplaced answer P)
 AfterDelivery stands d (purpose.Trial manner) r P = ⊤
+AfterDelivery stands d (purpose.Proposal replace) r P = ⊤
 
 -- ---- calls on records
 

@@ -10,4 +10,6 @@ mod layouts;
 #[cfg(test)]
 mod page_rows;
 #[cfg(test)]
+mod proposals;
+#[cfg(test)]
 mod world;

@@ -115,11 +115,11 @@ slots_within p =
     gives_when _ _ _ _ (λ _. ltb-false 1023 p.static_slots (second_false _ _ few))))))
 
 -- a cluster has at most 1023 static slots
-few_slots : (p : Params) → check_params p ≡ Ok p → p.static_slots ≤ 1023
+pub few_slots : (p : Params) → check_params p ≡ Ok p → p.static_slots ≤ 1023
 few_slots p form = subst (λ r. IfOk r (λ _. p.static_slots ≤ 1023)) form (slots_within p)
 
 -- so the numbers of its placements are small
-small : (p : Params) (q : Placement) → p.static_slots ≤ 1023 → FitsCluster p q → AreSmall q
+pub small : (p : Params) (q : Placement) → p.static_slots ≤ 1023 → FitsCluster p q → AreSmall q
 small p q few fits =
     let set = within q.cycles fits.cycles in
     record {
@@ -243,7 +243,7 @@ frame_short r h =
     let n = name_short r.node h.1 in
     omega (arith, f, n)
 
-placement_short : (p : Params) (r : PlacementRecord) → AreSmall r.placement → IsFinePlacement p r → IsShort (r.frame ∷ r.node ∷ placement_fields r.placement)
+pub placement_short : (p : Params) (r : PlacementRecord) → AreSmall r.placement → IsFinePlacement p r → IsShort (r.frame ∷ r.node ∷ placement_fields r.placement)
 placement_short p r few h =
     let f = name_short r.frame h.0 in
     let n = name_short r.node h.1 in

@@ -35,12 +35,17 @@ use Rattle.fr_base.specs.declared.import.RowRead.{RowRead}
 use Rattle.fr_base.specs.declared.params.Params.{Params}
 use Rattle.fr_base.specs.declared.refusal.Refusal.{Refusal}
 use Rattle.fr_base.specs.declared.refusal.Refusal.TheVariants.{BadText, BadName, Limit}
-use Rattle.fr_text.specs.ImportText.{records_left, left_of, IsPlain}
+use Rattle.fr_text.specs.ImportText.{lines_from, records_left, left_of, IsPlain}
 
 -- what a proof about a row opens
 unfoldable pub rows_open : ⊤
 unfolding ◌>>=◌ ◌>>◌ ◌or◌ refuse◌when◌ text_at number_at frame_in placement_in signal_in row_of
 rows_open = tt
+
+-- what a proof about a record at a line opens
+unfoldable pub lines_open : ⊤
+unfolding ◌>>◌ refuse◌when◌ row_at
+lines_open = tt
 
 -- what a proof about a number opens
 unfoldable pub numbers_open : ⊤
@@ -102,38 +107,16 @@ body-rows p body rest h e = ap up_to_refused e
 
 -- ---- all rows
 
-take-none : {A : Type 0} (n : ℕ) → take {A = A} n [] ≡ []
-take-none zero = refl
-take-none (suc n) = refl
-
-module _ (p : Params) (h : Header) (line : ℕ) (rows : List RowRead) (records : Records) (goal : List RowRead) (e : rows ++ take (515 - line) (rows_from p h line records) ≡ goal) where
-  -- with no record left, all rows are read
-  pub all-done : records ≡ [] → rows ≡ goal
-  unfolding rows_from
-  all-done none = sym (append-nil rows) ∙ ap (λ more. rows ++ more) (sym (take-none (515 - line))) ∙ ap (λ rs. rows ++ take (515 - line) (rows_from p h line rs)) (sym none) ∙ e
-
-  -- after a row, those of the records behind it are left
-  pub all-more : (fields : List (List ℕ)) (rest : Records) → records ≡ fields ∷ rest → line ≤ 513
-      → (rows ++ record { line = line; row = row_of p h fields } ∷ []) ++ take (515 - (line + 1)) (rows_from p h (line + 1) rest) ≡ goal
-  unfolding rows_from
-  all-more fields rest some within =
-      let count : suc (515 - (line + 1)) ≡ 515 - line = omega (arith, within) in
-      append_assoc rows _ _
-      ∙ ap (λ row. rows ++ record { line = line; row = row } ∷ take (515 - (line + 1)) (rows_from p h (line + 1) rest)) (sym (row-within p h line fields within))
-      ∙ ap (λ next. rows ++ record { line = line; row = row_at p h line fields } ∷ take (515 - (line + 1)) (rows_from p h next rest)) (add-one line)
-      ∙ ap (λ n. rows ++ take n (rows_from p h line (fields ∷ rest))) count
-      ∙ ap (λ rs. rows ++ take (515 - line) (rows_from p h line rs)) (sym some)
-      ∙ e
-
-  -- the record behind 512 rows is one too many, and the last
-  pub all-over : (fields : List (List ℕ)) (rest : Records) → records ≡ fields ∷ rest → line ≡ 514 → rows ++ record { line = 514; row = Err Limit } ∷ [] ≡ goal
-  unfolding rows_from row_at refuse◌when◌ ◌>>◌
-  all-over fields rest some over = rw (some, over) at e
-
 pub all-other : (p : Params) (body : List ℕ) (rest : Records) → rows_of_records p (records_of body) ≡ rows_below p None rest
     → all_rows_of_body p body ≡ record { line = 1; row = Err BadText } ∷ []
 unfolding all_rows_of_body rows_below
 all-other p body rest e = ap (take 513) e
+
+-- the rows are what their records are read as
+pub rows-lines : (p : Params) (h : Header) (line : ℕ) (records : Records) → rows_from p h line records ≡ lines_from (λ n fields. record { line = n; row = row_at p h n fields }) line records
+unfolding rows_from lines_from
+rows-lines p h line [] = refl
+rows-lines p h line (fields ∷ rest) = ap (λ rows. record { line = line; row = row_at p h line fields } ∷ rows) (rows-lines p h (suc line) rest)
 
 pub all-rows : (p : Params) (body : List ℕ) (rest : Records) (h : Header) → rows_of_records p (records_of body) ≡ rows_below p (Some h) rest
     → all_rows_of_body p body ≡ take 513 (rows_from p h 2 rest)

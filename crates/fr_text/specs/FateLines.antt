@@ -16,10 +16,14 @@ taken_words (CellTaken cycle channel frame) = two_digits cycle ∷ text_of_chann
 taken_words (BitTaken bit signal) = four_digits bit ∷ signal ∷ []
 taken_words refusal = []
 
+-- the number and the name of what refuses a row, and what it meets
+abbrev pub refusal_words : Refusal → List (List ℕ)
+refusal_words refusal = two_digits (number_of refusal) ∷ name_of refusal ∷ taken_words refusal
+
 -- what refuses a row, or the words that it is done
 abbrev pub fate_words : Option Refusal → List (List ℕ)
 fate_words None = codes "00" ∷ codes "done" ∷ []
-fate_words (Some refusal) = two_digits (number_of refusal) ∷ name_of refusal ∷ taken_words refusal
+fate_words (Some refusal) = refusal_words refusal
 
 -- the line of a row's fate
 unfoldable pub fate_line : FateRow → List ℕ

@@ -84,6 +84,7 @@ fields_of (DropSignal v f x) = fields ((codes "do", string (codes "drop_signal")
 fields_of (Deliver v (purpose.Import label) body) = fields ((codes "do", string (codes "import")) ∷ (codes "variant", string v) ∷ (codes "label", string label) ∷ (codes "body", string body) ∷ [])
 fields_of (Deliver v (purpose.Replacement whole) body) = fields ((codes "do", string (codes "replace")) ∷ (codes "variant", string v) ∷ (codes "body", string body) ∷ (codes "whole", boolean whole) ∷ [])
 fields_of (Deliver v (purpose.Trial how) body) = fields ((codes "do", string (codes "try")) ∷ (codes "variant", string v) ∷ (codes "body", string body) ∷ (codes "replace", boolean (is_replacement how)) ∷ (codes "whole", boolean (is_whole how)) ∷ [])
+fields_of (Deliver v (purpose.Proposal replace) body) = fields ((codes "do", string (codes "propose")) ∷ (codes "variant", string v) ∷ (codes "body", string body) ∷ (codes "replace", boolean replace) ∷ [])
 fields_of (Query query) = fields ((codes "do", string (word_of_query query)) ∷ query_fields query)
 
 -- a query's numbers

@@ -10,8 +10,10 @@ pub mod Words
 pub mod RoomLines
 pub mod FateLines
 pub mod Report
+pub mod ProposalFiles
 pub mod Styles
 pub mod AnswerText
 pub mod Writing
 pub mod Laws
 pub mod ExportLaws
+pub mod ProposalFileLaws

@@ -1,7 +1,7 @@
 -- Report: the lines of each report. A gap stands at the right of seven places. Each line ends with
 -- the supplier's name, for the integrator alone; but the `AT` lines of frames and the lines of the
--- cluster, of variants, of a room and of fates have none.
-use Rattle.std.specs.Prelude.{ℕ, Bool, List, [], ◌∷◌, ◌++◌, map, codes, decimal, Option, Some, None, if◌then◌else◌}
+-- cluster, of variants, of a room, of fates and of a proposal have none.
+use Rattle.std.specs.Prelude.{ℕ, Bool, List, [], ◌∷◌, ◌++◌, map, codes, decimal, Option, Some, None, Result, Ok, Err, if◌then◌else◌}
 use Rattle.std.specs.List.{flat_map}
 use Rattle.fr_base.specs.Channels.{text_of_channel, text_of_channels}
 use Rattle.fr_base.specs.ImportRows.{spelled}
@@ -32,8 +32,13 @@ use Rattle.fr_base.specs.declared.import.Header.{Header}
 use Rattle.fr_base.specs.declared.import.Header.TheVariants as header
 use Rattle.fr_base.specs.declared.name.Name.{Name}
 use Rattle.fr_base.specs.declared.placement.Placement.{Placement}
+use Rattle.fr_base.specs.declared.proposal.LackRow.{LackRow}
+use Rattle.fr_base.specs.declared.proposal.Proposal.{Proposal}
+use Rattle.fr_base.specs.declared.proposal.ProposalRow.{ProposalRow}
+use Rattle.fr_base.specs.declared.proposal.ProposedPlacement.{ProposedPlacement}
+use Rattle.fr_base.specs.declared.refusal.Refusal.{Refusal}
 use Rattle.fr_text.specs.RoomLines.{room_lines}
-use Rattle.fr_text.specs.FateLines.{fate_line}
+use Rattle.fr_text.specs.FateLines.{fate_line, refusal_words}
 use Rattle.fr_text.specs.Words.{two_digits, four_digits, right_in, gap_word, line, comma_line, shown_to}
 
 -- slot, channel and node
@@ -118,6 +123,27 @@ placement_record all r = comma_line (r.frame ∷ r.node ∷ placement_fields r.p
 unfoldable pub signal_record : Bool → SignalRecord → List ℕ
 signal_record all r = comma_line (r.frame ∷ signal_fields r.signal ++ shown_to all r.supplier)
 
+-- a placement that is proposed, as a record of a file
+unfoldable pub proposed_record : ProposedPlacement → List ℕ
+proposed_record r = comma_line (r.frame ∷ r.node ∷ placement_fields r.placement)
+
+-- the record of the placement that is proposed for a wish, or what refuses the wish
+abbrev pub proposed_words : Result ProposedPlacement Refusal → List (List ℕ)
+proposed_words (Ok placed) = codes "00" ∷ proposed_record placed ∷ []
+proposed_words (Err refusal) = refusal_words refusal
+
+-- the line of a wish, by which it stands in its file, and what is proposed for it
+unfoldable pub proposal_line : ProposalRow → List ℕ
+proposal_line row = line (four_digits row.line ∷ proposed_words row.proposed)
+
+-- node, channels, and how many slots are lacking
+unfoldable pub lack_line : LackRow → List ℕ
+lack_line lack = line (codes "LACK" ∷ lack.node ∷ text_of_channels lack.channels ∷ four_digits lack.slots ∷ [])
+
+-- a line for each wish, then one for each lack
+abbrev pub proposal_lines : Proposal → List (List ℕ)
+proposal_lines proposal = map proposal_line proposal.rows ++ map lack_line proposal.lacks
+
 -- a row of a variant, whose line can be read alone: a grant, a frame and its node, a placement of a frame, a signal of a frame, a
 -- frame's greatest gap
 unfoldable pub seen_line : Bool → SeenRow → List ℕ
@@ -151,6 +177,7 @@ lines_of_rows all (rows.PlacementRecords records) = header_line all header.Place
 lines_of_rows all (rows.SignalRecords records) = header_line all header.Signals ∷ map (signal_record all) records
 lines_of_rows all (rows.Difference differences) = map (difference_line all) differences
 lines_of_rows all (rows.Fates fates) = map fate_line fates
+lines_of_rows all (rows.Proposal replaces proposal) = proposal_lines proposal
 
 -- the lines of an answer; an answer to no query has none
 unfoldable pub lines_of : Answer → List (List ℕ)

@@ -59,6 +59,7 @@ of_files =
     (codes "import", λ o. Deliver (text o (codes "variant")) (purpose.Import (text o (codes "label"))) (text o (codes "body")))
     ∷ (codes "replace", λ o. Deliver (text o (codes "variant")) (purpose.Replacement (flag o (codes "whole"))) (text o (codes "body")))
     ∷ (codes "try", λ o. Deliver (text o (codes "variant")) (purpose.Trial (manner_of (flag o (codes "replace")) (flag o (codes "whole")))) (text o (codes "body")))
+    ∷ (codes "propose", λ o. Deliver (text o (codes "variant")) (purpose.Proposal (flag o (codes "replace"))) (text o (codes "body")))
     ∷ []
 
 -- what is asked, with the fields' values for its names and numbers

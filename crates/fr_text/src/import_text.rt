@@ -7,9 +7,10 @@ ghost use Rattle.std.specs.Cmp.Lexicographic.{pointwise};
 ghost use Rattle.csv.specs.Records.{field_at, fields_of};
 ghost use Rattle.fr_base.specs.Names.{same_text};
 ghost use Rattle.fr_base.specs.declared.params.Params.{Params};
-ghost use Rattle.fr_base.specs.ImportRows.{records_of, spelled, header_of, header_in, header_of_body, text_at, number, number_at, frame_in, placement_in, signal_in, row_of, rows_from, rows_below, rows_of_records, rows_of_body, all_rows_of_body, up_to_refused};
+ghost use Rattle.fr_base.specs.ImportRows.{records_of, spelled, header_of, header_in, header_of_body, text_at, number, number_at, frame_in, placement_in, signal_in, row_at, row_of, rows_from, rows_below, rows_of_records, rows_of_body, all_rows_of_body, up_to_refused};
 ghost use Rattle.fr_base.specs.declared.limits.TheConstants.{MAX_ROWS};
 
+use crate::record_reader::{RecordReader, push_all, within};
 use csv::{ByteRecord, Reader, ReaderBuilder};
 use fr_base::{Header, MAX_ROWS, NoMemory, Params, Refusal, Row, RowRead, Rows};
 use std::alloc::Global;
@@ -44,7 +45,13 @@ pub fn read_rows(alloc: Global, params: &Params, body: &[u8]) -> Result<Rows<Row
     let mut fields = ByteRecord::new(alloc);
     let mut rows = Rows::new(alloc);
     match first_header(&mut records, &mut fields)? {
-        Some(header) => push_all(&mut rows, params, header, &mut records, &mut fields)?,
+        Some(header) => {
+            let reader = RowReader {
+                params: *params,
+                header,
+            };
+            push_all(&mut rows, &reader, &mut records, &mut fields)?;
+        }
         None => rows.push(RowRead {
             line: 1,
             row: Err(Refusal::BadText),
@@ -113,35 +120,24 @@ fn push_rows(
     Ok(())
 }
 
-// Appends all the rows that the records behind the header are, and the one that is too many. Each
-// is a row or its own refusal.
-fn push_all(
-    rows: &mut Rows<RowRead>,
-    params: &Params,
+// Reads a record below this header as a row.
+#[derive(Clone, Copy)]
+struct RowReader {
+    params: Params,
     header: Header,
-    records: &mut Records<'_>,
-    fields: &mut ByteRecord,
-) -> Result<(), Refusal>
-    ensures { MatchResult result
-        (λ _. rows.new ≡ rows.old
-        ++ take (MAX_ROWS + 1) (rows_from params.now header 2 records.old))
-        (λ refusal. refusal ≡ Refusal.Unavailable) }
-{
-    // The header is line 1.
-    for line in 2..MAX_ROWS + 2 {
-        if !records.read(fields)? {
-            return Ok(());
-        }
-        push_row(rows, line, params, header, fields)?;
+}
+
+impl RecordReader<RowRead> for RowReader {
+    ghost reads = { λ reader line fields. record { line = line; row = row_at reader.params reader.header line fields } };
+
+    #[tactic(auto, unfolding(crate::proofs::ImportTextLemmas::lines_open))]
+    fn read(&self, line: u32, fields: &ByteRecord) -> RowRead {
+        let row = match within(line) {
+            Ok(()) => row_of(&self.params, self.header, fields),
+            Err(refusal) => Err(refusal),
+        };
+        RowRead { line, row }
     }
-    if records.read(fields)? {
-        let row = Err(Refusal::Limit);
-        rows.push(RowRead {
-            line: MAX_ROWS + 2,
-            row,
-        })?;
-    }
-    Ok(())
 }
 
 /// The records of a file that are still to be read.
@@ -215,7 +211,7 @@ pub fn header_of(fields: &ByteRecord) -> Option<Header>
 }
 
 /// Whether the fields are these names, in this order.
-fn has_fields(fields: &ByteRecord, names: &[&str]) -> bool
+pub(crate) fn has_fields(fields: &ByteRecord, names: &[&str]) -> bool
     ensures { result ≡ pointwise same_text (fields_of fields.now)
         (map (λ name. name.now) names.now) }
 {

@@ -2,6 +2,7 @@
 //! that is sent back changes nothing, and elsewhere it brings the supplier's frames along.
 ghost use Rattle.fr_text.specs.ExportLaws.{ExportIsReadBack, ExportIsWithinBytes, SentBackChangesNothing, SentIsImported, SentWholeChangesNothing};
 ghost use Rattle.fr_text.specs.Laws.{WrittenIsReadBack};
+ghost use Rattle.fr_text.specs.ProposalFileLaws.{ProposedIsReadBack};
 
 /// JSON of the fields that are written for a request, with numbers below 2^32, is read back as that request.
 pub fn written_is_read_back()
@@ -11,6 +12,12 @@ pub fn written_is_read_back()
 /// What a supplier is sent of an export of a sound book is read as an import's rows: exactly the records, at most 512.
 pub fn export_is_read_back()
     ensures { ExportIsReadBack }
+{}
+
+/// The file of a proposal, of at most 512 placements that may stand in the cluster, is read as an import's rows: exactly these
+/// placements, in the order of the wishes. It has at most as many bytes as an import's file.
+pub fn proposed_is_read_back()
+    ensures { ProposedIsReadBack }
 {}
 
 /// What a supplier is sent of an export of a sound book has at most as many bytes as an import's file.

@@ -14,17 +14,21 @@ mod grants;
 mod layout;
 mod load;
 mod nodes;
+mod proposal;
 mod records;
 mod room;
 mod schedule;
 mod variants;
 
+use crate::report::proposal::push_proposal;
 use crate::report::records::push_records;
 use crate::report::room::push_room;
 use crate::style::Style;
 use crate::words::push;
 use fr_base::{Answer, Header, NoMemory, ReportRows};
 use std::alloc::Global;
+
+pub use crate::report::proposal::{write_proposed, write_unplaced};
 
 /// A row of a report, which makes one line or more.
 pub(crate) trait Row {
@@ -111,6 +115,10 @@ pub(crate) fn push_lines(
         }
         ReportRows::Difference(rows) => push_rows(rows.as_slice(), all, style, out),
         ReportRows::Fates(rows) => push_rows(rows.as_slice(), all, style, out),
+        ReportRows::Proposal {
+            replaces: _,
+            proposal,
+        } => push_proposal(proposal, style, out),
     }
 }
 

@@ -7,7 +7,7 @@ use Rattle.fr_base.specs.ImportRows.{up_to_refused}
 use Rattle.fr_base.specs.Step.{RefusedAt, whole_of}
 use Rattle.fr_base.specs.declared.delivery.Manner.{Manner}
 use Rattle.fr_base.specs.declared.delivery.Purpose.{Purpose}
-use Rattle.fr_base.specs.declared.delivery.Purpose.TheVariants.{Import, Replacement, Trial}
+use Rattle.fr_base.specs.declared.delivery.Purpose.TheVariants.{Import, Proposal, Replacement, Trial}
 use Rattle.fr_base.specs.declared.import.Header.{Header}
 use Rattle.fr_base.specs.declared.import.RowRead.{RowRead}
 use Rattle.fr_world.specs.Drafts.{IsOfSame}
@@ -25,11 +25,17 @@ abbrev pub is_trial : {N : Type 0} → Purpose N → Bool
 is_trial (Trial manner) = true
 is_trial _ = false
 
+-- whether a proposal is asked for: then the file has wishes, and no rows
+abbrev pub is_proposal : {N : Type 0} → Purpose N → Bool
+is_proposal (Proposal replace) = true
+is_proposal _ = false
+
 -- the edits that the rows of a file with this header are decided to, or the first refused row; those of a trial come to none
 abbrev pub file_edits : {N : Type 0} → Purpose N → PageData → Option Header → List RowRead → Result (List Edit) RefusedAt
 file_edits (Import label) page header reads = rows_decision page (up_to_refused reads)
 file_edits (Replacement whole) page header reads = replacement_decision page (whole_of whole header) (up_to_refused reads)
 file_edits (Trial manner) page header reads = Ok []
+file_edits (Proposal replace) page header reads = Ok []
 
 -- The rows act. The edits are those that they are decided to, and lead from the page to the draft's. A
 -- replacement that leaves the page as it was makes none.

@@ -1,5 +1,6 @@
 pub mod Maps
 pub mod Masks
+pub mod Proposals
 pub mod PageCells
 pub mod Pages
 pub mod Appending

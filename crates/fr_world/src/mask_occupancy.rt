@@ -7,14 +7,16 @@ ghost use Rattle.fr_base.specs.Load.{used_cycles};
 ghost use Rattle.fr_base.specs.Schedule.{fill, first_taken};
 ghost use Rattle.fr_world.specs.CycleChannels.{taken_of};
 ghost use Rattle.fr_world.specs.Loads.{lane_of};
-ghost use Rattle.fr_world.specs.Masks.{first_cycle, is_free_on};
+ghost use Rattle.fr_base.specs.declared.channel.Channel.{Channel as OneChannel};
+ghost use Rattle.fr_world.specs.Masks.{AreFilled, first_cycle, is_free_on, word_on};
 
 use crate::cycle_channel::CycleChannel;
+use crate::filled_cycles::FilledCycles;
 use crate::masks::Masks;
 use crate::occupancy::{Occupancy, TakenCell};
 use crate::page::ChannelSlot;
 use crate::row_occupancy::{RowOccupancy, Taken, first_of};
-use fr_base::{Channel, Channels, CycleSet, Name, NoMemory, Params, Placement, Refusal};
+use fr_base::{Channel, Channels, CycleSet, Name, NoMemory, Params, Placement, Refusal, Slot};
 use std::alloc::Global;
 use std::marker::Model;
 
@@ -76,6 +78,13 @@ impl MaskOccupancy {
         filled.mark(placement);
         self.masks.put(placement.slot, filled);
         Ok(())
+    }
+
+    /// The cycles in which the slot is filled.
+    pub(crate) fn filled_in(&self, slot: Slot) -> FilledCycles
+        ensures { (x : OneChannel) → AreFilled self.now slot x (word_on x result) }
+    {
+        self.masks.of(slot)
     }
 
     /// In how many of the cluster's cycles the lane is filled.

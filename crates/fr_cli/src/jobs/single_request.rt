@@ -1,19 +1,19 @@
-//! Asks a register for a report, a change or a trial, and gives the text of its answer.
+//! Asks a register for a report, a change, a trial or a proposal, and gives the text of its answer.
 ghost use Rattle.std.specs.Prelude.{◌≡◌, IfOk};
 ghost use Rattle.fr_base.specs.Desks.{AsksDesk};
 ghost use Rattle.fr_cli.specs.Asked.{asked_by};
 ghost use Rattle.fr_cli.specs.Reading.{Stays};
 ghost use Rattle.fr_cli.specs.SingleRequest.{IsAnswer, IsForReader, IsRefusedBy, IsToldBy, Leads, Prints, asked_with, for_reader, query_of};
-ghost use Rattle.fr_cli.specs.Outcomes.{printed_of};
+ghost use Rattle.fr_cli.specs.Outcomes.{file_of, printed_of, said_of};
 
 use crate::failure::Failure;
 use crate::fault::Fault;
 use crate::jobs::answers::actor_of;
 use crate::streams::answer_line::line_of;
-use crate::streams::outcome::{Outcome, outcome_of};
+use crate::streams::outcome::{Outcome, is_complete, outcome_of};
 use crate::words::inquiry::Inquiry;
-use fr_base::{Actor, Answer, Ask, Desk, NoMemory, Refusal, Request};
-use fr_text::write_lines;
+use fr_base::{Actor, Answer, Ask, Desk, NoMemory, Proposal, Refusal, ReportRows, Request};
+use fr_text::{write_lines, write_proposed, write_unplaced};
 use std::alloc::Global;
 
 /// The report for which the query asks, as its reader sees it.
@@ -33,7 +33,7 @@ pub fn report_on<D: Desk>(
     tell_answer(alloc, &for_reader(given))
 }
 
-/// Asks for a change or a trial, as whoever has the key, and gives what is printed of the answer.
+/// Asks for a change, a trial or a proposal, as whoever has the key, and gives what is printed of the answer.
 pub fn change<D: Desk>(
     alloc: Global,
     desk: &mut D,
@@ -87,17 +87,48 @@ fn tell_answer(alloc: Global, answer: &Answer) -> Result<Vec<u8>, Failure>
         Outcome::RefusedRows => Err(Failure::RefusedRows {
             text: printed_of(alloc, answer)?,
         }),
+        Outcome::UnplacedWishes => Err(Failure::UnplacedWishes {
+            file: printed_of(alloc, answer)?,
+            lines: said_of(alloc, answer)?,
+        }),
         Outcome::Refused => Err(tell_refusal(alloc, answer)),
     }
 }
 
-// The lines of a report, or the line of another answer.
+// The file of a proposal, the lines of another report, or the line of another answer.
 fn printed_of(alloc: Global, answer: &Answer) -> Result<Vec<u8>, NoMemory>
     ensures { IfOk result (λ text. text.items ≡ printed_of answer.now) }
 {
     match answer {
+        Answer::Report {
+            rows: ReportRows::Proposal { replaces, proposal },
+            ..
+        } => file_of(alloc, *replaces, proposal),
         Answer::Report { .. } => write_lines(alloc, answer),
         _ => line_of(alloc, answer),
+    }
+}
+
+// The file with which a supplier takes a proposal. A replacement has none where a wish has no placement.
+fn file_of(alloc: Global, replaces: bool, proposal: &Proposal) -> Result<Vec<u8>, NoMemory>
+    ensures { IfOk result (λ text. text.items ≡ file_of replaces proposal.now) }
+{
+    if replaces && !is_complete(proposal) {
+        return Ok(Vec::new(alloc));
+    }
+    write_proposed(alloc, proposal)
+}
+
+// The lines of a proposal beside its file; none of another answer.
+fn said_of(alloc: Global, answer: &Answer) -> Result<Vec<u8>, NoMemory>
+    ensures { IfOk result (λ text. text.items ≡ said_of answer.now) }
+{
+    match answer {
+        Answer::Report {
+            rows: ReportRows::Proposal { proposal, .. },
+            ..
+        } => write_unplaced(alloc, proposal),
+        _ => Ok(Vec::new(alloc)),
     }
 }
 

@@ -1,8 +1,9 @@
-//! What an answer says of what was asked: that it is done, that rows of a file would be refused, or that it is refused.
+//! What an answer says of what was asked: that it is done, that rows of a file would be refused, that wishes are left without a
+//! placement, or that it is refused.
 ghost use Rattle.std.specs.Prelude.{◌≡◌};
-ghost use Rattle.fr_cli.specs.Outcomes.{has_refused_row, outcome_of};
+ghost use Rattle.fr_cli.specs.Outcomes.{has_refused_row, is_complete, outcome_of};
 
-use fr_base::{Answer, FateRow, ReportRows};
+use fr_base::{Answer, FateRow, Proposal, ReportRows};
 
 /// How a job ends by its answer.
 #[derive(Clone, Copy, PartialEq, Eq)]
@@ -11,6 +12,8 @@ pub enum Outcome {
     Done,
     /// It has told of the rows of a file, and some of them would be refused.
     RefusedRows,
+    /// It has proposed placements for wishes, and some are left without one.
+    UnplacedWishes,
     /// It is refused.
     Refused,
 }
@@ -25,6 +28,10 @@ pub fn outcome_of(answer: &Answer) -> Outcome
             rows: ReportRows::Fates(rows),
             ..
         } if has_refused_row(rows.as_slice()) => Outcome::RefusedRows,
+        Answer::Report {
+            rows: ReportRows::Proposal { proposal, .. },
+            ..
+        } if !is_complete(proposal) => Outcome::UnplacedWishes,
         _ => Outcome::Done,
     }
 }
@@ -34,4 +41,11 @@ fn has_refused_row(rows: &[FateRow]) -> bool
     ensures { result ≡ has_refused_row rows.now }
 {
     rows.iter().any(|row| row.refusal.is_some())
+}
+
+/// Whether each wish has a placement, and so no node lacks a slot.
+pub fn is_complete(proposal: &Proposal) -> bool
+    ensures { result ≡ is_complete proposal.now }
+{
+    proposal.lacks.is_empty() && proposal.rows.as_slice().iter().all(|row| row.proposed.is_ok())
 }

@@ -17,6 +17,11 @@ pub fn tell<O: Sink, E: Sink>(done: Result<Vec<u8>, Failure>, out: &mut O, err: 
             let _ = print_all(&text, out, err);
             1
         }
+        Err(Failure::UnplacedWishes { file, lines }) => {
+            let _ = print(&lines, err);
+            let _ = print_all(&file, out, err);
+            1
+        }
         Err(Failure::Refused { line }) => {
             let _ = print(&line, err);
             1

@@ -41,6 +41,7 @@ pub fn program<'a>(alloc: Global) -> Result<Command<'a>, AllocError>
         .subcommand(import(alloc)?)?
         .subcommand(replace(alloc)?)?
         .subcommand(trial(alloc)?)?
+        .subcommand(propose(alloc)?)?
         .subcommand(check(alloc)?)?
         .subcommand(explain(alloc)?)?;
     Ok(program)
@@ -151,7 +152,7 @@ fn memory<'a>(alloc: Global) -> Arg<'a>
         .value_name("MIB")
         .help("Keeps pages of at most so many MiB in memory")
         .action(ArgAction::Set)
-        .default_value("128")
+        .default_value("512")
         .value_parser(value_parser!(u32).range(1..=1_000_000))
 }
 
@@ -357,6 +358,25 @@ fn trial<'a>(alloc: Global) -> Result<Command<'a>, AllocError>
     Ok(command)
 }
 
+// What is proposed for the wishes of a file.
+fn propose<'a>(alloc: Global) -> Result<Command<'a>, AllocError>
+    ensures { IfOk result (IsReadAs app.propose_words) }
+{
+    let command = Command::new(alloc, "propose")
+        .about("Proposes a placement for each wish of a supplier's CSV file, and changes nothing")
+        .after_help(PROPOSE_HELP)
+        .arg(db(alloc))?
+        .arg(key(alloc))?
+        .arg(variant(alloc))?
+        .arg(rows(alloc))?
+        .arg(flag(
+            alloc,
+            "replace",
+            "Proposes what replace would put in the place of the placements of the frames that are named",
+        ))?;
+    Ok(command)
+}
+
 // The command `check`, with the texts that it may take.
 fn check_texts<'a>(alloc: Global) -> Result<Command<'a>, AllocError>
     ensures { IfOk result (IsReadAs app.check_texts) }
@@ -454,7 +474,7 @@ fn key<'a>(alloc: Global) -> Arg<'a>
     )
 }
 
-// A file of rows.
+// A file of rows or wishes.
 fn rows<'a>(alloc: Global) -> Arg<'a>
     ensures { (rule_of result ≡ app.word (codes "FILE")) × (result.global ≡ false) }
 {
@@ -651,6 +671,20 @@ Example:
   slotplan try car.db - v1 placements.csv < key.txt
   slotplan try car.db - v1 placements.csv --replace < key.txt
   slotplan try car.db - v1 placements.csv --replace --whole < key.txt";
+
+const PROPOSE_HELP: &str = "\
+FILE has the header frame,node,channels,repetition. Each further row is a wish: one more
+placement of the frame. Standard output has the file to import: the header and a row for
+each wish. A line for each wish without a placement goes to standard error, as 0004 32
+NoRoom, where the header is line 1, and how many slots a node lacks, as LACK n1 A 0001.
+Where there is one the status is 1, and with --replace standard output is empty.
+
+Other users of the machine may see a key that stands on the command line. With - for KEY
+it is read from standard input, whose first line it is.
+
+Example:
+  slotplan propose car.db - v1 wishes.csv < key.txt > placements.csv
+  slotplan propose car.db - v1 wishes.csv --replace < key.txt > placements.csv";
 
 const CHECK_HELP: &str = "\
 Of a cluster file the first fault is told, of requests and rows each fault with its line,

@@ -1,4 +1,4 @@
-//! What a supplier delivers to a register: a file of rows, as an import, in place of earlier rows, or to be tried.
+//! What a supplier delivers to a register: a file of rows, as an import, in place of earlier rows, or to be tried; or of wishes.
 ghost use Rattle.std.specs.Prelude.{◌≡◌, IfOk};
 ghost use Rattle.fr_cli.specs.Deliveries.{request_with};
 
@@ -6,12 +6,12 @@ use crate::words::inquiry::Copies;
 use fr_base::{Body, NoMemory, Purpose, Request, Text};
 use std::alloc::Global;
 
-/// A file of rows that a supplier delivers, as the command line gives it.
+/// A file that a supplier delivers, as the command line gives it.
 #[derive(Clone, Copy, PartialEq, Eq)]
 pub struct Delivery<'a> {
     /// The key of who delivers it, or `-`, where it is the first line of standard input.
     pub key: &'a str,
-    /// The variant into which the file's rows go.
+    /// The variant into which the file's rows go, or in which the wishes are to have room.
     pub variant: &'a str,
     /// What it is delivered for.
     pub how: Purpose<&'a str>,

@@ -127,9 +127,9 @@ pub fn name_faults(alloc: Global, request: &Request) -> Result<Vec<String>, NoMe
             let variant = name("variant", variant);
             match how {
                 Purpose::Import { label } => faults(alloc, &[variant, name("label", label)]),
-                Purpose::Replacement { whole: _ } | Purpose::Trial { manner: _ } => {
-                    faults(alloc, &[variant])
-                }
+                Purpose::Replacement { whole: _ }
+                | Purpose::Trial { manner: _ }
+                | Purpose::Proposal { replace: _ } => faults(alloc, &[variant]),
             }
         }
         Request::Query(query) => query_faults(alloc, query),

@@ -2,33 +2,34 @@
 ghost use Rattle.std.specs.Prelude.{◌≡◌, ◌&&◌, [], IfOk, OnOk, false, is_none};
 ghost use Rattle.csv.specs.Records.{fields_of};
 ghost use Rattle.fr_guide.specs.Faults.{are_none};
-ghost use Rattle.fr_guide.specs.Rows.{is_fine_frame, is_fine_placement, is_fine_row, is_fine_signal};
+ghost use Rattle.fr_guide.specs.Rows.{is_fine_frame, is_fine_placement, is_fine_row, is_fine_signal, is_fine_wish};
 
 use crate::line_faults::one_fault;
+use crate::rows::file_kind::FileKind;
 use crate::rows::wanted;
 use crate::shown::shown_bytes;
 use csv::ByteRecord;
 use fr_base::{Header, NoMemory};
-use fr_text::names;
 use std::alloc::Global;
 
-/// The faults of a record below this header.
+/// The faults of a record of this kind.
 #[tactic(auto, unfolding(crate::specs::Rows::is_fine_row))]
 pub fn field_faults(
     alloc: Global,
-    header: Header,
+    kind: FileKind,
     fields: &ByteRecord,
 ) -> Result<Vec<String>, NoMemory>
     ensures { IfOk result (λ faults.
-        are_none faults.items ≡ is_fine_row header (fields_of fields.now)) }
+        are_none faults.items ≡ is_fine_row kind (fields_of fields.now)) }
 {
-    if fields.len() != names(header).len() {
-        return count_faults(alloc, header, fields);
+    if fields.len() != kind.names().len() {
+        return count_faults(alloc, kind, fields);
     }
-    let faults = match header {
-        Header::Frames => frame_faults(alloc, fields)?,
-        Header::Placements => placement_faults(alloc, fields)?,
-        Header::Signals => signal_faults(alloc, fields)?,
+    let faults = match kind {
+        FileKind::Rows(Header::Frames) => frame_faults(alloc, fields)?,
+        FileKind::Rows(Header::Placements) => placement_faults(alloc, fields)?,
+        FileKind::Rows(Header::Signals) => signal_faults(alloc, fields)?,
+        FileKind::Wishes => wish_faults(alloc, fields)?,
     };
     if !faults.is_empty() && fields.iter().all(<[u8]>::is_empty) {
         return one_fault(alloc, String::from_str(alloc, "all fields are empty")?);
@@ -78,6 +79,19 @@ fn signal_faults(alloc: Global, fields: &ByteRecord) -> Result<Vec<String>, NoMe
     Ok(faults.told)
 }
 
+// The faults of the fields of a wish.
+#[tactic(auto, unfolding(crate::specs::Rows::is_fine_wish))]
+fn wish_faults(alloc: Global, fields: &ByteRecord) -> Result<Vec<String>, NoMemory>
+    ensures { IfOk result (λ faults. are_none faults.items ≡ is_fine_wish (fields_of fields.now)) }
+{
+    let mut faults = RowFaults::new(alloc, fields);
+    faults.add(0, "frame", wanted::name(fields, 0))?;
+    faults.add(1, "node", wanted::name(fields, 1))?;
+    faults.add(2, "channels", wanted::channels(fields, 2))?;
+    faults.add(3, "repetition", wanted::repetition(fields, 3))?;
+    Ok(faults.told)
+}
+
 // The faults of a record's fields.
 #[derive(Drop)]
 struct RowFaults<'f> {
@@ -124,10 +138,10 @@ fn fault(
 }
 
 // The faults of a record that has not as many fields as its header.
-fn count_faults(alloc: Global, header: Header, fields: &ByteRecord) -> Result<Vec<String>, NoMemory>
+fn count_faults(alloc: Global, kind: FileKind, fields: &ByteRecord) -> Result<Vec<String>, NoMemory>
     ensures { IfOk result (λ faults. are_none faults.items ≡ false) }
 {
-    let (found, wanted) = (fields.len(), names(header).len());
+    let (found, wanted) = (fields.len(), kind.names().len());
     let hint = hint(fields, wanted);
     let fault = format!(in alloc;
         "the number of fields is {found}, the header has {wanted}{hint}"

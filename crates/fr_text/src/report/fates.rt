@@ -1,6 +1,6 @@
 //! The lines of a trial: the fate of each row of a file.
 ghost use Rattle.std.specs.Prelude.{◌≡◌, ◌++◌, [], OnOk, OnErr};
-ghost use Rattle.fr_text.specs.FateLines.{fate_line, fate_words, taken_words};
+ghost use Rattle.fr_text.specs.FateLines.{fate_line, fate_words, refusal_words, taken_words};
 ghost use Rattle.fr_text.specs.Words.{behind, Extends};
 
 use super::Row;
@@ -26,16 +26,23 @@ fn push_fate(refusal: &Option<Refusal>, out: &mut Vec<u8>) -> Result<(), NoMemor
     ensures err { OnErr result (Extends out.old.items out.new.items) }
 {
     match refusal {
-        Some(refusal) => {
-            push_word(&two_digits(u32::from(refusal.number())), out)?;
-            push_word(refusal.name().as_bytes(), out)?;
-            push_taken(refusal, out)
-        }
+        Some(refusal) => push_refusal(refusal, out),
         None => {
             push_word(b"00", out)?;
             push_word(b"done", out)
         }
     }
+}
+
+/// Appends the number and the name of what refuses a row, and what it meets.
+#[tactic(auto, using(crate::proofs::WordsLemmas::extending))]
+pub(super) fn push_refusal(refusal: &Refusal, out: &mut Vec<u8>) -> Result<(), NoMemory>
+    ensures ok { OnOk result (out.new.items ≡ out.old.items ++ behind (refusal_words refusal.now)) }
+    ensures err { OnErr result (Extends out.old.items out.new.items) }
+{
+    push_word(&two_digits(u32::from(refusal.number())), out)?;
+    push_word(refusal.name().as_bytes(), out)?;
+    push_taken(refusal, out)
 }
 
 // Appends what has taken the cell or the bit. Other refusals have no more words.

@@ -39,8 +39,8 @@ fn push_header(header: Header, all: bool, out: &mut Vec<u8>) -> Result<(), NoMem
     push_owner(all, b"supplier", out)
 }
 
-// The names of a supplier's fields.
-fn header_text(header: Header) -> &'static str
+/// The names of a supplier's fields.
+pub(super) fn header_text(header: Header) -> &'static str
     ensures { result.now ≡ comma_line (spelled header) }
 {
     match header {
@@ -77,9 +77,9 @@ impl Row for PlacementRecord {
     }
 }
 
-// Appends slot, channels, base and repetition, a comma before each.
+/// Appends slot, channels, base and repetition, a comma before each.
 #[tactic(auto, using(crate::proofs::WordsLemmas::extending))]
-fn push_placement(placement: &Placement, out: &mut Vec<u8>) -> Result<(), NoMemory>
+pub(super) fn push_placement(placement: &Placement, out: &mut Vec<u8>) -> Result<(), NoMemory>
     ensures ok { OnOk result (out.new.items ≡ out.old.items
         ++ comma_behind (placement_fields placement.now)) }
     ensures err { OnErr result (Extends out.old.items out.new.items) }

@@ -25,6 +25,10 @@ pub(super) fn pick(alloc: Global, word: &str, fields: &Fields) -> Result<Option<
             let manner = manner_in(fields);
             delivery(alloc, fields, Purpose::Trial { manner })
         }
+        "propose" => {
+            let replace = flag_in(fields, "replace");
+            delivery(alloc, fields, Purpose::Proposal { replace })
+        }
         _ => Ok(None),
     }
 }

@@ -1,7 +1,7 @@
 //! How a delivered file is decided on the supplier's page.
 ghost use Rattle.std.specs.Prelude.{◌≡◌, false, MatchResult};
 ghost use Rattle.fr_base.specs.ImportRows.{up_to_refused};
-ghost use Rattle.fr_world.specs.FileDecisions.{IsDecided, file_edits};
+ghost use Rattle.fr_world.specs.FileDecisions.{IsDecided, file_edits, is_proposal};
 ghost use Rattle.fr_world.specs.RowDecisions.{AreChecked};
 ghost use Rattle.fr_world.specs.RowFaults.{IsFault};
 
@@ -28,8 +28,8 @@ pub enum FileDecision {
 /// acts: then that row is the fault. Those of a trial are told, to the file's end, and the only fault is
 /// want of memory. The page stays.
 ///
-/// The page's variant is open, and the rows were read under its parameters. The label and the limits of
-/// imports are not looked at.
+/// The file is no list of wishes. The page's variant is open, and the rows were read under its parameters.
+/// The label and the limits of imports are not looked at.
 pub fn decide_file(
     alloc: Global,
     page: &Page,
@@ -37,6 +37,7 @@ pub fn decide_file(
     rows: &[RowRead],
     how: &Purpose<Name>,
 ) -> Result<FileDecision, RowFault>
+    requires rows { is_proposal how.now ≡ false }
     requires open { page.now.released ≡ false }
     requires checked { AreChecked page.now.params rows.now }
     ensures { MatchResult result (IsDecided how.now page.now header rows.now)
@@ -56,6 +57,7 @@ pub fn decide_file(
             let fates = try_rows(alloc, copy(page)?, header, rows, *manner);
             Ok(FileDecision::Told(fates.map_err(|_refusal| RowFault::Unavailable)?))
         }
+        Purpose::Proposal { .. } => unreachable!(),
     }
 }
 

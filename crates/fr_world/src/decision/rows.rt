@@ -7,7 +7,7 @@ use crate::page::{ChannelSlot, Page, PageFrame};
 use fr_base::{Channel, Name, Slot};
 
 /// Whether the supplier has the node.
-pub(super) fn has_node(page: &Page, node: Name) -> bool
+pub(crate) fn has_node(page: &Page, node: Name) -> bool
     ensures { result ≡ contains (own_rows_of page.now).nodes (page.now.supplier, node) }
 {
     page.nodes().contains(&node)

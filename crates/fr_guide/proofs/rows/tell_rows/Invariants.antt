@@ -7,7 +7,7 @@ use Rattle.fr_guide.proofs.rows.tell_rows.Given as goal
 
 abbrev pub invariant-loop-place : goal.invariant-loop-place
 invariant-loop-place l = record {
-  rows : map is_fine l.told.items ++ fine_rows l.header l.room l.records ≡ map is_fine l.fn.told.items ++ fine_rows l.header MAX_ROWS l.fn.records;
+  rows : map is_fine l.told.items ++ fine_rows l.kind l.room l.records ≡ map is_fine l.fn.told.items ++ fine_rows l.kind MAX_ROWS l.fn.records;
   lines : AreInOrder 1 l.fn.place.line (numbers_of l.fn.told.items) → AreInOrder 1 l.place.line (numbers_of l.told.items);
   all : l.place.line + line_ends l.place.rest.now ≡ l.fn.place.line + line_ends l.fn.place.rest.now;
 }

@@ -3,7 +3,7 @@ use Rattle.std.specs.List.{list_any}
 use Rattle.std.specs.Str.{bytes_eq}
 use Rattle.fr_guide.proofs.TopicLemmas.{any_more}
 use Rattle.fr_guide.proofs.topics.are_about.Goals as goal
-use Rattle.fr_guide.specs.Topics.{clusters, edits, explained, fields, files, grants, inputs, keys, labels, missing, register, rows, segments, senders, signals, variants}
+use Rattle.fr_guide.specs.Topics.{clusters, edits, explained, fields, files, grants, inputs, keys, labels, missing, register, rows, segments, senders, signals, variants, wishes}
 
 pub returns : goal.returns
 unfolding explained
@@ -32,11 +32,13 @@ returns c =
     let words10 = words9 ++ rows in
     let w11 = any_more has words10 keys _ _ w10 (c.has-11.ensures ∙ ap is c.topics-11.ensures) in
     let words11 = words10 ++ keys in
-    let w12 = any_more has words11 clusters _ _ w11 (c.has-12.ensures ∙ ap is c.topics-12.ensures) in
-    let words12 = words11 ++ clusters in
-    let w13 = any_more has words12 segments _ _ w12 (c.has-13.ensures ∙ ap is c.topics-13.ensures) in
-    let words13 = words12 ++ segments in
-    let w14 = any_more has words13 inputs _ _ w13 (c.has-14.ensures ∙ ap is c.topics-14.ensures) in
-    let words14 = words13 ++ inputs in
-    let w15 = any_more has words14 files _ _ w14 (c.has-15.ensures ∙ ap is c.topics-15.ensures) in
-    w15
+    let w12 = any_more has words11 wishes _ _ w11 (c.has-12.ensures ∙ ap is c.topics-12.ensures) in
+    let words12 = words11 ++ wishes in
+    let w13 = any_more has words12 clusters _ _ w12 (c.has-13.ensures ∙ ap is c.topics-13.ensures) in
+    let words13 = words12 ++ clusters in
+    let w14 = any_more has words13 segments _ _ w13 (c.has-14.ensures ∙ ap is c.topics-14.ensures) in
+    let words14 = words13 ++ segments in
+    let w15 = any_more has words14 inputs _ _ w14 (c.has-15.ensures ∙ ap is c.topics-15.ensures) in
+    let words15 = words14 ++ inputs in
+    let w16 = any_more has words15 files _ _ w15 (c.has-16.ensures ∙ ap is c.topics-16.ensures) in
+    w16

@@ -22,4 +22,5 @@ returns c =
     let w13 = grown _ _ _ _ _ c.in_ok-add-13.ensures w12 c.topics-13.ensures in
     let w14 = grown _ _ _ _ _ c.in_ok-add-14.ensures w13 c.topics-14.ensures in
     let w15 = grown _ _ _ _ _ c.in_ok-add-15.ensures w14 c.topics-15.ensures in
-    w15
+    let w16 = grown _ _ _ _ _ c.in_ok-add-16.ensures w15 c.topics-16.ensures in
+    w16

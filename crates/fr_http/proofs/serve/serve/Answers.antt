@@ -5,7 +5,8 @@ use Rattle.std.specs.Option.{option_map}
 use Rattle.fr_base.specs.declared.answer.Answer.TheVariants as answer
 use Rattle.fr_http.specs.Connection.{HasTaken}
 use Rattle.fr_http.specs.Exchanges.{IsExplanation}
-use Rattle.fr_http.specs.Reply.{Reply, answer_reply, engine_reply, planner_reply}
+use Rattle.fr_http.specs.Reply.{Reply, answer_reply, engine_reply}
+use Rattle.fr_http.specs.PageReply.{planner_reply}
 use Rattle.fr_http.specs.Replying.{IsReply}
 use Rattle.fr_http.specs.declared.reply.ReplyText.{ReplyText}
 use Rattle.fr_http.specs.declared.fault.Unasked.TheVariants.{Engine, Explained, Fault, Page, Refused}
@@ -36,12 +37,14 @@ returns-in-Err-Engine-clause-served g c =
 
 pub returns-in-Err-Page-clause-served : goal.returns-in-Err-Page-clause-served
 returns-in-Err-Page-clause-served g c =
-    let is : c.take.result ≡ Err Page = c.in-Err-Page.is ∙ ap (λ u. Err u) c.in-Err-Page.field-0-is in
+    let part = c.in-Err-Page.part in
+    let has = c.in-Err-Page.held in
+    let is : c.take.result ≡ Err (Page part has) = c.in-Err-Page.is ∙ ap (λ u. Err u) c.in-Err-Page.field-0-is in
     let t : HasTaken (g.D.Desk.stands c.args.desk.now) (g.R.Read.remaining c.args.input.now.reader.now) (g.R.Read.remaining c.take.new.input.reader.now)
-    (g.W.Write.contents c.args.output.now.writer.now) (g.W.Write.contents c.take.new.output.writer.now) (Err Page) = subst (HasTaken _ _ _ _ _) is c.take.ensures.taken.does in
+    (g.W.Write.contents c.args.output.now.writer.now) (g.W.Write.contents c.take.new.output.writer.now) (Err (Page part has)) = subst (HasTaken _ _ _ _ _) is c.take.ensures.taken.does in
     record {
-      does = served_unasked _ _ _ _ _ _ _ Page planner_reply c.send-in-Err-Page.result t t.takes.0 t.takes.1 refl
-          (replied c.planner_reply.result planner_reply false _ _ c.send-in-Err-Page.result c.planner_reply.ensures c.send-in-Err-Page.ensures.sent.does);
+      does = served_unasked _ _ _ _ _ _ _ (Page part has) (planner_reply part has) c.send-in-Err-Page.result t t.takes.0 t.takes.1 refl
+          (replied c.planner_reply.result (planner_reply part has) false _ _ c.send-in-Err-Page.result c.planner_reply.ensures c.send-in-Err-Page.ensures.sent.does);
       same_reader = search rules;
       same_writer = search rules;
     }

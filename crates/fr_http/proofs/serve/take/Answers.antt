@@ -79,9 +79,9 @@ returns-in_err-operation-clause-taken g c =
     let is : c.from_residual-in_err-operation.result ≡ Err unasked = search rules in
     let (more, consumed, there, few) = c.in_ok-body.ensures.body.does in
     let body = c.in_ok-body.body.items in
-    let makes : MakesOperation plan.route (path_of received.0.target) body (Err unasked) =
-    subst (λ b. MakesOperation plan.route (path_of received.0.target) b (Err unasked)) c.deref.ensures.value
-    (subst (λ p. MakesOperation plan.route p c.deref.result.now (Err unasked)) c.in_ok-plan.ensures.1 c.in_err-operation.ensures) in
+    let makes : MakesOperation plan.route (path_of received.0.target) received.0.fields body (Err unasked) =
+    subst (λ b. MakesOperation plan.route (path_of received.0.target) received.0.fields b (Err unasked)) c.deref.ensures.value
+    (subst (λ p. MakesOperation plan.route p received.0.fields c.deref.result.now (Err unasked)) c.in_ok-plan.ensures.1 c.in_err-operation.ensures) in
     record {
       does = subst (HasTaken _ _ _ _ _) (sym is) (
           no_operation _ _ _ _ _ _ received w more (record { has = has; plan = c.in_ok-plan.ensures.0; written = c.in_ok-invite.ensures.sent.does }) (record { consumed = consumed; bound = subst (λ r. length more ≤ plan.length - length r) c.rest.ensures few }) body
@@ -99,7 +99,7 @@ returns-in_err-operation-clause-reads g c =
     let first = c.in_ok-received.ensures.reads.spends in
     record {
       spends = spends_more g.R.Source.reads _ _ _ _ _ _ first c.in_ok-body.ensures.reads.spends;
-      ended = subst (λ r. IfErr r (λ u. MayEndAsking g.R.Source.reads u left.reader.now left.reads)) (sym is) (unread g.R.Source.reads _ _ _ unasked left.reader.now left.reads c.in_err-operation.ensures);
+      ended = subst (λ r. IfErr r (λ u. MayEndAsking g.R.Source.reads u left.reader.now left.reads)) (sym is) (unread g.R.Source.reads _ _ _ _ unasked left.reader.now left.reads c.in_err-operation.ensures);
     }
 
 pub returns-in_err-actor-clause-taken : goal.returns-in_err-actor-clause-taken
@@ -112,8 +112,9 @@ returns-in_err-actor-clause-taken g c =
     let (more, consumed, there, few) = c.in_ok-body.ensures.body.does in
     let body = c.in_ok-body.body.items in
     let what = c.in_ok-operation.operation in
-    let makes : operation_by plan.route (path_of received.0.target) body ≡ Ok what =
-    ap (λ p. operation_by plan.route p body) (sym c.in_ok-plan.ensures.1) ∙ ap (operation_by plan.route plan.path.now) (sym c.deref.ensures.value) ∙ c.in_ok-operation.ensures in
+    let makes : operation_by plan.route (path_of received.0.target) received.0.fields body ≡ Ok what =
+    ap (λ p. operation_by plan.route p received.0.fields body) (sym c.in_ok-plan.ensures.1)
+    ∙ ap (operation_by plan.route plan.path.now received.0.fields) (sym c.deref.ensures.value) ∙ c.in_ok-operation.ensures in
     let nobody : c.actor.result ≡ None = search rules in
     record {
       does = subst (HasTaken _ _ _ _ _) (sym is) (
@@ -134,8 +135,9 @@ returns-clause-taken g c =
     let body = c.in_ok-body.body.items in
     let what = c.in_ok-operation.operation in
     let actor = c.in_ok-actor.actor in
-    let makes : operation_by plan.route (path_of received.0.target) body ≡ Ok what =
-    ap (λ p. operation_by plan.route p body) (sym c.in_ok-plan.ensures.1) ∙ ap (operation_by plan.route plan.path.now) (sym c.deref.ensures.value) ∙ c.in_ok-operation.ensures in
+    let makes : operation_by plan.route (path_of received.0.target) received.0.fields body ≡ Ok what =
+    ap (λ p. operation_by plan.route p received.0.fields body) (sym c.in_ok-plan.ensures.1)
+    ∙ ap (operation_by plan.route plan.path.now received.0.fields) (sym c.deref.ensures.value) ∙ c.in_ok-operation.ensures in
     let found : c.actor.result ≡ Some actor = search rules in
     let is : c.asked_by.result ≡ asked_by actor (method_of plan.route) what = c.asked_by.ensures ∙ ap (λ m. asked_by actor m what) c.method.ensures in
     record {
@@ -181,7 +183,7 @@ returns-in_err-operation-clause-failed g c =
     let unasked = c.in_err-operation.field-0.0 in
     let is : c.from_residual-in_err-operation.result ≡ Err unasked = search rules in
     let last = c.invite.new.output.writer.now in
-    subst (λ r. IfErr r (λ u. MayFailAsking g.W.Sink.writes g.W.Sink.flushes u last)) (sym is) (unmade g.W.Sink.writes g.W.Sink.flushes _ _ _ unasked last c.in_err-operation.ensures)
+    subst (λ r. IfErr r (λ u. MayFailAsking g.W.Sink.writes g.W.Sink.flushes u last)) (sym is) (unmade g.W.Sink.writes g.W.Sink.flushes _ _ _ _ unasked last c.in_err-operation.ensures)
 
 pub returns-in_err-actor-clause-failed : goal.returns-in_err-actor-clause-failed
 returns-in_err-actor-clause-failed g c =

@@ -18,7 +18,7 @@ overflow_cast-count g c =
     let acted : IsActed c.args.delivery.now.how c.lent-page.result.now c.in_ok-header.header c.in_ok-rows.rows c.in-Ok-Acts.draft = search rules in
     let read : c.in_ok-rows.rows ≡ rows_on page d = search rules in
     let decided : file_edits d.how page header (rows_on page d) ≡ Ok edits = subst (λ (rows : List RowRead). file_edits d.how page header rows ≡ Ok edits) read acted.edits in
-    let few : length (rows_on page d) ≤ MAX_ROWS = (few_rows_act d.how page header d.body edits acted.acts decided).0 in
+    let few : length (rows_on page d) ≤ MAX_ROWS = (few_rows_act d.how page header d.body edits acted.acts c.requires.rows decided).0 in
     let counted : c.len-count.result ≡ length c.in_ok-rows.rows = search rules in
     let same : c.len-count.result ≡ length (rows_on page d) = counted ∙ ap length read in
     omega (arith, few, same)
@@ -49,10 +49,10 @@ returns-in-Ok-Acts g c =
     let read : c.in_ok-rows.rows ≡ rows_on page d = search rules in
     let headed : header ≡ header_of_body d.body = search rules in
     let counted : count ≡ length c.in_ok-rows.rows = search rules in
-    let so = acted_rows d d.how page header c.in_ok-rows.rows edits count acted.acts read headed counted acted.edits in
+    let so = acted_rows d d.how page header c.in_ok-rows.rows edits count acted.acts c.requires.rows read headed counted acted.edits in
     has_some (CarriesFile records d d.how old new c.carry_out.result) lent page c.lent-page.ensures (record {
       falls = c.carry_out.ensures.falls;
       serves = λ clean. serves_acted (records.serves new) c.carry_out.result (c.carry_out.ensures.serves clean);
-      leaves = λ clean. rows_stay d d.how page edits count acted.acts so.0 unreleased so.1 (records.stands old) (records.leaves old) (records.leaves new) (c.carry_out.ensures.leaves clean);
-      gives = λ clean. rows_acted d d.how page edits count acted.acts so.0 unreleased so.1 (records.stands old) (records.stands new) c.carry_out.result (c.carry_out.ensures.applies clean);
+      leaves = λ clean. rows_stay d d.how page edits count acted.acts c.requires.rows so.0 unreleased so.1 (records.stands old) (records.leaves old) (records.leaves new) (c.carry_out.ensures.leaves clean);
+      gives = λ clean. rows_acted d d.how page edits count acted.acts c.requires.rows so.0 unreleased so.1 (records.stands old) (records.stands new) c.carry_out.result (c.carry_out.ensures.applies clean);
     })

@@ -74,13 +74,13 @@ returns g c =
     let mid = c.rows_kept.new.records in
     let next = c.imports_kept.new.records in
     let last = c.open_page.new.records in
-    let new_records = c.decide_rows.new.records in
+    let new_records = c.decide.new.records in
     let lent = g.R.Lender.lent last in
     let page = some_of lent c.in_ok-open_page.ensures.lent in
-    let rows : CarriesFile records d d.how last new_records c.decide_rows.result page.0 = some_has (CarriesFile records d d.how last new_records c.decide_rows.result) lent page.0 page.1 c.decide_rows.ensures in
+    let rows : CarriesFile records d d.how last new_records c.decide.result page.0 = some_has (CarriesFile records d d.how last new_records c.decide.result) lent page.0 page.1 c.decide.ensures in
     record {
       falls = λ clean. c.rows_kept.ensures.reads.falls (c.imports_kept.ensures.reads.falls (c.open_page.ensures.opens.reads.falls (rows.falls clean)));
-      serves = λ clean. after_rows (records.stands old) d d.how (records.serves new_records) c.decide_rows.result (rows.serves clean);
+      serves = λ clean. after_rows (records.stands old) d d.how (records.serves new_records) c.decide.result (rows.serves clean);
       leaves = λ clean cl b books stood sound known left.
           let clean_last = rows.falls clean in
           let clean_next = c.open_page.ensures.opens.reads.falls clean_last in
@@ -97,5 +97,5 @@ returns g c =
           let clean_next = c.open_page.ensures.opens.reads.falls clean_last in
           let new : IsNew (records.stands old) (records.stands mid) d d.how = label_free d d.how (records.stands old) (records.stands mid) c.in_ok-rows.field-0 (search rules) (c.in_ok-rows.ensures.told (c.imports_kept.ensures.reads.falls clean_next)) in
           rows_given d d.how (records.stands old) (records.stands mid) new (records.stands next) c.in_ok-kept.kept (c.in_ok-kept.ensures.told clean_next) (records.stands last) lent page.0 page.1 (c.in_ok-open_page.ensures.opens.told clean_last) (search rules)
-          (records.stands new_records) c.decide_rows.result (has_some (GivesFile (records.stands last) (records.stands new_records) c.decide_rows.result d d.how) lent page.0 page.1 (rows.gives clean));
+          (records.stands new_records) c.decide.result (has_some (GivesFile (records.stands last) (records.stands new_records) c.decide.result d d.how) lent page.0 page.1 (rows.gives clean));
     }

@@ -29,5 +29,6 @@ returns c =
     let changes = with_job _ _ _ _ _ c.in_ok-subcommand-9.ensures
     (with_job _ _ _ _ _ c.in_ok-subcommand-8.ensures
     (with_job _ _ _ _ _ c.in_ok-subcommand-7.ensures pages c.in_ok-import.ensures) c.in_ok-replace.ensures) c.in_ok-trial.ensures in
+    let proposals = with_job _ _ _ _ _ c.in_ok-subcommand-10.ensures changes c.in_ok-propose.ensures in
     with_job _ _ _ _ _ c.in_ok-program-2.ensures
-    (with_job _ _ _ _ _ c.in_ok-subcommand-10.ensures changes c.in_ok-check.ensures) c.in_ok-explain.ensures
+    (with_job _ _ _ _ _ c.in_ok-subcommand-11.ensures proposals c.in_ok-check.ensures) c.in_ok-explain.ensures

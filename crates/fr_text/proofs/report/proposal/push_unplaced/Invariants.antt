@@ -1,0 +1,9 @@
+use Rattle.std.proofs.Common.{◌≡◌, ◌++◌, take}
+use Rattle.std.specs.List.{filter_map}
+use Rattle.fr_text.specs.ProposalFiles.{refused_line}
+use Rattle.fr_text.specs.Styles.{plain_lines}
+use Rattle.fr_text.proofs.report.proposal.push_unplaced.Given as goal
+
+-- the lines of the rows up to here
+abbrev pub invariant-loop-row : goal.invariant-loop-row
+invariant-loop-row l = l.out.items ≡ l.initial.out.items ++ plain_lines (filter_map refused_line (take l.row-index l.rows))
