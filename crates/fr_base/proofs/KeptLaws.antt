@@ -65,6 +65,7 @@ apart-lines xs lines g h at in_too same =
     differ None y e k l = true≢false (sym e)
     differ (Some q) None e k l = cc
     differ (Some q) (Some r) e k l = true≢false (sym k)
+
     one_line : (ys : List Given) → HaveOwnLines ys → (g h : Given) → Member g ys → Member h ys → g.asked.line ≡ h.asked.line → g ≡ h
     one_line [] lines g h at in_too same = absurd at
     one_line (y ∷ ys) lines g h at in_too same = elim at [
@@ -114,6 +115,7 @@ module _ (own : OwnRows) (reads : List WishRead) (first : ℕ) (numbered : AreNu
       one : (x : Asked) (xs : List Asked) → AllByRecursion (λ y. x.line < y.line) xs → AllByRecursion (λ y. x.line ≢ y.line) xs
       one x [] h = tt
       one x (y ∷ xs) h = ((λ same. let less = h.0 in omega (arith, less, same)), one x xs h.1)
+
       lines-of : (xs : List Asked) → Pairs (λ (x y : Asked). x.line < y.line) xs → HaveLines xs
       lines-of [] h = tt
       lines-of (x ∷ xs) h = (one x xs h.0, lines-of xs h.1)
@@ -141,6 +143,7 @@ module _ (own : OwnRows) (reads : List WishRead) (first : ℕ) (numbered : AreNu
       from-map : (xs : List Given) → Pairs (λ (x y : Asked). x.line < y.line) (map (λ g. g.asked) xs) → Pairs (λ (g h : Given). g.asked.line < h.asked.line) xs
       from-map [] h = tt
       from-map (x ∷ xs) h = (each-of _ xs (λ g at. of-each (λ b. x.asked.line < b.line) (map (λ g. g.asked) xs) g.asked h.0 (member-map (λ g. g.asked) g xs at)), from-map xs h.1)
+
       to-map : (xs : List Given) → Pairs (λ (g h : Given). g.asked.line < h.asked.line) xs → Pairs (λ (x y : Asked). x.line < y.line) (map (λ g. g.asked) xs)
       to-map [] h = tt
       to-map (x ∷ xs) h = (each-of _ (map (λ g. g.asked) xs) (λ a at. let g = member-of_map (λ g. g.asked) a xs at in subst (λ (z : Asked). x.asked.line < z.line) g.2 (of-each (λ g. x.asked.line < g.asked.line) xs g.0 h.0 g.1)), to-map xs h.1)
@@ -210,6 +213,7 @@ module _ (own : OwnRows) (reads : List WishRead) (first : ℕ) (numbered : AreNu
         one : (x : Asked) (xs : List Asked) → AllByRecursion (λ y. x.line < y.line) xs → AllByRecursion (λ y. x.line ≢ y.line) xs
         one x [] h = tt
         one x (y ∷ xs) h = ((λ same. let less = h.0 in omega (arith, less, same)), one x xs h.1)
+
         lines-of : (xs : List Asked) → Pairs (λ (x y : Asked). x.line < y.line) xs → HaveLines xs
         lines-of [] h = tt
         lines-of (x ∷ xs) h = (one x xs h.0, lines-of xs h.1)
@@ -225,10 +229,10 @@ module _ (own : OwnRows) (reads : List WishRead) (first : ℕ) (numbered : AreNu
         let way = fit-way own (beside_kept own reads n) (others n) fit.0 other-lines fit.1 in
         let turned = way-among own (beside_kept own reads n) (way_of (others n) fit.0) (others n) way (turns (others n)) (λ x at. (turn-member own.params (others n) x at).0) (turn-lines n (others n) (other-asked n) (other-by_line n)) in
         let order = all-in_order own n cs count has (others n) chain (turns (others n))
-            (each-of _ (turns (others n)) (λ x at.
-            let its = turn-member own.params (others n) x at in
-            (its.0, ((node-asked own true reads first numbered n x (other-asked n x its.0)).1, of-each (λ b. b.wish.channels ≡ cs) (others n) x on its.0), its.1)))
-            (turns-in_order own.params (others n) (other-by_line n)) in
+        (each-of _ (turns (others n)) (λ x at.
+        let its = turn-member own.params (others n) x at in
+        (its.0, ((node-asked own true reads first numbered n x (other-asked n x its.0)).1, of-each (λ b. b.wish.channels ≡ cs) (others n) x on its.0), its.1)))
+        (turns-in_order own.params (others n) (other-by_line n)) in
         subst (λ xs. AllByRecursion (λ g. is_some g.place ≡ true) (take_places own.params (held_slots own n) (beside_kept own reads n) xs)) is
         (all-take own n cs count has (beside_kept own reads n) (turns (others n)) order (map (way_of (others n) fit.0) (turns (others n)), way-fits own (beside_kept own reads n) (way_of (others n) fit.0) (turns (others n)) turned))
 

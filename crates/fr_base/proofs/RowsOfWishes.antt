@@ -58,18 +58,18 @@ module _ (own : OwnRows) (given : List Given) where
   rows-of [] counted h = tt
   rows-of (read ∷ reads) counted h =
       (elim (judged own counted read.wish) as (λ j. judged own counted read.wish ≡ j → AreAsWished (cons_option (asked_at read.line j) (asked_of (judge own (count_wish own.supplier counted j) reads))) →
-          IsRowOf read (proposal_row given (record { line = read.line; wish = j })) × AllZip IsRowOf reads (map (proposal_row given) (judge own (count_wish own.supplier counted j) reads))) [
+      IsRowOf read (proposal_row given (record { line = read.line; wish = j })) × AllZip IsRowOf reads (map (proposal_row given) (judge own (count_wish own.supplier counted j) reads))) [
         | Ok wish ↦ λ e k. (
-            record {
-              line = refl;
-              placed = λ placed is. (judged-admitted own counted read.wish wish e).0 ∙ ap Ok (placed-row read.line wish (place_at given read.line) refl k.0 placed is);
-            },
-            rows-of reads (count_wish own.supplier counted (Ok wish)) k.1,
-          )
+          record {
+            line = refl;
+            placed = λ placed is. (judged-admitted own counted read.wish wish e).0 ∙ ap Ok (placed-row read.line wish (place_at given read.line) refl k.0 placed is);
+          },
+          rows-of reads (count_wish own.supplier counted (Ok wish)) k.1,
+        )
         | Err refusal ↦ λ e k. (
-            record { line = refl; placed = λ placed is. absurd (refused-row read.line refusal placed is) },
-            rows-of reads counted k,
-          )
+          record { line = refl; placed = λ placed is. absurd (refused-row read.line refusal placed is) },
+          rows-of reads counted k,
+        )
       ]) refl h
 
 pub rows_are_wishes : RowsAreTheirWishes

@@ -158,26 +158,30 @@ module _ {S : Type 0} (remaining contents : S → Option (List ℕ)) (fresh : S 
   came_on (Some y) None came goes = inl refl
   came_on (Some y) (Some z) came goes =
       let begun = came.2 in
-      inr (came.0, came.1, record {
-        first = begun.first;
-        over = begun.over;
-        empty = begun.empty;
-        none_due = begun.none_due;
-        none_early = begun.none_early;
-        moved = moved_twice remaining contents begun.first y.link z.link y.stage z.stage begun.moved goes.0 goes.1 goes.2;
-      })
+      inr (
+        came.0,
+        came.1,
+        record {
+          first = begun.first;
+          over = begun.over;
+          empty = begun.empty;
+          none_due = begun.none_due;
+          none_early = begun.none_early;
+          moved = moved_twice remaining contents begun.first y.link z.link y.stage z.stage begun.moved goes.0 goes.1 goes.2;
+        },
+      )
 
   pub reaches_after : (a b c : Option (Held S)) → Reaches remaining contents fresh a b → Reaches remaining contents fresh b c → Reaches remaining contents fresh a c
   reaches_after a b c p q =
       elim q [
         | inr came ↦ inr came
         | inl goes ↦ elim p [
-            | inl before ↦ inl (goes_after remaining contents a b c before goes)
-            | inr came ↦ elim (came_on b c came goes) [
-                | inl gone ↦ inl (subst (Goes remaining contents a) (sym gone) (Goes-gone remaining contents a))
-                | inr still ↦ inr still
-              ]
+          | inl before ↦ inl (goes_after remaining contents a b c before goes)
+          | inr came ↦ elim (came_on b c came goes) [
+            | inl gone ↦ inl (subst (Goes remaining contents a) (sym gone) (Goes-gone remaining contents a))
+            | inr still ↦ inr still
           ]
+        ]
       ]
 
   -- what begins on a fresh stream came in, or is gone

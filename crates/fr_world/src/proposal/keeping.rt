@@ -15,7 +15,11 @@ use std::alloc::Global;
 
 /// What wishes keep, in the order of their lines: each the first placement of its frame that has its
 /// channels and repetition and is not kept yet, if there is one.
-pub(super) fn kept_wishes(alloc: Global, page: &Page, wishes: &[Asked]) -> Result<Vec<Given>, NoMemory>
+pub(super) fn kept_wishes(
+    alloc: Global,
+    page: &Page,
+    wishes: &[Asked],
+) -> Result<Vec<Given>, NoMemory>
     ensures { IfOk result (λ kept. kept.items
         ≡ keep page.now.supplier (own_rows_of page.now).frames [] wishes.now) }
 {

@@ -14,7 +14,8 @@ use super::rooms::Rooms;
 use super::turns::is_for;
 use crate::mask_occupancy::MaskOccupancy;
 use fr_base::{
-    Asked, Channels, CycleSet, Given, LackRow, Name, NoMemory, Params, Placement, Refusal, Rows, Slot,
+    Asked, Channels, CycleSet, Given, LackRow, Name, NoMemory, Params, Placement, Refusal, Rows,
+    Slot,
 };
 use std::alloc::Global;
 

@@ -26,11 +26,13 @@ returns-then-not-holds_slot c counted few at =
 pub returns-in-Some : goal.returns-in-Some
 returns-in-Some c counted few at =
     let there : c.has_node.result ≡ true = search (rules, tests) in
-    let held : c.holds_slot.result ≡ true = search (rules, tests) in
-    (by-none (own_rows_of c.args.page.now) counted c.args.wish.now (sym c.has_node.ensures ∙ there)
-    (ap (has_another_node c.args.wish.now.node) at ∙ sym c.is_of_another.ensures ∙ c.if-is_of_another.false) (sym c.holds_slot.ensures ∙ held)
-    (ap (is_full counted) at ∙ full-at counted c.args.frames (option_map counted_of c.args.there.now) few ∙ c.in-Some.ensures.0),
-    c.in-Some.ensures.1, c.in-Some.ensures.2)
+    let held : c.holds_slot.result ≡ true = search (rules, tests) in (
+      by-none (own_rows_of c.args.page.now) counted c.args.wish.now (sym c.has_node.ensures ∙ there)
+          (ap (has_another_node c.args.wish.now.node) at ∙ sym c.is_of_another.ensures ∙ c.if-is_of_another.false) (sym c.holds_slot.ensures ∙ held)
+          (ap (is_full counted) at ∙ full-at counted c.args.frames (option_map counted_of c.args.there.now) few ∙ c.in-Some.ensures.0),
+      c.in-Some.ensures.1,
+      c.in-Some.ensures.2,
+    )
 
 pub returns-in-None : goal.returns-in-None
 returns-in-None c counted few at =
