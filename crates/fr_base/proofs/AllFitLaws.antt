@@ -1,26 +1,21 @@
 -- Each wish of a node has a placement exactly where all fit: wishes fit in one order where they do in another.
-use Rattle.std.proofs.Common.{◌≡◌, ◌≢◌, ◌⊎◌, ◌↔◌, ◌<◌, ◌≤◌, ◌+◌, ◌*◌, ◌%◌, ◌∙◌, ℕ, nat_le, Bool, true, false, cond, List, [], ◌∷◌, ◌++◌, map, filter, find, Option, Some, None, option_map, is_some, Result, Ok, Err, IsTrue, refl, sym, ap, subst, inl, inr, arith, true≢false}
+use Rattle.std.proofs.Common.{◌≡◌, ◌≢◌, ◌↔◌, ◌<◌, ◌≤◌, ◌+◌, ◌*◌, ◌%◌, ◌∙◌, ℕ, nat_le, true, false, cond, List, [], ◌∷◌, ◌++◌, map, filter, Option, Some, None, is_some, IsTrue, refl, sym, ap, subst, inl, inr, arith, true≢false}
 use Rattle.std.specs.List.{AllByRecursion, list_all, range_with_len}
 use Rattle.std.specs.Prelude.{◌==◌}
 use Rattle.std.proofs.lemmas.Bool.{cases_Bool, cases_lt, and_parts, eqb-true, eq-eqb, ne_eqb}
 use Rattle.std.proofs.lemmas.Bool.Decides.{nat_tests}
 use Rattle.std.proofs.lemmas.Nat.{mod-mul-add}
 use Rattle.std.specs.Option.{unwrap_or}
-use Rattle.fr_base.specs.Refusing.{◌>>=◌, ◌or◌}
-use Rattle.fr_base.specs.Tables.{get}
 use Rattle.fr_base.specs.Cells.{slots_of, has_cell}
 use Rattle.fr_base.specs.Channels.{channels_in, channels_number, has_channel}
 use Rattle.fr_base.specs.Cycles.{is_cycle_count, is_repetition}
-use Rattle.fr_base.specs.Cluster.{Cluster}
-use Rattle.fr_base.specs.Book.{Variant, Book}
 use Rattle.fr_base.specs.OwnRows.{OwnRows, own_rows}
 use Rattle.fr_base.specs.Wishes.{wishes_of_body}
 use Rattle.fr_base.specs.Turns.{is_for, repetitions_of, turns_on, in_turn, with_place, fittest_for, take_places}
-use Rattle.fr_base.specs.RefusedWishes.{frames_beside, asked_of, judged, judge, counted_frames, count_wish}
-use Rattle.fr_base.specs.Proposals.{held_slots, is_of_node, place_at, proposal_row, proposal, proposal_of}
-use Rattle.fr_base.specs.Sound.{IsSound}
+use Rattle.fr_base.specs.RefusedWishes.{frames_beside, asked_of, counted_frames}
+use Rattle.fr_base.specs.Proposals.{held_slots, is_of_node, place_at, proposal}
 use Rattle.fr_base.specs.Fits.{MayStand, FitBeside, Fit}
-use Rattle.fr_base.specs.ProposalLaws.{AreChain, told_at, placement_told, has_placement, AllAreGivenWhereAllFit}
+use Rattle.fr_base.specs.ProposalLaws.{AreChain, placement_told, has_placement, AllAreGivenWhereAllFit}
 use Rattle.fr_base.specs.declared.channel.Channels.{Channels}
 use Rattle.fr_base.specs.declared.channel.Channels.TheVariants as channels
 use Rattle.fr_base.specs.declared.name.Name.{Name}
@@ -121,6 +116,7 @@ fit-way own filled (a ∷ asked) (q ∷ qs) lines fits =
     others : (xs : List Asked) → AllByRecursion (λ b. a.line ≢ b.line) xs → AllByRecursion (λ b. way_of asked qs b ≡ way_of (a ∷ asked) (q ∷ qs) b) xs
     others [] k = tt
     others (b ∷ xs) k = (sym (ap (λ t. cond t q (way_of asked qs b)) (ne_eqb a.line b.line k.0)), others xs k.1)
+
     apart : (xs : List Asked) → AllByRecursion (λ b. a.line ≢ b.line) xs → AllByRecursion (λ b. AreDisjoint q (way_of asked qs b)) xs → AllByRecursion (λ b. AreDisjoint (way_of (a ∷ asked) (q ∷ qs) a) (way_of (a ∷ asked) (q ∷ qs) b)) xs
     apart [] k d = tt
     apart (b ∷ xs) k d =
@@ -157,13 +153,13 @@ module _ (own : OwnRows) (m : Name) (cs : Channels) (count : is_cycle_count own.
   all-take filled [] h fit = tt
   all-take filled (a ∷ asked) h fit =
       (elim (fittest_for own.params (held_slots own m) filled a.wish) as (λ place. fittest_for own.params (held_slots own m) filled a.wish ≡ place →
-          (is_some place ≡ true) × AllByRecursion (λ g. is_some g.place ≡ true) (take_places own.params (held_slots own m) (with_place filled a.wish.frame place) asked)) [
+      (is_some place ≡ true) × AllByRecursion (λ g. is_some g.place ≡ true) (take_places own.params (held_slots own m) (with_place filled a.wish.frame place) asked)) [
         | None ↦ λ e. absurd (nothing fit.0 fit.1 e)
         | Some q ↦ λ e. (
-            refl,
-            all-take (filled ++ (a.wish.frame, q) ∷ []) asked (record { of = h.of.1; divide = h.divide.1; chain = h.chain.1 })
-            (others-fit own m cs count has filled a.wish q (wishes_of asked) h.of h.divide h.chain.0 (taken-stands own m cs count has filled a.wish q h.of.0 h.divide.0 e) fit),
-          )
+          refl,
+          all-take (filled ++ (a.wish.frame, q) ∷ []) asked (record { of = h.of.1; divide = h.divide.1; chain = h.chain.1 })
+              (others-fit own m cs count has filled a.wish q (wishes_of asked) h.of h.divide h.chain.0 (taken-stands own m cs count has filled a.wish q h.of.0 h.divide.0 e) fit),
+        )
       ]) refl
     where
       nothing : (qs : List Placement) → FitBeside own filled (wishes_of (a ∷ asked)) qs → fittest_for own.params (held_slots own m) filled a.wish ≡ None → ⊥
@@ -186,6 +182,7 @@ module _ (own : OwnRows) (m : Name) (cs : Channels) (count : is_cycle_count own.
           | inr level ↦ omega (arith, level.0)
         ]
       ]
+
       divides : (ys : List Asked) → AllByRecursion (λ y. Member y wishes × ((y.wish.node ≡ m) × (y.wish.channels ≡ cs)) × ((0 < y.wish.repetition) × (own.params.cycles % y.wish.repetition ≡ 0))) ys → AllByRecursion (IsBefore x) ys →
           DividesEach x.wish.repetition (map (λ w. w.repetition) (wishes_of ys))
       divides [] p l = tt
@@ -218,6 +215,7 @@ turn-of p wishes a at valid some =
     kind-there channels.AB = inl refl
     kind-there channels.A = inr (inl refl)
     kind-there channels.B = inr (inr (inl refl))
+
     member-in : (k : ℕ) (xs : List ℕ) → In k xs → Member k xs
     member-in k [] h = h
     member-in k (x ∷ xs) h = elim h [ inl here ↦ inl here | inr later ↦ inr (member-in k xs later) ]
@@ -248,6 +246,7 @@ module _ (own : OwnRows) (reads : List WishRead) (first : ℕ) (numbered : AreNu
       one : (x : Asked) (xs : List Asked) → AllByRecursion (λ y. x.line < y.line) xs → AllByRecursion (λ y. x.line ≢ y.line) xs
       one x [] h = tt
       one x (y ∷ xs) h = ((λ same. let less = h.0 in omega (arith, less, same)), one x xs h.1)
+
       lines-of : (xs : List Asked) → Pairs (λ (x y : Asked). x.line < y.line) xs → HaveLines xs
       lines-of [] h = tt
       lines-of (x ∷ xs) h = (one x xs h.0, lines-of xs h.1)
@@ -257,9 +256,10 @@ module _ (own : OwnRows) (reads : List WishRead) (first : ℕ) (numbered : AreNu
     where
       lines-of : (xs : List Asked) → ((x : Asked) → Member x xs → Member x turns) → Pairs IsBefore xs → HaveLines xs
       lines-of [] among h = tt
-      lines-of (x ∷ xs) among h =
-          (each-of (λ y. x.line ≢ y.line) xs (λ y at same. not_before_itself x y (one-wish own false reads first numbered x y (turn-asked own false reads first numbered n x (among x (inl refl))).0 (turn-asked own false reads first numbered n y (among y (inr at))).0 same) (of-each (IsBefore x) xs y h.0 at)),
-          lines-of xs (λ y at. among y (inr at)) h.1)
+      lines-of (x ∷ xs) among h = (
+        each-of (λ y. x.line ≢ y.line) xs (λ y at same. not_before_itself x y (one-wish own false reads first numbered x y (turn-asked own false reads first numbered n x (among x (inl refl))).0 (turn-asked own false reads first numbered n y (among y (inr at))).0 same) (of-each (IsBefore x) xs y h.0 at)),
+        lines-of xs (λ y at. among y (inr at)) h.1,
+      )
 
   -- what is told of a wish that has a placement
   placed-told : (a : Asked) → Member a wishes → has_placement told a ≡ true → (q : Placement) × (place_at (all_given own false reads first numbered) a.line ≡ Some q)
@@ -277,12 +277,13 @@ module _ (own : OwnRows) (reads : List WishRead) (first : ℕ) (numbered : AreNu
   given-fit h =
       let way : Asked → Placement = λ a. unwrap_or (place_at (all_given own false reads first numbered) a.line) nowhere in
       let put : (a : Asked) → Member a wishes → place_at (all_given own false reads first numbered) a.line ≡ Some (way a) =
-      λ a at. let x = placed-told a at (of-each (λ b. has_placement told b ≡ true) wishes a h at) in x.1 ∙ ap Some (sym (ap (λ o. unwrap_or o nowhere) x.1)) in
-      (map way wishes,
-      way-fits own at_first way wishes (record {
-        stand = each-of _ wishes (λ a at. placed-stands own reads first numbered count fits a (way a) (asked-one a at) (put a at));
-        apart = pairs-with wishes (λ a b at in_too lines. placed-apart own reads first numbered count fits a b (way a) (way b) (asked-one a at) (asked-one b in_too) lines (put a at) (put b in_too)) wish-lines;
-      }))
+      λ a at. let x = placed-told a at (of-each (λ b. has_placement told b ≡ true) wishes a h at) in x.1 ∙ ap Some (sym (ap (λ o. unwrap_or o nowhere) x.1)) in (
+        map way wishes,
+        way-fits own at_first way wishes (record {
+          stand = each-of _ wishes (λ a at. placed-stands own reads first numbered count fits a (way a) (asked-one a at) (put a at));
+          apart = pairs-with wishes (λ a b at in_too lines. placed-apart own reads first numbered count fits a b (way a) (way b) (asked-one a at) (asked-one b in_too) lines (put a at) (put b in_too)) wish-lines;
+        }),
+      )
     where
       pairs-with : {S : Asked → Asked → Type 0} (xs : List Asked) → ((a b : Asked) → Member a xs → Member b xs → a.line ≢ b.line → S a b) → HaveLines xs → Pairs S xs
       pairs-with [] f lines = tt
@@ -296,8 +297,8 @@ module _ (own : OwnRows) (reads : List WishRead) (first : ℕ) (numbered : AreNu
       let among : (x : Asked) → Member x turns → Member x wishes = λ x in_turns. (turn-member own.params wishes x in_turns).0 in
       let turned = way-among own at_first (way_of wishes fit.0) wishes way turns among turn-lines in
       let order = all-in_order own n cs count has wishes chain turns
-          (each-of _ turns (λ x in_turns. let its = turn-member own.params wishes x in_turns in (its.0, (node-one x its.0, of-each (λ b. b.wish.channels ≡ cs) wishes x on its.0), its.1)))
-          (turns-before own false reads first numbered n) in
+      (each-of _ turns (λ x in_turns. let its = turn-member own.params wishes x in_turns in (its.0, (node-one x its.0, of-each (λ b. b.wish.channels ≡ cs) wishes x on its.0), its.1)))
+      (turns-before own false reads first numbered n) in
       let all = all-take own n cs count has at_first turns order (map (way_of wishes fit.0) turns, way-fits own at_first (way_of wishes fit.0) turns turned) in
       let cycles = (of-each (λ b. MayStand own at_first b.wish (way_of wishes fit.0 b)) wishes a way.stand at) in
       let turn = turn-of own.params wishes a at (valid a (way_of wishes fit.0 a) cycles) (some_cycle own n cs count has) in
@@ -309,6 +310,7 @@ module _ (own : OwnRows) (reads : List WishRead) (first : ℕ) (numbered : AreNu
       valid a q may =
           let set = (and_parts (is_cycle_count q.cycles.count) _ may.fits.cycles).1 in
           subst (λ (z : ℕ × ℕ). is_repetition z.0 z.1 ≡ true) (λ i. (may.fits.count i, may.repetition i)) (and_parts (is_repetition q.cycles.count q.cycles.repetition) _ set).0
+
       given-of : (xs : List Given) (a : Asked) → Member a (map (λ g. g.asked) xs) → (g : Given) × Member g xs × (g.asked ≡ a)
       given-of [] a h = absurd h
       given-of (x ∷ xs) a h = elim h [

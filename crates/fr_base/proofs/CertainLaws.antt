@@ -218,12 +218,14 @@ module _ (own : OwnRows) (reads : List WishRead) (first : ℕ) (numbered : AreNu
 
     go-first : (xs : List Asked) → Pairs IsBefore xs → AllByRecursion (λ x. IsBefore x a) xs → GoFirst cs xs
     go-first [] h k = tt
-    go-first (x ∷ xs) h k =
-        (each-of _ xs (λ y at here.
-        let up = turn-up x y (of-each (IsBefore x) xs y h.0 at) in
-        let last = turn-up y a (of-each (λ z. IsBefore z a) xs y k.1 at) in
-        let level : turn_of x.wish.channels ≡ turn_of cs = ap turn_of (same_kind-is x.wish.channels cs here) in
-        kind-same y.wish.channels cs (turn-same y.wish.channels cs (omega (arith, up, last, level)))), go-first xs h.1 k.1)
+    go-first (x ∷ xs) h k = (
+      each-of _ xs (λ y at here.
+          let up = turn-up x y (of-each (IsBefore x) xs y h.0 at) in
+          let last = turn-up y a (of-each (λ z. IsBefore z a) xs y k.1 at) in
+          let level : turn_of x.wish.channels ≡ turn_of cs = ap turn_of (same_kind-is x.wish.channels cs here) in
+          kind-same y.wish.channels cs (turn-same y.wish.channels cs (omega (arith, up, last, level)))),
+      go-first xs h.1 k.1,
+    )
 
     abbrev U : List Asked
     U = others cs before

@@ -56,12 +56,14 @@ unfolding judged admits_wish
 judged-admitted own counted read wish e =
     gave (λ w. (read ≡ Ok w) × IsAdmitted own counted w) (judged own counted read) wish
     (gives_each (λ w. (read ≡ Ok w) × IsAdmitted own counted w) read _ (λ w is.
-    gives_then (λ v. (read ≡ Ok v) × IsAdmitted own counted v) (admits_wish own counted w) (Ok w) (λ u passed.
-    (is, gave (λ u. IsAdmitted own counted w) (admits_wish own counted w) u
-    (gives_unless (λ u. IsAdmitted own counted w) NoNode _ _ (λ node.
-    gives_when (λ u. IsAdmitted own counted w) NodeDiffers _ _ (λ one_node.
-    gives_unless (λ u. IsAdmitted own counted w) NotGranted _ _ (λ held.
-    gives_when_last (λ u. IsAdmitted own counted w) Limit _ (λ room. record { node = node; one_node = one_node; held = held; room = room }))))) passed)))) e
+    gives_then (λ v. (read ≡ Ok v) × IsAdmitted own counted v) (admits_wish own counted w) (Ok w) (λ u passed. (
+      is,
+      gave (λ u. IsAdmitted own counted w) (admits_wish own counted w) u
+          (gives_unless (λ u. IsAdmitted own counted w) NoNode _ _ (λ node.
+          gives_when (λ u. IsAdmitted own counted w) NodeDiffers _ _ (λ one_node.
+          gives_unless (λ u. IsAdmitted own counted w) NotGranted _ _ (λ held.
+          gives_when_last (λ u. IsAdmitted own counted w) Limit _ (λ room. record { node = node; one_node = one_node; held = held; room = room }))))) passed,
+    )))) e
 
 pub asked-admitted : (own : OwnRows) (counted : Table owned Counted) (reads : List WishRead) (read : WishRead) (wish : Wish) → Member read (judge own counted reads) → read.wish ≡ Ok wish → (t : Table owned Counted) × IsAdmitted own t wish
 unfolding judge

@@ -1,38 +1,32 @@
 -- Under `replace` nothing moves that need not: where the wishes that keep nothing fit beside all that is kept, it is kept.
-use Rattle.std.proofs.Common.{◌≡◌, ◌≢◌, ◌⊎◌, ◌<◌, ◌≤◌, ◌%◌, ◌∙◌, ℕ, Bool, true, false, cond, List, [], ◌∷◌, ◌++◌, map, filter, Option, Some, None, is_some, IsTrue, refl, sym, ap, subst, inl, inr, arith, true≢false}
-use Rattle.std.specs.Prelude.{◌&&◌, is_none}
+use Rattle.std.proofs.Common.{◌≡◌, ◌≢◌, ◌⊎◌, ◌<◌, ◌∙◌, ℕ, true, false, cond, List, [], ◌∷◌, ◌++◌, map, filter, Option, Some, None, is_some, IsTrue, refl, sym, ap, subst, inl, inr, arith, true≢false}
+use Rattle.std.specs.Prelude.{is_none}
 use Rattle.std.specs.List.{AllByRecursion, list_all}
 use Rattle.std.proofs.lemmas.Bool.{cases_Bool, and_parts}
 use Rattle.fr_base.specs.Tables.{Table, get}
 use Rattle.fr_base.specs.Keys.{owned}
 use Rattle.fr_base.specs.Cells.{slots_of}
 use Rattle.fr_base.specs.Channels.{channels_in, has_channel}
-use Rattle.fr_base.specs.Cycles.{is_cycle_count, is_repetition}
-use Rattle.fr_base.specs.Cluster.{Cluster}
-use Rattle.fr_base.specs.Book.{Frame, Variant, Book}
+use Rattle.fr_base.specs.Cycles.{is_cycle_count}
+use Rattle.fr_base.specs.Book.{Frame}
 use Rattle.fr_base.specs.OwnRows.{OwnRows, own_rows}
 use Rattle.fr_base.specs.Wishes.{wishes_of_body}
-use Rattle.fr_base.specs.Turns.{in_turn, with_place, take_places, take_turns, all_placed, places_given}
-use Rattle.fr_base.specs.RefusedWishes.{asked_of, frames_beside}
+use Rattle.fr_base.specs.Turns.{in_turn, with_place, take_places, take_turns, all_placed}
+use Rattle.fr_base.specs.RefusedWishes.{asked_of}
 use Rattle.fr_base.specs.KeptPlaces.{kept_for, keep}
-use Rattle.fr_base.specs.Proposals.{filled_places, held_slots, either, given_with, given_beside, given_to, place_at, proposal}
-use Rattle.fr_base.specs.Sound.{IsSound}
-use Rattle.fr_base.specs.Fits.{MayStand, FitBeside, Fit}
-use Rattle.fr_base.specs.ProposalLaws.{AreChain, asked_of_node, told_at, placement_told, kept_of_node, without_place, beside_kept, NothingMovesThatNeedNot}
+use Rattle.fr_base.specs.Proposals.{held_slots, either, given_with, given_beside, given_to, proposal}
+use Rattle.fr_base.specs.Fits.{Fit}
+use Rattle.fr_base.specs.ProposalLaws.{AreChain, told_at, placement_told, kept_of_node, without_place, beside_kept, NothingMovesThatNeedNot}
 use Rattle.fr_base.specs.declared.channel.Channels.{Channels}
 use Rattle.fr_base.specs.declared.name.Name.{Name}
-use Rattle.fr_base.specs.declared.params.Params.{Params}
 use Rattle.fr_base.specs.declared.placement.Placement.{Placement}
 use Rattle.fr_base.specs.declared.proposal.Given.{Given}
 use Rattle.fr_base.specs.declared.wish.Asked.{Asked}
-use Rattle.fr_base.specs.declared.wish.Wish.{Wish}
 use Rattle.fr_base.specs.declared.wish.WishRead.{WishRead}
-use Rattle.fr_base.proofs.AskedLines.{Member, member-filter, member-kept, member-front, member-back, member-either, AreNumbered, body-numbered}
-use Rattle.fr_base.proofs.FitPlaces.{some_cycle}
-use Rattle.fr_base.proofs.SoundRows.{same_text-is}
-use Rattle.fr_base.proofs.TurnOrder.{Pairs, pairs-append, pairs-filter, each-of, of-each, IsBefore, turns-in_order, turn-member}
+use Rattle.fr_base.proofs.AskedLines.{Member, member-filter, member-kept, member-front, member-either, AreNumbered, body-numbered}
+use Rattle.fr_base.proofs.TurnOrder.{Pairs, pairs-append, pairs-filter, each-of, of-each, turns-in_order, turn-member}
 use Rattle.fr_base.proofs.TurnLaws.{wishes_of}
-use Rattle.fr_base.proofs.GivenLaws.{HaveOwnLines, the_judged, of_node, there, all_given, given_node, given-at_line, node-asked, one-wish, judged-lines, asked-by_line, asked-taken, member-map, pairs-from_map, pairs-lines, wish-admitted, told-is, proposed_for}
+use Rattle.fr_base.proofs.GivenLaws.{HaveOwnLines, the_judged, of_node, there, given_node, given-at_line, node-asked, one-wish, judged-lines, asked-by_line, asked-taken, member-map, pairs-from_map, pairs-lines, wish-admitted, told-is, proposed_for}
 use Rattle.fr_base.proofs.AllFitLaws.{HaveLines, way_of, fit-way, way-among, way-fits, all-in_order, all-take}
 use Rattle.fr_base.proofs.CertainLaws.{held-has, sound-count}
 
@@ -65,6 +59,7 @@ apart-lines xs lines g h at in_too same =
     differ None y e k l = true≢false (sym e)
     differ (Some q) None e k l = cc
     differ (Some q) (Some r) e k l = true≢false (sym k)
+
     one_line : (ys : List Given) → HaveOwnLines ys → (g h : Given) → Member g ys → Member h ys → g.asked.line ≡ h.asked.line → g ≡ h
     one_line [] lines g h at in_too same = absurd at
     one_line (y ∷ ys) lines g h at in_too same = elim at [
@@ -114,6 +109,7 @@ module _ (own : OwnRows) (reads : List WishRead) (first : ℕ) (numbered : AreNu
       one : (x : Asked) (xs : List Asked) → AllByRecursion (λ y. x.line < y.line) xs → AllByRecursion (λ y. x.line ≢ y.line) xs
       one x [] h = tt
       one x (y ∷ xs) h = ((λ same. let less = h.0 in omega (arith, less, same)), one x xs h.1)
+
       lines-of : (xs : List Asked) → Pairs (λ (x y : Asked). x.line < y.line) xs → HaveLines xs
       lines-of [] h = tt
       lines-of (x ∷ xs) h = (one x xs h.0, lines-of xs h.1)
@@ -141,6 +137,7 @@ module _ (own : OwnRows) (reads : List WishRead) (first : ℕ) (numbered : AreNu
       from-map : (xs : List Given) → Pairs (λ (x y : Asked). x.line < y.line) (map (λ g. g.asked) xs) → Pairs (λ (g h : Given). g.asked.line < h.asked.line) xs
       from-map [] h = tt
       from-map (x ∷ xs) h = (each-of _ xs (λ g at. of-each (λ b. x.asked.line < b.line) (map (λ g. g.asked) xs) g.asked h.0 (member-map (λ g. g.asked) g xs at)), from-map xs h.1)
+
       to-map : (xs : List Given) → Pairs (λ (g h : Given). g.asked.line < h.asked.line) xs → Pairs (λ (x y : Asked). x.line < y.line) (map (λ g. g.asked) xs)
       to-map [] h = tt
       to-map (x ∷ xs) h = (each-of _ (map (λ g. g.asked) xs) (λ a at. let g = member-of_map (λ g. g.asked) a xs at in subst (λ (z : Asked). x.asked.line < z.line) g.2 (of-each (λ g. x.asked.line < g.asked.line) xs g.0 h.0 g.1)), to-map xs h.1)
@@ -210,6 +207,7 @@ module _ (own : OwnRows) (reads : List WishRead) (first : ℕ) (numbered : AreNu
         one : (x : Asked) (xs : List Asked) → AllByRecursion (λ y. x.line < y.line) xs → AllByRecursion (λ y. x.line ≢ y.line) xs
         one x [] h = tt
         one x (y ∷ xs) h = ((λ same. let less = h.0 in omega (arith, less, same)), one x xs h.1)
+
         lines-of : (xs : List Asked) → Pairs (λ (x y : Asked). x.line < y.line) xs → HaveLines xs
         lines-of [] h = tt
         lines-of (x ∷ xs) h = (one x xs h.0, lines-of xs h.1)
@@ -225,10 +223,10 @@ module _ (own : OwnRows) (reads : List WishRead) (first : ℕ) (numbered : AreNu
         let way = fit-way own (beside_kept own reads n) (others n) fit.0 other-lines fit.1 in
         let turned = way-among own (beside_kept own reads n) (way_of (others n) fit.0) (others n) way (turns (others n)) (λ x at. (turn-member own.params (others n) x at).0) (turn-lines n (others n) (other-asked n) (other-by_line n)) in
         let order = all-in_order own n cs count has (others n) chain (turns (others n))
-            (each-of _ (turns (others n)) (λ x at.
-            let its = turn-member own.params (others n) x at in
-            (its.0, ((node-asked own true reads first numbered n x (other-asked n x its.0)).1, of-each (λ b. b.wish.channels ≡ cs) (others n) x on its.0), its.1)))
-            (turns-in_order own.params (others n) (other-by_line n)) in
+        (each-of _ (turns (others n)) (λ x at.
+        let its = turn-member own.params (others n) x at in
+        (its.0, ((node-asked own true reads first numbered n x (other-asked n x its.0)).1, of-each (λ b. b.wish.channels ≡ cs) (others n) x on its.0), its.1)))
+        (turns-in_order own.params (others n) (other-by_line n)) in
         subst (λ xs. AllByRecursion (λ g. is_some g.place ≡ true) (take_places own.params (held_slots own n) (beside_kept own reads n) xs)) is
         (all-take own n cs count has (beside_kept own reads n) (turns (others n)) order (map (way_of (others n) fit.0) (turns (others n)), way-fits own (beside_kept own reads n) (way_of (others n) fit.0) (turns (others n)) turned))
 

@@ -1,8 +1,8 @@
 -- The rows of a proposal are those of its wishes, in their order.
-use Rattle.std.proofs.Common.{◌≡◌, ◌∙◌, ℕ, false, List, [], ◌∷◌, map, Option, Some, None, Result, Ok, Err, IsTrue, refl, sym, ap, subst}
+use Rattle.std.proofs.Common.{◌≡◌, ◌∙◌, ℕ, false, List, [], ◌∷◌, map, Option, Some, None, Result, Ok, Err, IsTrue, refl, sym, ap}
 use Rattle.std.specs.List.{AllByRecursion, AllZip, cons_option, list_all}
 use Rattle.fr_base.specs.Refusing.{◌>>=◌, ◌or◌}
-use Rattle.fr_base.specs.Tables.{Table, get}
+use Rattle.fr_base.specs.Tables.{Table}
 use Rattle.fr_base.specs.Keys.{owned}
 use Rattle.fr_base.specs.Cells.{slots_of}
 use Rattle.fr_base.specs.Channels.{channels_in, has_channel}
@@ -15,7 +15,6 @@ use Rattle.fr_base.specs.declared.placement.Placement.{Placement}
 use Rattle.fr_base.specs.declared.proposal.Given.{Given}
 use Rattle.fr_base.specs.declared.proposal.ProposedPlacement.{ProposedPlacement}
 use Rattle.fr_base.specs.declared.refusal.Refusal.{Refusal}
-use Rattle.fr_base.specs.declared.refusal.Refusal.TheVariants.{NoRoom}
 use Rattle.fr_base.specs.declared.wish.Asked.{Asked}
 use Rattle.fr_base.specs.declared.wish.Wish.{Wish}
 use Rattle.fr_base.specs.declared.wish.WishRead.{WishRead}
@@ -58,18 +57,18 @@ module _ (own : OwnRows) (given : List Given) where
   rows-of [] counted h = tt
   rows-of (read ∷ reads) counted h =
       (elim (judged own counted read.wish) as (λ j. judged own counted read.wish ≡ j → AreAsWished (cons_option (asked_at read.line j) (asked_of (judge own (count_wish own.supplier counted j) reads))) →
-          IsRowOf read (proposal_row given (record { line = read.line; wish = j })) × AllZip IsRowOf reads (map (proposal_row given) (judge own (count_wish own.supplier counted j) reads))) [
+      IsRowOf read (proposal_row given (record { line = read.line; wish = j })) × AllZip IsRowOf reads (map (proposal_row given) (judge own (count_wish own.supplier counted j) reads))) [
         | Ok wish ↦ λ e k. (
-            record {
-              line = refl;
-              placed = λ placed is. (judged-admitted own counted read.wish wish e).0 ∙ ap Ok (placed-row read.line wish (place_at given read.line) refl k.0 placed is);
-            },
-            rows-of reads (count_wish own.supplier counted (Ok wish)) k.1,
-          )
+          record {
+            line = refl;
+            placed = λ placed is. (judged-admitted own counted read.wish wish e).0 ∙ ap Ok (placed-row read.line wish (place_at given read.line) refl k.0 placed is);
+          },
+          rows-of reads (count_wish own.supplier counted (Ok wish)) k.1,
+        )
         | Err refusal ↦ λ e k. (
-            record { line = refl; placed = λ placed is. absurd (refused-row read.line refusal placed is) },
-            rows-of reads counted k,
-          )
+          record { line = refl; placed = λ placed is. absurd (refused-row read.line refusal placed is) },
+          rows-of reads counted k,
+        )
       ]) refl h
 
 pub rows_are_wishes : RowsAreTheirWishes
