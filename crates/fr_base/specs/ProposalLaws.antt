@@ -1,4 +1,6 @@
--- Laws of proposals. Where the repetitions of a node's wishes are a chain, a wish has no room exactly where it does not fit.
+-- Laws of proposals. Where the repetitions of a node's wishes are a chain, a wish has no room exactly where it does not fit, and each has a placement exactly
+-- where all fit. What is proposed without `replace` is imported as it stands, and its records are those of the wishes, in their order. Under `replace` nothing
+-- moves that need not.
 use Rattle.std.specs.Prelude.{◌≡◌, ◌⊎◌, ◌↔◌, ℕ, ◌%◌, ◌==◌, Bool, true, false, not, List, [], ◌∷◌, ◌++◌, map, filter, find, is_some, is_none, length, Option, Some, None, option_map, Result, Ok, Err, IsTrue, IsFalse}
 use Rattle.std.specs.List.{AllByRecursion, AllZip, filter_map}
 use Rattle.fr_base.specs.Tables.{get}
