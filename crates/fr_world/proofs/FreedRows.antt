@@ -56,7 +56,7 @@ free-foreign s (read ∷ reads) t k apart = free-foreign s reads (free_wish s re
 
 table-foreign : {U : Type 0} (s : Name) (value : U → book.Frame) (es : List (Name × U)) (k : Name × Name) → same_text k.0 s ≡ false → get (table_of owned (λ f. (s, f)) value es) k ≡ None
 unfolding table_of
-table-foreign {U = U} s value es k apart = get-from_rows (map (λ e. ((s, e.0), value e.1)) es) k ∙ nowhere es
+table-foreign {U = U} s value es k apart = get-from_rows owned (map (λ e. ((s, e.0), value e.1)) es) k ∙ nowhere es
   where
     nowhere : (es : List (Name × U)) → find owned.compare k (map (λ e. ((s, e.0), value e.1)) es) ≡ None
     nowhere [] = refl
@@ -154,7 +154,7 @@ module _ (page : PageData) (replace : Bool) (reads : List WishRead) (es : List (
       All-pop-front e fs h = (All-head (λ e. IsStrictlySortedBy placement_order.compare e.1.placements) (e.0, frame_data e.1) (frames_data fs) h, All-tail (λ e. IsStrictlySortedBy placement_order.compare e.1.placements) (e.0, frame_data e.1) (frames_data fs) h)
 
   pub beside-filled : filled_places (frames_beside (own_rows_of page) replace reads) ≡ filled_entries (is_freed replace reads) es
-  unfolding filled_places
+  unfolding filled_places left_table table_of
   beside-filled =
       ap (λ t. in_rows t.rows) (left_is page replace reads)
       ∙ ap in_rows (rows-table_of name_cmp owned (λ f. (page.supplier, f)) frame_of (own_alike page.supplier) (left_rows (is_freed replace reads) page.frames) (subst (IsStrictlySortedBy name_cmp) (sym (keys-left (is_freed replace reads) page.frames)) rise))

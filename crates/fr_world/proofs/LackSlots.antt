@@ -1,12 +1,14 @@
 -- Slots that are opened as wishes need them, kind by kind.
-use Rattle.std.proofs.Common.{◌≡◌, ℕ, suc, ◌+◌, Bool, true, false, ◌&&◌, cond, eqb, List, [], ◌∷◌, ◌++◌, map, filter, Option, Some, None, refl, sym, ap, subst, ◌∙◌, inl, inr, append_assoc, append-nil, true≢false}
+use Rattle.std.proofs.Common.{◌≡◌, ℕ, suc, ◌+◌, ◌<◌, Bool, true, false, ◌&&◌, cond, eqb, List, [], ◌∷◌, ◌++◌, length, map, filter, get_or, take, Option, Some, None, option_map, refl, sym, ap, subst, ◌∙◌, inl, inr, append_assoc, append-nil, true≢false}
 use Rattle.std.specs.Prelude.{All, unwrap_or}
 use Rattle.std.specs.List.{filter_map, flat_map, range_with_len}
-use Rattle.std.proofs.lemmas.Bool.{and_parts, cases_Bool, eqb-true}
-use Rattle.std.proofs.lemmas.List.Elements.{All-head, All-tail}
+use Rattle.std.proofs.lemmas.Bool.{and_parts, cases_Bool, eq-eqb, eqb-true, ne_eqb}
+use Rattle.std.proofs.lemmas.List.{map-append}
+use Rattle.std.proofs.lemmas.List.Elements.{All-cons, All-head, All-nil, All-tail}
 use Rattle.fr_base.specs.Channels.{channels_number}
 use Rattle.fr_base.specs.Fittest.{fittest}
-use Rattle.fr_base.specs.Lacks.{lack_row, open_slots, slots_with}
+use Rattle.fr_base.specs.Lacks.{is_short, lack_row, open_slots, short_wishes, slots_with}
+use Rattle.fr_base.proofs.LackLaws.{lacking-opened}
 use Rattle.fr_base.specs.declared.proposal.Given.{Given}
 use Rattle.fr_base.specs.declared.proposal.LackRow.{LackRow}
 use Rattle.fr_base.specs.Orders.{same_channels}
@@ -19,6 +21,7 @@ use Rattle.fr_base.specs.declared.params.Params.{Params}
 use Rattle.fr_base.specs.declared.placement.Placement.{Placement}
 use Rattle.fr_base.specs.declared.wish.Asked.{Asked}
 use Rattle.fr_world.specs.Plans.{Opens}
+use Rattle.fr_world.proofs.TurnLaws.{kept-next, left-next}
 
 module _ (p : Params) where
   pub opens-none : (n : ℕ) (cells : List (Name × Placement)) → Opens p n cells n cells []
@@ -104,3 +107,36 @@ turns-alone p channels.B wishes all = sym (
 
 abbrev pub lacks_of : Params → List Given → Name → List LackRow
 lacks_of p given n = filter_map (lack_row p given n) (channels.A ∷ channels.AB ∷ channels.B ∷ [])
+
+module _ {X Y : Type 0} (g : X → Y) (t : X → Bool) (xs : List X) (i : ℕ) (x : X) (low : i < length xs) (is : x ≡ get_or xs i x) where
+  pub mapped-next : t x ≡ true → map g (filter t (take i xs)) ++ g x ∷ [] ≡ map g (filter t (take (i + 1) xs))
+  mapped-next passes = sym (map-append g (filter t (take i xs)) (x ∷ [])) ∙ ap (map g) (kept-next t xs i x low is passes)
+
+  pub mapped-left : t x ≡ false → map g (filter t (take i xs)) ≡ map g (filter t (take (i + 1) xs))
+  mapped-left fails = ap (map g) (left-next t xs i x low is fails)
+
+-- the wishes without a placement are for these channels
+pub short-kind : (given : List Given) (n : Name) (cs : Channels) → All (λ asked. same_kind asked.wish.channels cs ≡ true) (short_wishes given n cs)
+unfolding short_wishes
+short-kind [] n cs = All-nil (λ asked. same_kind asked.wish.channels cs ≡ true)
+short-kind (one ∷ given) n cs = elim (cases_Bool (is_short n cs one)) [
+  | inl short ↦
+      let kind : same_kind one.asked.wish.channels cs ≡ true = (and_parts _ _ (and_parts _ _ short).0).1 in
+      rw short (All-cons (λ asked. same_kind asked.wish.channels cs ≡ true) one.asked (map (λ g. g.asked) (filter (is_short n cs) given)) kind (short-kind given n cs))
+  | inr other ↦ rw other (short-kind given n cs)
+]
+
+module _ (p : Params) (given : List Given) (n : Name) (cs : Channels) (slots : ℕ) (is : slots ≡ open_slots p 0 [] (in_turn p (short_wishes given n cs))) where
+  row_with : ℕ → LackRow
+  row_with slots = record { node = n; channels = cs; slots = slots }
+
+  row_by : lack_row p given n cs ≡ option_map row_with (cond (eqb slots 0) None (Some slots))
+  unfolding lack_row row_with
+  row_by = ap (option_map row_with) (lacking-opened p (short_wishes given n cs) ∙ (λ i. cond (eqb (sym is i) 0) None (Some (sym is i))))
+
+  pub lacks-none : slots ≡ 0 → lack_row p given n cs ≡ None
+  lacks-none zero = row_by ∙ ap (λ b. option_map row_with (cond b None (Some slots))) (eq-eqb slots 0 zero)
+
+  pub lacks-some : ¬ (slots ≡ 0) → lack_row p given n cs ≡ Some (record { node = n; channels = cs; slots = slots })
+  unfolding row_with
+  lacks-some some = row_by ∙ ap (λ b. option_map row_with (cond b None (Some slots))) (ne_eqb slots 0 some)

@@ -73,3 +73,5 @@ pub mod RefusedLaws
 pub mod KeepingLaws
 pub mod FreedRows
 pub mod LackSlots
+pub mod GivenRows
+pub mod KeptRows

@@ -25,7 +25,7 @@ use Rattle.fr_world.proofs.ScheduleLaws.{range-more}
 pub places-append : (xs ys : List Given) → places_given (xs ++ ys) ≡ places_given xs ++ places_given ys
 places-append xs ys = filter_map-append filled_by xs ys
 
-placed-one : (olds : List (Name × Placement)) (asked : Asked) (place : Option Placement) → with_place olds asked.wish.frame place ≡ olds ++ places_given (record { asked = asked; place = place } ∷ [])
+pub placed-one : (olds : List (Name × Placement)) (asked : Asked) (place : Option Placement) → with_place olds asked.wish.frame place ≡ olds ++ places_given (record { asked = asked; place = place } ∷ [])
 placed-one olds asked None = sym (append-nil olds)
 placed-one olds asked (Some q) = refl
 

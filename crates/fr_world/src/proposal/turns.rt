@@ -1,5 +1,6 @@
 //! Wishes take their placements in turn.
 ghost use Rattle.std.specs.Prelude.{◌≡◌, ◌++◌, ◌∷◌, [], List, ℕ, IsTrue, IfOk, OnOk, filter};
+ghost use Rattle.std.specs.List.{list_any};
 ghost use Rattle.fr_base.specs.Cycles.{is_repetition};
 ghost use Rattle.fr_base.specs.Proposals.{held_slots};
 ghost use Rattle.fr_base.specs.Turns.{all_placed, in_turn, is_for, turns_on, with_place};
@@ -130,7 +131,7 @@ impl Plan {
             self.old.given.items self.new.given.items
             (filter (is_for kind.channels kind.repetition) wishes.now)) }
     {
-        if !wishes.iter().any(|asked| is_for(asked, kind)) {
+        if !has_kind(wishes, kind) {
             return Ok(());
         }
         let mut rooms = rooms_of(alloc, params, slots, kind, &self.cells)?;
@@ -189,6 +190,17 @@ pub(super) fn rooms_of(
         rooms.push(*slot, cells)?;
     }
     Ok(rooms)
+}
+
+// Whether one of the wishes is for this kind of places.
+fn has_kind(wishes: &[Asked], kind: Kind) -> bool
+    ensures { result ≡ list_any (is_for kind.channels kind.repetition) wishes.now }
+{
+    wishes.iter().any(
+        |asked|
+            ensures { result ≡ is_for kind.channels kind.repetition asked.now }
+        { is_for(asked, kind) },
+    )
 }
 
 /// Whether the wish is for this kind of places.

@@ -11,11 +11,10 @@ use Rattle.fr_world.proofs.TurnLaws.{kept-next, left-next, none-kept, takes-more
 use Rattle.fr_world.proofs.proposal.turns.Plan.take_alike.Goals as goal
 use Rattle.fr_world.proofs.proposal.turns.Plan.take_alike.Goals.{then-is_for+in_ok-take_place, else-is_for}
 
-pub returns-then-not-any : goal.returns-then-not-any
-returns-then-not-any c on at =
+pub returns-then-not-has_kind : goal.returns-then-not-has_kind
+returns-then-not-has_kind c on at =
     let t = is_for c.args.kind.channels c.args.kind.repetition in
-    let found : c.any.result ≡ list_any t c.args.wishes.now = search (rules, tests) in
-    let none : list_any t c.args.wishes.now ≡ false = sym found ∙ c.if-not-any.true in
+    let none : list_any t c.args.wishes.now ≡ false = sym c.has_kind.ensures ∙ c.if-not-has_kind.true in
     subst (Takes c.args.params.now on c.args.self.now.cells c.args.self.now.cells c.args.self.now.given.items c.args.self.now.given.items) (sym (none-kept t c.args.wishes.now none)) (takes-none c.args.params.now on c.args.self.now.cells c.args.self.now.given.items)
 
 pub loop-asked-init : goal.loop-asked-init
