@@ -67,14 +67,14 @@ accepted c b s v x body file sound known found open_now are may =
     let reads = wishes_of_body c.params body in
     let numbered = body-numbered c.params body in
     let count = sound-count c b sound in
-    let fits : (a : Asked) → Member a (asked_of (the_judged mine reads numbered.0 numbered.1)) → IsTrue (list_all (has_channel c.params.channels) (channels_in a.wish.channels)) =
-    λ a at. held-has c b s v a.wish.node x a.wish.channels (slots_of c.params) sound found (wish-admitted mine reads numbered.0 numbered.1 a at).1.held in
-    let asked = asked_of (the_judged mine reads numbered.0 numbered.1) in
-    let given = all_given mine reads numbered.0 numbered.1 in
+    let fits : (a : Asked) → Member a (asked_of (the_judged mine false reads numbered.0 numbered.1)) → IsTrue (list_all (has_channel c.params.channels) (channels_in a.wish.channels)) =
+    λ a at. held-has c b s v a.wish.node x a.wish.channels (slots_of c.params) sound found (wish-admitted mine false reads numbered.0 numbered.1 a at).1.held in
+    let asked = asked_of (the_judged mine false reads numbered.0 numbered.1) in
+    let given = all_given mine false reads numbered.0 numbered.1 in
     let run = runs c.params b s v x (sound.variants v x found).1 false given reads (counted_frames (own s x.frames)) [] x.frames (at-first c b s v x sound found)
-        (each-of _ asked (λ a at q e. placed-stands mine reads numbered.0 numbered.1 count fits a q at e))
-        (pairs-of (λ x y. x.line < y.line) _ asked (λ y z at in_too less q r e k. placed-apart mine reads numbered.0 numbered.1 count fits y z q r at in_too (λ same. omega (arith, less, same)) e k)
-        (asked-by_line numbered.0 (the_judged mine reads numbered.0 numbered.1) (judge-numbered mine (counted_frames (own s x.frames)) numbered.0 reads numbered.1)))
-        tt (rows_of_body c.params file.body) are in
+    (each-of _ asked (λ a at q e. placed-stands mine reads numbered.0 numbered.1 count fits a q at e))
+    (pairs-of (λ x y. x.line < y.line) _ asked (λ y z at in_too less q r e k. placed-apart mine reads numbered.0 numbered.1 count fits y z q r at in_too (λ same. omega (arith, less, same)) e k)
+    (asked-by_line numbered.0 (the_judged mine false reads numbered.0 numbered.1) (judge-numbered mine (counted_frames (own s x.frames)) numbered.0 reads numbered.1)))
+    tt (rows_of_body c.params file.body) are in
     ap (λ (o : Outcome). o.answer) (import-passes c b s v x open_now (sound.variants v x found).0 b x.frames run.0 file [] (record { nodes = refl; there = found; known = known }) may run.1)
     ∙ ap Imported (same-length (rows_of_body c.params file.body) (records_told (proposal mine false reads)) are)

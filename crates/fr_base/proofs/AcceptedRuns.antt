@@ -69,6 +69,7 @@ fill-same (x ∷ xs) (y ∷ ys) c e h =
   where
     head : (q r : Placement) (qs rs : List Placement) → q ∷ qs ≡ r ∷ rs → q ≡ r
     head q r qs rs k = cc
+
     tail : (q r : Placement) (qs rs : List Placement) → q ∷ qs ≡ r ∷ rs → qs ≡ rs
     tail q r qs rs k = cc
 
@@ -366,10 +367,12 @@ module _ (p : Params) (b : Book) (s v : Name) (y : Variant) (sound : IsSoundVari
             let here : after ≡ z = same_some after z (sym (get-put t (s, f) after) ∙ ap (λ k. get (insert t (s, f) after) (s, k)) (sym key) ∙ at) in
             let c = count-at (get counted (s, f)) refl (get t (s, f)) refl in
             let less = len-one (frame_or n (get t (s, f))) q in
-            let few : len (insert (frame_or n (get t (s, f))).placements q tt) ≤ one.placements = omega (arith, c.1, less) in
-            (one, ap (λ k. get (insert counted (s, f) one) (s, k)) key ∙ get-put counted (s, f) one,
-            ap (λ (w : Frame). w.node) (sym here) ∙ node-is (get t (s, f)) refl ∙ sym c.0,
-            subst (λ (w : Frame). len w.placements ≤ one.placements) here few)
+            let few : len (insert (frame_or n (get t (s, f))).placements q tt) ≤ one.placements = omega (arith, c.1, less) in (
+              one,
+              ap (λ k. get (insert counted (s, f) one) (s, k)) key ∙ get-put counted (s, f) one,
+              ap (λ (w : Frame). w.node) (sym here) ∙ node-is (get t (s, f)) refl ∙ sym c.0,
+              subst (λ (w : Frame). len w.placements ≤ one.placements) here few,
+            )
         | inr other ↦
             let m = along.counts g z (sym (settle-other t (s, f) (s, g) (Becomes (with_one (frame_or n (get t (s, f))) q)) (other_frame s f g other)) ∙ at) in
             (m.0, settle-other counted (s, f) (s, g) (Becomes (one_more wish (get counted (s, f)))) (other_frame s f g other) ∙ m.1, m.2, m.3)
@@ -449,6 +452,7 @@ module _ (p : Params) (b : Book) (s v : Name) (y : Variant) (sound : IsSoundVari
         head_or : Result Row Refusal → List (Result Row Refusal) → Result Row Refusal
         head_or d [] = d
         head_or d (x ∷ xs) = x
+
         tail_of : List (Result Row Refusal) → List (Result Row Refusal)
         tail_of [] = []
         tail_of (x ∷ xs) = xs
@@ -463,10 +467,10 @@ module _ (p : Params) (b : Book) (s v : Name) (y : Variant) (sound : IsSoundVari
     runs [] counted added t along stand apart from (f ∷ file) are = cc
     runs (read ∷ reads) counted added t along stand apart from file are =
         (elim (judged at_first counted read.wish) as (λ j. judged at_first counted read.wish ≡ j →
-            Stand given (cons_option (asked_at read.line j) (asked_of (judge at_first (count_wish s counted j) reads))) →
-            Apart given (cons_option (asked_at read.line j) (asked_of (judge at_first (count_wish s counted j) reads))) →
-            ApartFrom given added (cons_option (asked_at read.line j) (asked_of (judge at_first (count_wish s counted j) reads))) →
-            map (λ f. f.row) file ≡ map Ok (cons_option (record_of (proposal_row given (record { line = read.line; wish = j })).proposed) (filter_map (λ row. record_of row.proposed) (map (proposal_row given) (judge at_first (count_wish s counted j) reads)))) → Passes replaces t file) [
+        Stand given (cons_option (asked_at read.line j) (asked_of (judge at_first (count_wish s counted j) reads))) →
+        Apart given (cons_option (asked_at read.line j) (asked_of (judge at_first (count_wish s counted j) reads))) →
+        ApartFrom given added (cons_option (asked_at read.line j) (asked_of (judge at_first (count_wish s counted j) reads))) →
+        map (λ f. f.row) file ≡ map Ok (cons_option (record_of (proposal_row given (record { line = read.line; wish = j })).proposed) (filter_map (λ row. record_of row.proposed) (map (proposal_row given) (judge at_first (count_wish s counted j) reads)))) → Passes replaces t file) [
           | Ok wish ↦ λ e h k l m.
               one_row reads (runs reads) read.line counted added t along wish (judged-admitted at_first counted read.wish wish e).1 (place_at given read.line) refl h k l file
               (m ∙ ap (λ o. map Ok (cons_option o (filter_map (λ row. record_of row.proposed) (map (proposal_row given) (judge at_first (count_wish s counted (Ok wish)) reads))))) (record-of given read.line wish (place_at given read.line) refl))

@@ -91,7 +91,7 @@ add_none : (b r : ℕ) → b ≡ 0 * r + b
 add_none b r = omega arith
 
 -- what is not above another number and divides it or is divided by it, divides it
-divides-up : (q r : ℕ) → 0 < q → q ≤ r → OneDivides q r → r % q ≡ 0
+pub divides-up : (q r : ℕ) → 0 < q → q ≤ r → OneDivides q r → r % q ≡ 0
 divides-up q r some up h = elim h [
   | inl divides ↦ divides
   | inr divided ↦ elim (cases_order q r) [
@@ -113,7 +113,7 @@ chain-each (w ∷ ws) x r h at = elim at [
   | inr later ↦ chain-each ws x r h.1 later
 ]
 
-chain-of : (ws : List Asked) (x y : Asked) → AreChain (map (λ a. a.wish.repetition) ws) → Member x ws → Member y ws → 0 < x.wish.repetition → OneDivides x.wish.repetition y.wish.repetition
+pub chain-of : (ws : List Asked) (x y : Asked) → AreChain (map (λ a. a.wish.repetition) ws) → Member x ws → Member y ws → 0 < x.wish.repetition → OneDivides x.wish.repetition y.wish.repetition
 chain-of [] x y h at in_too some = absurd at
 chain-of (w ∷ ws) x y h at in_too some = elim at [
   | inl here ↦ elim in_too [
@@ -140,13 +140,13 @@ module _ (own : OwnRows) (reads : List WishRead) (first : ℕ) (numbered : AreNu
   told = proposal own false reads
 
   abbrev given : List Given
-  given = all_given own reads first numbered
+  given = all_given own false reads first numbered
 
   -- these are wishes that are not refused, and what they were given is told at their lines
   abbrev AreTold : List Given → Type 0
-  AreTold gs = AllByRecursion (λ g. Member g.asked (asked_of (the_judged own reads first numbered)) × (place_at given g.asked.line ≡ g.place)) gs
+  AreTold gs = AllByRecursion (λ g. Member g.asked (asked_of (the_judged own false reads first numbered)) × (place_at given g.asked.line ≡ g.place)) gs
 
-  placement-told : (wish : Wish) (place : Option Placement) → placement_told (Some (proposed_for own reads first numbered wish place)) ≡ elim place as (λ o. Option (Name × Placement)) [ None ↦ None | Some q ↦ Some (wish.frame, q) ]
+  placement-told : (wish : Wish) (place : Option Placement) → placement_told (Some (proposed_for own false reads first numbered wish place)) ≡ elim place as (λ o. Option (Name × Placement)) [ None ↦ None | Some q ↦ Some (wish.frame, q) ]
   placement-told wish None = refl
   placement-told wish (Some q) = refl
 
@@ -154,9 +154,9 @@ module _ (own : OwnRows) (reads : List WishRead) (first : ℕ) (numbered : AreNu
   filled-is a None = refl
   filled-is a (Some q) = refl
 
-  told-filled : (g : Given) → Member g.asked (asked_of (the_judged own reads first numbered)) × (place_at given g.asked.line ≡ g.place) → placement_told (told_at told g.asked.line) ≡ filled_by g
+  told-filled : (g : Given) → Member g.asked (asked_of (the_judged own false reads first numbered)) × (place_at given g.asked.line ≡ g.place) → placement_told (told_at told g.asked.line) ≡ filled_by g
   told-filled g h =
-      ap placement_told (told-is own reads first numbered g.asked h.0 ∙ ap (λ place. Some (proposed_for own reads first numbered g.asked.wish place)) h.1)
+      ap placement_told (told-is own false reads first numbered g.asked h.0 ∙ ap (λ place. Some (proposed_for own false reads first numbered g.asked.wish place)) h.1)
       ∙ placement-told g.asked.wish g.place ∙ sym (filled-is g.asked g.place)
 
   told-places : (gs : List Given) → AreTold gs → placements_told told (map (λ g. g.asked) gs) ≡ places_given gs
@@ -178,8 +178,8 @@ module _ (own : OwnRows) (reads : List WishRead) (first : ℕ) (numbered : AreNu
 
   -- ---- a wish in its turn
 
-  module _ (count : is_cycle_count own.params.cycles ≡ true) (n : Name) (before after : List Asked) (a : Asked) (chain : AreChain (map (λ a. a.wish.repetition) (of_node own reads first numbered n)))
-      (eq : in_turn own.params (of_node own reads first numbered n) ≡ before ++ a ∷ after) (has : IsTrue (list_all (has_channel own.params.channels) (channels_in a.wish.channels))) where
+  module _ (count : is_cycle_count own.params.cycles ≡ true) (n : Name) (before after : List Asked) (a : Asked) (chain : AreChain (map (λ a. a.wish.repetition) (of_node own false reads first numbered n)))
+      (eq : in_turn own.params (of_node own false reads first numbered n) ≡ before ++ a ∷ after) (has : IsTrue (list_all (has_channel own.params.channels) (channels_in a.wish.channels))) where
     abbrev p : Params
     p = own.params
 
@@ -190,17 +190,17 @@ module _ (own : OwnRows) (reads : List WishRead) (first : ℕ) (numbered : AreNu
     slots = held_slots own n
 
     abbrev at_first : List (Name × Placement)
-    at_first = there own reads first numbered
+    at_first = there own false reads first numbered
 
     -- the turns, those before, and what those on other channels took
     abbrev turns : List Asked
-    turns = in_turn own.params (of_node own reads first numbered n)
+    turns = in_turn own.params (of_node own false reads first numbered n)
 
     in-turns : (x : Asked) → Member x (before ++ a ∷ after) → Member x turns
     in-turns x at = subst (Member x) (sym eq) at
 
     pairs : Pairs IsBefore (before ++ a ∷ after)
-    pairs = subst (Pairs IsBefore) eq (turns-before own reads first numbered n)
+    pairs = subst (Pairs IsBefore) eq (turns-before own false reads first numbered n)
 
     each-before : AllByRecursion (λ x. IsBefore x a) before
     each-before = pairs-member IsBefore before a after pairs
@@ -218,12 +218,14 @@ module _ (own : OwnRows) (reads : List WishRead) (first : ℕ) (numbered : AreNu
 
     go-first : (xs : List Asked) → Pairs IsBefore xs → AllByRecursion (λ x. IsBefore x a) xs → GoFirst cs xs
     go-first [] h k = tt
-    go-first (x ∷ xs) h k =
-        (each-of _ xs (λ y at here.
-        let up = turn-up x y (of-each (IsBefore x) xs y h.0 at) in
-        let last = turn-up y a (of-each (λ z. IsBefore z a) xs y k.1 at) in
-        let level : turn_of x.wish.channels ≡ turn_of cs = ap turn_of (same_kind-is x.wish.channels cs here) in
-        kind-same y.wish.channels cs (turn-same y.wish.channels cs (omega (arith, up, last, level)))), go-first xs h.1 k.1)
+    go-first (x ∷ xs) h k = (
+      each-of _ xs (λ y at here.
+          let up = turn-up x y (of-each (IsBefore x) xs y h.0 at) in
+          let last = turn-up y a (of-each (λ z. IsBefore z a) xs y k.1 at) in
+          let level : turn_of x.wish.channels ≡ turn_of cs = ap turn_of (same_kind-is x.wish.channels cs here) in
+          kind-same y.wish.channels cs (turn-same y.wish.channels cs (omega (arith, up, last, level)))),
+      go-first xs h.1 k.1,
+    )
 
     abbrev U : List Asked
     U = others cs before
@@ -241,20 +243,20 @@ module _ (own : OwnRows) (reads : List WishRead) (first : ℕ) (numbered : AreNu
     abbrev F : Option Placement
     F = fittest_for p slots (filled_after p slots at_first before) a.wish
 
-    all-taken : taken own reads first numbered n ≡ took ++ (record { asked = a; place = F } ∷ take_places p slots (with_place (filled_after p slots at_first before) a.wish.frame F) after)
+    all-taken : taken own false reads first numbered n ≡ took ++ (record { asked = a; place = F } ∷ take_places p slots (with_place (filled_after p slots at_first before) a.wish.frame F) after)
     unfolding take_places
     all-taken = ap (take_places p slots at_first) eq ∙ take-append p slots at_first before (a ∷ after)
 
-    member-taken : (g : Given) → Member g (took ++ (record { asked = a; place = F } ∷ take_places p slots (with_place (filled_after p slots at_first before) a.wish.frame F) after)) → Member g (taken own reads first numbered n)
+    member-taken : (g : Given) → Member g (took ++ (record { asked = a; place = F } ∷ take_places p slots (with_place (filled_after p slots at_first before) a.wish.frame F) after)) → Member g (taken own false reads first numbered n)
     member-taken g at = subst (Member g) (sym all-taken) at
 
     place-of_a : place_at given a.line ≡ F
     place-of_a = taken-at own reads first numbered n (record { asked = a; place = F }) (member-taken _ (member-back _ took _ (inl refl)))
 
-    each-told : (gs : List Given) → ((g : Given) → Member g gs → Member g (taken own reads first numbered n)) → AreTold gs
+    each-told : (gs : List Given) → ((g : Given) → Member g gs → Member g (taken own false reads first numbered n)) → AreTold gs
     each-told gs within =
         each-of _ gs (λ g at. (
-          (turn-asked own reads first numbered n g.asked (taken-asked own reads first numbered n g (within g at))).0,
+          (turn-asked own false reads first numbered n g.asked (taken-asked own false reads first numbered n g (within g at))).0,
           taken-at own reads first numbered n g (within g at),
         ))
 
@@ -288,12 +290,12 @@ module _ (own : OwnRows) (reads : List WishRead) (first : ℕ) (numbered : AreNu
     Stands x = Member x turns × (x.wish.channels ≡ cs)
 
     stands-of : (x : Asked) → Stands x → ((x.wish.node ≡ n) × (x.wish.channels ≡ cs)) × ((0 < x.wish.repetition) × (p.cycles % x.wish.repetition ≡ 0))
-    stands-of x h = (((turn-asked own reads first numbered n x h.0).1, h.1), (turn-member p (of_node own reads first numbered n) x h.0).1)
+    stands-of x h = (((turn-asked own false reads first numbered n x h.0).1, h.1), (turn-member p (of_node own false reads first numbered n) x h.0).1)
 
     divides-one : (x y : Asked) → Stands x → Stands y → IsBefore x y → y.wish.repetition % x.wish.repetition ≡ 0
     divides-one x y h k less =
-        let mine = turn-member p (of_node own reads first numbered n) x h.0 in
-        let its = turn-member p (of_node own reads first numbered n) y k.0 in
+        let mine = turn-member p (of_node own false reads first numbered n) x h.0 in
+        let its = turn-member p (of_node own false reads first numbered n) y k.0 in
         let up : x.wish.repetition ≤ y.wish.repetition = elim less [
           | inl early ↦ absurd (omega (arith, early, ap turn_of h.1, ap turn_of k.1))
           | inr same ↦ elim same.1 [
@@ -301,7 +303,7 @@ module _ (own : OwnRows) (reads : List WishRead) (first : ℕ) (numbered : AreNu
             | inr level ↦ omega (arith, level.0)
           ]
         ] in
-        divides-up x.wish.repetition y.wish.repetition mine.1.0 up (chain-of (of_node own reads first numbered n) x y chain mine.0 its.0 mine.1.0)
+        divides-up x.wish.repetition y.wish.repetition mine.1.0 up (chain-of (of_node own false reads first numbered n) x y chain mine.0 its.0 mine.1.0)
 
     divides-all : (x : Asked) (ys : List Asked) → Stands x → AllByRecursion Stands ys → AllByRecursion (IsBefore x) ys → Stands a → IsBefore x a → DividesEach x.wish.repetition (map (λ w. w.repetition) (wishes_of ys ++ a.wish ∷ []))
     divides-all x [] h k less last behind = (divides-one x a h last behind, tt)
@@ -331,14 +333,14 @@ module _ (own : OwnRows) (reads : List WishRead) (first : ℕ) (numbered : AreNu
         let y = subst (λ f. (fittest_for p slots f a.wish ≡ None) ↔ ¬ Fit own beside (given_and (take_places p slots beside V) (a.wish ∷ []))) filled-same x in
         subst (λ (z : List (Name × Placement) × List Wish). (F ≡ None) ↔ ¬ Fit own z.0 (z.1 ++ a.wish ∷ [])) (λ i. (sym beside-is i, sym placed-is i)) y
 
-    none-told : (wish : Wish) (place : Option Placement) → (Some (proposed_for own reads first numbered wish place) ≡ Some (Err NoRoom)) ↔ (place ≡ None)
+    none-told : (wish : Wish) (place : Option Placement) → (Some (proposed_for own false reads first numbered wish place) ≡ Some (Err NoRoom)) ↔ (place ≡ None)
     none-told wish None = ((λ e. refl), (λ e. refl))
     none-told wish (Some q) = ((λ e. cc), (λ e. cc))
 
     pub no_room-certain : (told_at told a.line ≡ Some (Err NoRoom)) ↔ ¬ Fit own (there_and own told cs before) (placed_on told cs before ++ a.wish ∷ [])
     no_room-certain =
-        let asked = (turn-asked own reads first numbered n a a-stands.0).0 in
-        let row = told-is own reads first numbered a asked ∙ ap (λ place. Some (proposed_for own reads first numbered a.wish place)) place-of_a in
+        let asked = (turn-asked own false reads first numbered n a a-stands.0).0 in
+        let row = told-is own false reads first numbered a asked ∙ ap (λ place. Some (proposed_for own false reads first numbered a.wish place)) place-of_a in
         let tells = none-told a.wish F in (
           (λ e. nothing.0 (tells.0 (sym row ∙ e))),
           (λ none. row ∙ tells.1 (nothing.1 none)),
@@ -369,6 +371,6 @@ certain c b s v n x body before after a sound found chain eq =
     let reads = wishes_of_body c.params body in
     let numbered = body-numbered c.params body in
     let at = subst (Member a) (sym eq) (member-back a before (a ∷ after) (inl refl)) in
-    let asked = (turn-asked own reads numbered.0 numbered.1 n a at).0 in
-    let held = (wish-admitted own reads numbered.0 numbered.1 a asked).1.held in
+    let asked = (turn-asked own false reads numbered.0 numbered.1 n a at).0 in
+    let held = (wish-admitted own false reads numbered.0 numbered.1 a asked).1.held in
     no_room-certain own reads numbered.0 numbered.1 (sound-count c b sound) n before after a chain eq (held-has c b s v a.wish.node x a.wish.channels (slots_of c.params) sound found held)

@@ -149,7 +149,7 @@ module _ (own : OwnRows) (m : Name) (cs : Channels) (count : is_cycle_count own.
       let may = fits.0 in
       let less : q.slot < w = omega (arith, may.fits.to_last) in
       let rest = fits-alike w n (IsGood (filled ++ (wish.frame, q) ∷ [])) (BesidePlace (IsGood filled) q.cycles.repetition (seat q))
-          (good-more filled wish.frame q (kind-of filled wish q of.0 may)) (repetitions wishes) (map seat qs) (fits-seats (filled ++ (wish.frame, q) ∷ []) wishes of.1 qs fits.1) in
+      (good-more filled wish.frame q (kind-of filled wish q of.0 may)) (repetitions wishes) (map seat qs) (fits-seats (filled ++ (wish.frame, q) ∷ []) wishes of.1 qs fits.1) in
       subst (λ r. FitsIn w n (IsGood filled) (r ∷ repetitions wishes) (map seat (q ∷ qs))) may.repetition
       (less, base_below q may.fits.cycles, seat-good filled wish q of.0 may, rest)
 
@@ -178,7 +178,7 @@ module _ (own : OwnRows) (m : Name) (cs : Channels) (count : is_cycle_count own.
       let q = placed own.params wish.repetition p.0 cs p.1 in
       let may = good-seat filled wish p of.0 divide.0.0 divide.0.1 fits.1 (divisor_within wish.repetition p.1 divide.0.1 fits.1) fits.2 in
       let rest = seats-fit (filled ++ (wish.frame, q) ∷ []) wishes of.1 divide.1 ps
-          (fits-alike w n (BesidePlace (IsGood filled) wish.repetition p) (IsGood (filled ++ (wish.frame, q) ∷ [])) (good-less filled wish.frame q (record { channels = refl; cycles = refl })) (repetitions wishes) ps fits.3) in
+      (fits-alike w n (BesidePlace (IsGood filled) wish.repetition p) (IsGood (filled ++ (wish.frame, q) ∷ [])) (good-less filled wish.frame q (record { channels = refl; cycles = refl })) (repetitions wishes) ps fits.3) in
       (q ∷ rest.0, (may, rest.1))
 
   positive : (rs : List ℕ) → AreDivisors rs → ArePositive rs
@@ -193,7 +193,7 @@ module _ (own : OwnRows) (m : Name) (cs : Channels) (count : is_cycle_count own.
       let good = subst (λ k. HasGoodCycles n (IsGood filled) k (seat q)) may.repetition (seat-good filled wish q of.0 may) in
       let base : q.cycles.base < r = subst (λ k. q.cycles.base < k) may.repetition (base_below q may.fits.cycles) in
       let moved = other_place w n (omega arith) (IsGood filled) r divide.0.0 divide.0.1 (seat q) (omega (arith, may.fits.to_last)) base good
-          (repetitions wishes) (positive (repetitions wishes) divide.1) each (map seat fit.0) (fits-seats filled (wish ∷ wishes) of fit.0 fit.1) in
+      (repetitions wishes) (positive (repetitions wishes) divide.1) each (map seat fit.0) (fits-seats filled (wish ∷ wishes) of fit.0 fit.1) in
       seats-fit (filled ++ (wish.frame, q) ∷ []) wishes of.1 divide.1 moved.0
-          (fits-alike w n (BesidePlace (IsGood filled) r (seat q)) (IsGood (filled ++ (wish.frame, q) ∷ []))
-          (λ s c less h. good-less filled wish.frame q (kind-of filled wish q of.0 may) s c less (subst (λ k. BesidePlace (IsGood filled) k (seat q) s c) (sym may.repetition) h)) (repetitions wishes) moved.0 moved.1)
+      (fits-alike w n (BesidePlace (IsGood filled) r (seat q)) (IsGood (filled ++ (wish.frame, q) ∷ []))
+      (λ s c less h. good-less filled wish.frame q (kind-of filled wish q of.0 may) s c less (subst (λ k. BesidePlace (IsGood filled) k (seat q) s c) (sym may.repetition) h)) (repetitions wishes) moved.0 moved.1)

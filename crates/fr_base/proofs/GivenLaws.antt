@@ -56,12 +56,14 @@ unfolding judged admits_wish
 judged-admitted own counted read wish e =
     gave (λ w. (read ≡ Ok w) × IsAdmitted own counted w) (judged own counted read) wish
     (gives_each (λ w. (read ≡ Ok w) × IsAdmitted own counted w) read _ (λ w is.
-    gives_then (λ v. (read ≡ Ok v) × IsAdmitted own counted v) (admits_wish own counted w) (Ok w) (λ u passed.
-    (is, gave (λ u. IsAdmitted own counted w) (admits_wish own counted w) u
-    (gives_unless (λ u. IsAdmitted own counted w) NoNode _ _ (λ node.
-    gives_when (λ u. IsAdmitted own counted w) NodeDiffers _ _ (λ one_node.
-    gives_unless (λ u. IsAdmitted own counted w) NotGranted _ _ (λ held.
-    gives_when_last (λ u. IsAdmitted own counted w) Limit _ (λ room. record { node = node; one_node = one_node; held = held; room = room }))))) passed)))) e
+    gives_then (λ v. (read ≡ Ok v) × IsAdmitted own counted v) (admits_wish own counted w) (Ok w) (λ u passed. (
+      is,
+      gave (λ u. IsAdmitted own counted w) (admits_wish own counted w) u
+          (gives_unless (λ u. IsAdmitted own counted w) NoNode _ _ (λ node.
+          gives_when (λ u. IsAdmitted own counted w) NodeDiffers _ _ (λ one_node.
+          gives_unless (λ u. IsAdmitted own counted w) NotGranted _ _ (λ held.
+          gives_when_last (λ u. IsAdmitted own counted w) Limit _ (λ room. record { node = node; one_node = one_node; held = held; room = room }))))) passed,
+    )))) e
 
 pub asked-admitted : (own : OwnRows) (counted : Table owned Counted) (reads : List WishRead) (read : WishRead) (wish : Wish) → Member read (judge own counted reads) → read.wish ≡ Ok wish → (t : Table owned Counted) × IsAdmitted own t wish
 unfolding judge
@@ -170,12 +172,12 @@ pub member-map : {X Y : Type 0} (f : X → Y) (x : X) (xs : List X) → Member x
 member-map f x [] h = absurd h
 member-map f x (y ∷ xs) h = elim h [ inl here ↦ inl (ap f here) | inr later ↦ inr (member-map f x xs later) ]
 
-pairs-from_map : (xs : List Given) → Pairs (λ a b. a.line ≢ b.line) (map (λ g. g.asked) xs) → HaveOwnLines xs
+pub pairs-from_map : (xs : List Given) → Pairs (λ a b. a.line ≢ b.line) (map (λ g. g.asked) xs) → HaveOwnLines xs
 pairs-from_map [] h = tt
 pairs-from_map (x ∷ xs) h =
     (each-of _ xs (λ g at. of-each (λ b. x.asked.line ≢ b.line) (map (λ g. g.asked) xs) g.asked h.0 (member-map (λ g. g.asked) g xs at)), pairs-from_map xs h.1)
 
-not_before_itself : (a b : Asked) → a ≡ b → IsBefore a b → ⊥
+pub not_before_itself : (a b : Asked) → a ≡ b → IsBefore a b → ⊥
 not_before_itself a b e h = elim h [
   | inl less ↦ omega (arith, less, ap (λ (z : Asked). turn_of z.wish.channels) e)
   | inr more ↦ elim more.1 [
@@ -184,30 +186,30 @@ not_before_itself a b e h = elim h [
   ]
 ]
 
-pairs-lines : (xs : List Asked) → ((a b : Asked) → Member a xs → Member b xs → a.line ≡ b.line → a ≡ b) → Pairs IsBefore xs → Pairs (λ a b. a.line ≢ b.line) xs
+pub pairs-lines : (xs : List Asked) → ((a b : Asked) → Member a xs → Member b xs → a.line ≡ b.line → a ≡ b) → Pairs IsBefore xs → Pairs (λ a b. a.line ≢ b.line) xs
 pairs-lines [] one h = tt
 pairs-lines (x ∷ xs) one h =
     (each-of _ xs (λ b at same. not_before_itself x b (one x b (inl refl) (inr at) same) (of-each (IsBefore x) xs b h.0 at)), pairs-lines xs (λ a b at in_too. one a b (inr at) (inr in_too)) h.1)
 
-module _ (own : OwnRows) (reads : List WishRead) (first : ℕ) (numbered : AreNumbered first reads) where
+module _ (own : OwnRows) (replace : Bool) (reads : List WishRead) (first : ℕ) (numbered : AreNumbered first reads) where
   -- the wishes, each or what refuses it, and those of a node
   abbrev pub the_judged : List WishRead
-  the_judged = judged_wishes own false reads
+  the_judged = judged_wishes own replace reads
 
   abbrev pub of_node : Name → List Asked
-  of_node n = asked_of_node own false reads n
+  of_node n = asked_of_node own replace reads n
 
   abbrev pub there : List (Name × Placement)
-  there = filled_places (frames_beside own false reads)
+  there = filled_places (frames_beside own replace reads)
 
   abbrev pub taken : Name → List Given
   taken n = take_places own.params (held_slots own n) there (in_turn own.params (of_node n))
 
   abbrev pub all_given : List Given
-  all_given = given_wishes own false reads
+  all_given = given_wishes own replace reads
 
-  judged-lines : AreNumbered first the_judged
-  judged-lines = judge-numbered own (counted_frames (frames_beside own false reads)) first reads numbered
+  pub judged-lines : AreNumbered first the_judged
+  judged-lines = judge-numbered own (counted_frames (frames_beside own replace reads)) first reads numbered
 
   pub one-wish : (a b : Asked) → Member a (asked_of the_judged) → Member b (asked_of the_judged) → a.line ≡ b.line → a ≡ b
   one-wish a b at in_too same = one-asked first the_judged a b judged-lines at in_too same
@@ -223,7 +225,7 @@ module _ (own : OwnRows) (reads : List WishRead) (first : ℕ) (numbered : AreNu
   pub taken-asked : (n : Name) (g : Given) → Member g (taken n) → Member g.asked (in_turn own.params (of_node n))
   taken-asked n g at = subst (Member g.asked) (asked-taken own.params (held_slots own n) there (in_turn own.params (of_node n))) (member-map (λ g. g.asked) g (taken n) at)
 
-  own_lines : (n : Name) → HaveOwnLines (taken n)
+  pub own_lines : (n : Name) → HaveOwnLines (taken n)
   own_lines n =
       pairs-from_map (taken n) (subst (Pairs (λ a b. a.line ≢ b.line)) (sym (asked-taken own.params (held_slots own n) there (in_turn own.params (of_node n))))
       (pairs-lines (in_turn own.params (of_node n)) (λ a b at in_too same. one-wish a b (turn-asked n a at).0 (turn-asked n b in_too).0 same) (turns-before n)))
@@ -231,22 +233,31 @@ module _ (own : OwnRows) (reads : List WishRead) (first : ℕ) (numbered : AreNu
   pub wish-admitted : (a : Asked) → Member a (asked_of the_judged) → (t : Table owned Counted) × IsAdmitted own t a.wish
   wish-admitted a at =
       let read = asked-read the_judged a at in
-      asked-admitted own (counted_frames (frames_beside own false reads)) reads read.0 a.wish read.1 read.2.wish
+      asked-admitted own (counted_frames (frames_beside own replace reads)) reads read.0 a.wish read.1 read.2.wish
 
-  -- what a wish took in turn is what is given at its line
-  pub taken-at : (n : Name) (g : Given) → Member g (taken n) → place_at all_given g.asked.line ≡ g.place
-  unfolding given_all given_to take_turns
-  taken-at n g at =
-      let mine = turn-asked n g.asked (taken-asked n g at) in
+  -- what the wishes of a node are given
+  abbrev pub given_node : Name → List Given
+  given_node n = given_to own replace there n (of_node n)
+
+  pub node-asked : (n : Name) (a : Asked) → Member a (of_node n) → Member a (asked_of the_judged) × (a.wish.node ≡ n)
+  node-asked n a at =
+      let mine = member-filter (is_of_node n) a (asked_of the_judged) at in
+      (mine.0, same_text-is a.wish.node n mine.1)
+
+  -- each is found by its line, where what a node is given is of its wishes
+  pub given-at_line : ((m : Name) (g : Given) → Member g (given_node m) → Member g.asked (of_node m)) → (n : Name) (g : Given) → Member g (given_node n) → HaveOwnLines (given_node n) → place_at all_given g.asked.line ≡ g.place
+  unfolding given_all
+  given-at_line of n g at lines =
+      let mine = node-asked n g.asked (of n g at) in
       let node = subst (λ k. Member k (node_names own)) mine.1 (node-member own g.asked.wish.node (wish-admitted g.asked mine.0).1.node) in
-      let found = find-flat (is_at g.asked.line) taken (node_names own) n g (λ m. other m mine) node (find-own (taken n) g (own_lines n) at) in
+      let found = find-flat (is_at g.asked.line) given_node (node_names own) n g (λ m. other m mine) node (find-own (given_node n) g lines at) in
       ap (option_and_then (λ h. h.place)) found
     where
-      other : (m : Name) → Member g.asked (asked_of the_judged) × (g.asked.wish.node ≡ n) → (m ≡ n) ⊎ (find (is_at g.asked.line) (taken m) ≡ None)
+      other : (m : Name) → Member g.asked (asked_of the_judged) × (g.asked.wish.node ≡ n) → (m ≡ n) ⊎ (find (is_at g.asked.line) (given_node m) ≡ None)
       other m mine = elim (cases_Bool (same_text m n)) [
         | inl same ↦ inl (same_text-is m n same)
-        | inr differ ↦ inr (find-none (is_at g.asked.line) (taken m) (λ h in_m line.
-            let its = turn-asked m h.asked (taken-asked m h in_m) in
+        | inr differ ↦ inr (find-none (is_at g.asked.line) (given_node m) (λ h in_m line.
+            let its = node-asked m h.asked (of m h in_m) in
             let one = one-wish h.asked g.asked its.0 mine.0 (eqb-true _ _ line) in
             let nodes : m ≡ n = sym its.1 ∙ ap (λ (z : Asked). z.wish.node) one ∙ mine.1 in
             true≢false (sym (ap (λ k. same_text k n) nodes ∙ same_text-itself n) ∙ differ)))
@@ -284,9 +295,16 @@ module _ (own : OwnRows) (reads : List WishRead) (first : ℕ) (numbered : AreNu
         rw other (find-row given (suc k) rs read h.1 later)
   ]
 
-  pub told-is : (a : Asked) → Member a (asked_of the_judged) → told_at (proposal own false reads) a.line ≡ Some (proposed_for a.wish (place_at all_given a.line))
+  pub told-is : (a : Asked) → Member a (asked_of the_judged) → told_at (proposal own replace reads) a.line ≡ Some (proposed_for a.wish (place_at all_given a.line))
   unfolding proposal proposal_of
   told-is a at =
       let read = asked-read the_judged a at in
       subst (λ line. option_map (λ row. row.proposed) (find (λ row. row.line == line) (map (proposal_row all_given) the_judged)) ≡ Some (proposed_for a.wish (place_at all_given a.line))) read.2.line
       (ap (option_map (λ row. row.proposed)) (find-row all_given first the_judged read.0 judged-lines read.1) ∙ ap Some (row-is all_given read.0 a read.2))
+
+-- without `replace` what a wish took in turn is what is given at its line
+pub taken-at : (own : OwnRows) (reads : List WishRead) (first : ℕ) (numbered : AreNumbered first reads) (n : Name) (g : Given) → Member g (taken own false reads first numbered n) →
+    place_at (all_given own false reads first numbered) g.asked.line ≡ g.place
+unfolding given_to take_turns
+taken-at own reads first numbered n g at =
+    given-at_line own false reads first numbered (λ m h in_m. (turn-member own.params (of_node own false reads first numbered m) h.asked (taken-asked own false reads first numbered m h in_m)).0) n g at (own_lines own false reads first numbered n)

@@ -1,5 +1,5 @@
 -- What wishes are given may stand where the supplier's frames are, and no two of them share a cell.
-use Rattle.std.proofs.Common.{◌≡◌, ◌≢◌, ◌⊎◌, ◌<◌, ◌%◌, ◌∙◌, ℕ, Bool, true, List, [], ◌∷◌, ◌++◌, find, Option, Some, None, IsTrue, refl, sym, ap, subst, inl, inr, true≢false}
+use Rattle.std.proofs.Common.{◌≡◌, ◌≢◌, ◌⊎◌, ◌<◌, ◌%◌, ◌∙◌, ℕ, Bool, true, false, List, [], ◌∷◌, ◌++◌, find, Option, Some, None, IsTrue, refl, sym, ap, subst, inl, inr, true≢false}
 use Rattle.std.specs.Option.{option_and_then}
 use Rattle.std.specs.List.{AllByRecursion, list_all}
 use Rattle.std.proofs.lemmas.Bool.{cases_Bool, eqb-true}
@@ -35,7 +35,7 @@ abbrev pub AreDisjoint : Placement → Placement → Type 0
 AreDisjoint q r = (c : Cell) → has_cell q c ≡ true → has_cell r c ≡ true → ⊥
 
 -- beside fewer placements it may stand too
-stands-fewer : (own : OwnRows) (filled more : List (Name × Placement)) (wish : Wish) (q : Placement) → MayStand own (filled ++ more) wish q → MayStand own filled wish q
+pub stands-fewer : (own : OwnRows) (filled more : List (Name × Placement)) (wish : Wish) (q : Placement) → MayStand own (filled ++ more) wish q → MayStand own filled wish q
 stands-fewer own filled more wish q h = record {
   fits = h.fits;
   channels = h.channels;
@@ -45,7 +45,7 @@ stands-fewer own filled more wish q h = record {
 }
 
 -- and has no cell of those
-stands-apart : (own : OwnRows) (filled : List (Name × Placement)) (f : Name) (r : Placement) (wish : Wish) (q : Placement) → MayStand own (filled ++ (f, r) ∷ []) wish q → AreDisjoint r q
+pub stands-apart : (own : OwnRows) (filled : List (Name × Placement)) (f : Name) (r : Placement) (wish : Wish) (q : Placement) → MayStand own (filled ++ (f, r) ∷ []) wish q → AreDisjoint r q
 stands-apart own filled f r wish q h c in_r in_q =
     true≢false (sym in_r ∙ one-lacks f r c (empty-both filled ((f, r) ∷ []) c (free-empty (filled ++ (f, r) ∷ []) q h.free c in_q)).1)
 
@@ -128,48 +128,48 @@ nodes-apart own m n q r by_m by_n differ c in_q in_r =
     differ (ap (λ (h : Holder). h.node) (same_some _ _ (sym x ∙ y)))
 
 module _ (own : OwnRows) (reads : List WishRead) (first : ℕ) (numbered : AreNumbered first reads) (count : is_cycle_count own.params.cycles ≡ true)
-    (fits : (a : Asked) → Member a (asked_of (the_judged own reads first numbered)) → IsTrue (list_all (has_channel own.params.channels) (channels_in a.wish.channels))) where
-  may-take : (n : Name) → AllByRecursion (MayTake own n) (in_turn own.params (of_node own reads first numbered n))
-  may-take n = each-of (MayTake own n) (in_turn own.params (of_node own reads first numbered n)) (λ a at.
-      let mine = turn-asked own reads first numbered n a at in
-      (mine.1, fits a mine.0, (turn-member own.params (of_node own reads first numbered n) a at).1))
+    (fits : (a : Asked) → Member a (asked_of (the_judged own false reads first numbered)) → IsTrue (list_all (has_channel own.params.channels) (channels_in a.wish.channels))) where
+  may-take : (n : Name) → AllByRecursion (MayTake own n) (in_turn own.params (of_node own false reads first numbered n))
+  may-take n = each-of (MayTake own n) (in_turn own.params (of_node own false reads first numbered n)) (λ a at.
+      let mine = turn-asked own false reads first numbered n a at in
+      (mine.1, fits a mine.0, (turn-member own.params (of_node own false reads first numbered n) a at).1))
 
-  stood-of : (n : Name) → AllByRecursion (Stood own (there own reads first numbered)) (taken own reads first numbered n) × Pairs AreApart (taken own reads first numbered n)
-  stood-of n = taken-stood own count n (there own reads first numbered) (in_turn own.params (of_node own reads first numbered n)) (may-take n)
+  stood-of : (n : Name) → AllByRecursion (Stood own (there own false reads first numbered)) (taken own false reads first numbered n) × Pairs AreApart (taken own false reads first numbered n)
+  stood-of n = taken-stood own count n (there own false reads first numbered) (in_turn own.params (of_node own false reads first numbered n)) (may-take n)
 
   -- what is given at the line of a wish that is not refused, in its node's turns
   pub record IsGivenAt (a : Asked) (q : Placement) : Type 0 where
     pub given : Given
-    pub member : Member given (taken own reads first numbered a.wish.node)
+    pub member : Member given (taken own false reads first numbered a.wish.node)
     pub asked : given.asked ≡ a
     pub place : given.place ≡ Some q
 
-  given-at : (a : Asked) (q : Placement) → Member a (asked_of (the_judged own reads first numbered)) → place_at (all_given own reads first numbered) a.line ≡ Some q → IsGivenAt a q
+  given-at : (a : Asked) (q : Placement) → Member a (asked_of (the_judged own false reads first numbered)) → place_at (all_given own false reads first numbered) a.line ≡ Some q → IsGivenAt a q
   unfolding given_all given_to take_turns
   given-at a q at e =
-      let g = found_place (find (is_at a.line) (all_given own reads first numbered)) q e in
-      let found = find-is (is_at a.line) (all_given own reads first numbered) g.0 g.1 in
-      let node = member-flat (taken own reads first numbered) g.0 (node_names own) found.0 in
-      let its = turn-asked own reads first numbered node.0 g.0.asked (taken-asked own reads first numbered node.0 g.0 node.2) in
-      let same : g.0.asked ≡ a = one-wish own reads first numbered g.0.asked a its.0 at (eqb-true _ _ found.1) in
+      let g = found_place (find (is_at a.line) (all_given own false reads first numbered)) q e in
+      let found = find-is (is_at a.line) (all_given own false reads first numbered) g.0 g.1 in
+      let node = member-flat (taken own false reads first numbered) g.0 (node_names own) found.0 in
+      let its = turn-asked own false reads first numbered node.0 g.0.asked (taken-asked own false reads first numbered node.0 g.0 node.2) in
+      let same : g.0.asked ≡ a = one-wish own false reads first numbered g.0.asked a its.0 at (eqb-true _ _ found.1) in
       let name : node.0 ≡ a.wish.node = sym its.1 ∙ ap (λ (z : Asked). z.wish.node) same in
-      record { given = g.0; member = subst (λ k. Member g.0 (taken own reads first numbered k)) name node.2; asked = same; place = g.2 }
+      record { given = g.0; member = subst (λ k. Member g.0 (taken own false reads first numbered k)) name node.2; asked = same; place = g.2 }
 
-  pub placed-stands : (a : Asked) (q : Placement) → Member a (asked_of (the_judged own reads first numbered)) → place_at (all_given own reads first numbered) a.line ≡ Some q → MayStand own (there own reads first numbered) a.wish q
+  pub placed-stands : (a : Asked) (q : Placement) → Member a (asked_of (the_judged own false reads first numbered)) → place_at (all_given own false reads first numbered) a.line ≡ Some q → MayStand own (there own false reads first numbered) a.wish q
   placed-stands a q at e =
       let g = given-at a q at e in
-      let may = of-each (Stood own (there own reads first numbered)) (taken own reads first numbered a.wish.node) g.given (stood-of a.wish.node).0 g.member q g.place in
-      subst (λ (z : Asked). MayStand own (there own reads first numbered) z.wish q) g.asked may
+      let may = of-each (Stood own (there own false reads first numbered)) (taken own false reads first numbered a.wish.node) g.given (stood-of a.wish.node).0 g.member q g.place in
+      subst (λ (z : Asked). MayStand own (there own false reads first numbered) z.wish q) g.asked may
 
-  pub placed-apart : (a b : Asked) (q r : Placement) → Member a (asked_of (the_judged own reads first numbered)) → Member b (asked_of (the_judged own reads first numbered)) → a.line ≢ b.line →
-      place_at (all_given own reads first numbered) a.line ≡ Some q → place_at (all_given own reads first numbered) b.line ≡ Some r → AreDisjoint q r
+  pub placed-apart : (a b : Asked) (q r : Placement) → Member a (asked_of (the_judged own false reads first numbered)) → Member b (asked_of (the_judged own false reads first numbered)) → a.line ≢ b.line →
+      place_at (all_given own false reads first numbered) a.line ≡ Some q → place_at (all_given own false reads first numbered) b.line ≡ Some r → AreDisjoint q r
   placed-apart a b q r at in_too differ e k c in_q in_r =
       let g = given-at a q at e in
       let h = given-at b r in_too k in
       elim (cases_Bool (same_text a.wish.node b.wish.node)) [
         | inl same ↦
             let node : b.wish.node ≡ a.wish.node = sym (same_text-is a.wish.node b.wish.node same) in
-            elim (one-of_two (taken own reads first numbered a.wish.node) g.given h.given (stood-of a.wish.node).1 g.member (subst (λ n. Member h.given (taken own reads first numbered n)) node h.member)
+            elim (one-of_two (taken own false reads first numbered a.wish.node) g.given h.given (stood-of a.wish.node).1 g.member (subst (λ n. Member h.given (taken own false reads first numbered n)) node h.member)
             (λ one. differ (ap (λ (z : Asked). z.line) (sym g.asked ∙ ap (λ (z : Given). z.asked) one ∙ h.asked)))) [
               | inl apart ↦ apart q r g.place h.place c in_q in_r
               | inr apart ↦ apart r q h.place g.place c in_r in_q

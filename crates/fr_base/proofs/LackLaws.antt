@@ -190,9 +190,10 @@ module _ (p : Params) (filled : List (Name × Placement)) (cs : Channels) (r : �
     unfolding free_places places_on
     free_first a j zero above e some = absurd (omega (arith, some))
     free_first a j (suc k) above e some =
-        let first = free_above m filled (placed p (suc k) a cs 0) within above in
-        (filter (is_free filled) (map (placed p (suc k) a cs) (range_with_len 1 k)) ++ flat_map (λ slot. filter (is_free filled) (map (placed p (suc k) slot cs) (range_with_len 0 (suc k)))) (range_with_len (a + 1) j),
-        rw first refl)
+        let first = free_above m filled (placed p (suc k) a cs 0) within above in (
+          filter (is_free filled) (map (placed p (suc k) a cs) (range_with_len 1 k)) ++ flat_map (λ slot. filter (is_free filled) (map (placed p (suc k) slot cs) (range_with_len 0 (suc k)))) (range_with_len (a + 1) j),
+          rw first refl,
+        )
 
     one-of_ties : (x : Placement) (xs ys : List Placement) → ys ≡ x ∷ xs → AllByRecursion IsPlace (x ∷ []) → AllByRecursion (IsAbove m) ys → fittest_of filled ys ≡ Some x
     unfolding fittest_of rated least

@@ -240,7 +240,7 @@ refused_wishes = refl
 -- each of f, g and h at a base of 4
 pub nothing_moves :
     proposal (rows_with 64 (framed (codes "f") (on_a 0 4 ∷ []) ∷ framed (codes "g") (on_a 1 4 ∷ []) ∷ framed (codes "h") (on_a 2 4 ∷ []) ∷ [])) true
-        (n1 2 (codes "f") 4 ∷ n1 3 (codes "k") 8 ∷ n1 4 (codes "g") 4 ∷ [])
+    (n1 2 (codes "f") 4 ∷ n1 3 (codes "k") 8 ∷ n1 4 (codes "g") 4 ∷ [])
     ≡ record { rows = given 2 (codes "f") 0 4 ∷ given 3 (codes "k") 3 8 ∷ given 4 (codes "g") 1 4 ∷ []; lacks = [] }
 unfolding a_small_proposal rows_with framed
 nothing_moves = refl

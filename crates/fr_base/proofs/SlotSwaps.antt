@@ -142,11 +142,12 @@ module _ (w n : ℕ) (z : 0 < w) (Good : ℕ → ℕ → Type 0) where
   other_place r above divides p slot base good rs pos each ps fits =
       let one = to_row w n z InRow Good (λ s c less below h. at_cell s c less h) (r ∷ []) (above, tt) (p ∷ []) (slot, base, good, tt) in
       let row = to_row w n z InRow Good (λ s c less below h. at_cell s c less h) (r ∷ rs) (above, pos) ps fits in
-      let moved = exchange (n * w) (r * w) (base_of w p) (above_zero r w above z) (divides_times n r w above z divides) one.0 InRow one.1 (times w rs) (each_times r w rs above z each) (map (base_of w) ps) row in
-      (map (place_of w) moved.0,
-      to_slots w n z (Beside InRow (r * w) (base_of w p)) (BesidePlace Good r p)
-          (λ s c less below h. (
-            from_cell s c less h.0,
-            λ same. h.1 (place_in_class w r c s above less ∙ (ap (λ m. m * w + s) same.1 ∙ ap (λ m. p.1 * w + m) same.0)),
-          ))
-          rs pos moved.0 moved.1)
+      let moved = exchange (n * w) (r * w) (base_of w p) (above_zero r w above z) (divides_times n r w above z divides) one.0 InRow one.1 (times w rs) (each_times r w rs above z each) (map (base_of w) ps) row in (
+        map (place_of w) moved.0,
+        to_slots w n z (Beside InRow (r * w) (base_of w p)) (BesidePlace Good r p)
+            (λ s c less below h. (
+              from_cell s c less h.0,
+              λ same. h.1 (place_in_class w r c s above less ∙ (ap (λ m. m * w + s) same.1 ∙ ap (λ m. p.1 * w + m) same.0)),
+            ))
+            rs pos moved.0 moved.1,
+      )

@@ -164,7 +164,7 @@ module _ (own : OwnRows) (m : Name) (cs : Channels) (count : is_cycle_count own.
       let rest = rest-in_order a.wish (wishes_of asked ++ more) h in
       subst (λ f. Fit own f more) (filled-next p slots filled a asked)
       ((elim (fittest_for p slots filled a.wish) as (λ place. fittest_for p slots filled a.wish ≡ place →
-          Fit own filled (given_and (record { asked = a; place = place } ∷ take_places p slots (with_place filled a.wish.frame place) asked) more) → Fit own (filled_after p slots (with_place filled a.wish.frame place) asked) more) [
+      Fit own filled (given_and (record { asked = a; place = place } ∷ take_places p slots (with_place filled a.wish.frame place) asked) more) → Fit own (filled_after p slots (with_place filled a.wish.frame place) asked) more) [
         | None ↦ λ e fits. fit-after filled asked more rest fits
         | Some q ↦ λ e fits.
             let next = filled ++ (a.wish.frame, q) ∷ [] in
@@ -181,7 +181,7 @@ module _ (own : OwnRows) (m : Name) (cs : Channels) (count : is_cycle_count own.
   fit-before filled (a ∷ asked) more h fit =
       let rest = rest-in_order a.wish (wishes_of asked ++ more) h in
       (elim (fittest_for p slots filled a.wish) as (λ place. fittest_for p slots filled a.wish ≡ place → Fit own (filled_after p slots (with_place filled a.wish.frame place) asked) more →
-          Fit own filled (given_and (record { asked = a; place = place } ∷ take_places p slots (with_place filled a.wish.frame place) asked) more)) [
+      Fit own filled (given_and (record { asked = a; place = place } ∷ take_places p slots (with_place filled a.wish.frame place) asked) more)) [
         | None ↦ λ e fits. fit-before filled asked more rest fits
         | Some q ↦ λ e fits.
             let x = fit-before (filled ++ (a.wish.frame, q) ∷ []) asked more rest fits in
@@ -207,6 +207,7 @@ module _ (own : OwnRows) (m : Name) (cs : Channels) (count : is_cycle_count own.
       stands : (f : List (Name × Placement)) (qs : List Placement) → FitBeside own f (a.wish ∷ []) qs → fittest_for p slots f a.wish ≡ None → AreInOrder (a.wish ∷ []) → ⊥
       stands f [] fits e mine = fits
       stands f (q ∷ qs) fits e mine = untaken-stands f a.wish q mine.of.0 e fits.0
+
       go : (place : Option Placement) → fittest_for p slots (filled_after p slots filled before) a.wish ≡ place → ¬ Fit own filled (given_and (take_places p slots filled before) (a.wish ∷ [])) → AreInOrder (a.wish ∷ []) → place ≡ None
       go None e none mine = refl
       go (Some q) e none mine = absurd (none (fit-before filled before (a.wish ∷ []) h (q ∷ [], (taken-stands (filled_after p slots filled before) a.wish q mine.of.0 mine.divide.0 e, tt))))

@@ -1,13 +1,14 @@
 -- Laws of proposals. Where the repetitions of a node's wishes are a chain, a wish has no room exactly where it does not fit.
-use Rattle.std.specs.Prelude.{◌≡◌, ◌⊎◌, ◌↔◌, ℕ, ◌%◌, ◌==◌, Bool, false, not, List, [], ◌∷◌, ◌++◌, map, filter, find, is_some, length, Option, Some, None, option_map, Result, Ok, Err, IsTrue, IsFalse}
-use Rattle.std.specs.List.{AllByRecursion, filter_map}
+use Rattle.std.specs.Prelude.{◌≡◌, ◌⊎◌, ◌↔◌, ℕ, ◌%◌, ◌==◌, Bool, true, false, not, List, [], ◌∷◌, ◌++◌, map, filter, find, is_some, is_none, length, Option, Some, None, option_map, Result, Ok, Err, IsTrue, IsFalse}
+use Rattle.std.specs.List.{AllByRecursion, AllZip, filter_map}
 use Rattle.fr_base.specs.Tables.{get}
 use Rattle.fr_base.specs.Cluster.{Cluster}
 use Rattle.fr_base.specs.Book.{Book, Variant}
 use Rattle.fr_base.specs.OwnRows.{OwnRows, own_rows}
 use Rattle.fr_base.specs.Wishes.{wishes_of_body}
-use Rattle.fr_base.specs.Turns.{same_kind, in_turn}
-use Rattle.fr_base.specs.RefusedWishes.{asked_of}
+use Rattle.fr_base.specs.Turns.{same_kind, in_turn, places_given}
+use Rattle.fr_base.specs.RefusedWishes.{asked_of, frames_beside}
+use Rattle.fr_base.specs.KeptPlaces.{keep}
 use Rattle.fr_base.specs.Proposals.{filled_places, is_of_node, judged_wishes, proposal}
 use Rattle.fr_base.specs.Sound.{IsSound}
 use Rattle.fr_base.specs.Fits.{Fit}
@@ -22,7 +23,9 @@ use Rattle.fr_base.specs.declared.import.Row.{Row}
 use Rattle.fr_base.specs.declared.import.Row.TheVariants.{Place}
 use Rattle.fr_base.specs.declared.name.Name.{Name}
 use Rattle.fr_base.specs.declared.placement.Placement.{Placement}
+use Rattle.fr_base.specs.declared.proposal.Given.{Given}
 use Rattle.fr_base.specs.declared.proposal.Proposal.{Proposal}
+use Rattle.fr_base.specs.declared.proposal.ProposalRow.{ProposalRow}
 use Rattle.fr_base.specs.declared.proposal.ProposedPlacement.{ProposedPlacement}
 use Rattle.fr_base.specs.declared.refusal.Refusal.{Refusal}
 use Rattle.fr_base.specs.declared.refusal.Refusal.TheVariants.{NoRoom}
@@ -106,3 +109,51 @@ ProposalIsImported = (c : Cluster) (b : Book) (s v : Name) (x : Variant) (body :
     let records = records_told (proposal (own_rows c.params b s x) false (wishes_of_body c.params body)) in
     ReadsAs c.params file.body records → MayBeKept b s (file ∷ []) →
     (step c b (Supplier s) (Deliver v (purpose.Import file.label) file.body)).answer ≡ Imported (length records)
+
+-- the row is of the wish: of its line; and where it has a placement, its text and the rows did not refuse the wish, whose frame, node, channels and repetition
+-- it has
+pub record IsRowOf (read : WishRead) (row : ProposalRow) : Type 0 where
+  pub line : row.line ≡ read.line
+  pub placed : (placed : ProposedPlacement) → row.proposed ≡ Ok placed →
+      (read.wish ≡ Ok (record { frame = placed.frame; node = placed.node; channels = placed.placement.channels; repetition = placed.placement.cycles.repetition }))
+
+-- The rows of a proposal stand in the order of the wishes. Each record has its wish's frame, node, channels and repetition.
+abbrev pub RowsAreTheirWishes : Type 0
+RowsAreTheirWishes = (c : Cluster) (b : Book) (s v : Name) (x : Variant) (body : List ℕ) → IsSound c b → get b.variants v ≡ Some x →
+    let reads = wishes_of_body c.params body in
+    AllZip IsRowOf reads (proposal (own_rows c.params b s x) false reads).rows
+
+-- In a sound book, without `replace`, of a node whose wishes are all for the same channels and have repetitions that are a chain: each has a placement exactly
+-- where they all fit beside what is there.
+abbrev pub AllAreGivenWhereAllFit : Type 0
+AllAreGivenWhereAllFit = (c : Cluster) (b : Book) (s v n : Name) (x : Variant) (cs : Channels) (body : List ℕ) → IsSound c b → get b.variants v ≡ Some x →
+    let own = own_rows c.params b s x in
+    let reads = wishes_of_body c.params body in
+    let told = proposal own false reads in
+    let wishes = asked_of_node own false reads n in
+    AllByRecursion (λ a. a.wish.channels ≡ cs) wishes → AreChain (map (λ a. a.wish.repetition) wishes) →
+    AllByRecursion (λ a. has_placement told a ≡ true) wishes ↔ Fit own (filled_places own.frames) (map (λ a. a.wish) wishes)
+
+-- ---- what is to replace
+
+-- what the node's wishes keep under `replace`, each that keeps a placement with it
+abbrev pub kept_of_node : OwnRows → List WishRead → Name → List Given
+kept_of_node own reads n = keep own.supplier own.frames [] (asked_of_node own true reads n)
+
+-- those that keep nothing
+abbrev pub without_place : List Given → List Asked
+without_place given = map (λ g. g.asked) (filter (λ g. is_none g.place) given)
+
+-- the frames that are not named, and all that is kept of the node
+abbrev pub beside_kept : OwnRows → List WishRead → Name → List (Name × Placement)
+beside_kept own reads n = filled_places (frames_beside own true reads) ++ places_given (kept_of_node own reads n)
+
+-- In a sound book, under `replace`, of a node of which the wishes that keep nothing are for the same channels and have repetitions that are a chain: where these
+-- fit beside all that is kept and the frames that are not named, each wish that keeps a placement has it in the proposal.
+abbrev pub NothingMovesThatNeedNot : Type 0
+NothingMovesThatNeedNot = (c : Cluster) (b : Book) (s v n : Name) (x : Variant) (cs : Channels) (body : List ℕ) → IsSound c b → get b.variants v ≡ Some x →
+    let own = own_rows c.params b s x in
+    let reads = wishes_of_body c.params body in
+    let others = without_place (kept_of_node own reads n) in
+    AllByRecursion (λ a. a.wish.channels ≡ cs) others → AreChain (map (λ a. a.wish.repetition) others) → Fit own (beside_kept own reads n) (map (λ a. a.wish) others) →
+    AllByRecursion (λ g. (q : Placement) → g.place ≡ Some q → placement_told (told_at (proposal own true reads) g.asked.line) ≡ Some (g.asked.wish.frame, q)) (kept_of_node own reads n)

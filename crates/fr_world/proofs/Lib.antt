@@ -70,6 +70,7 @@ pub mod SlotFits
 pub mod TurnLaws
 pub mod CountLaws
 pub mod RefusedLaws
+pub mod KeepingLaws
 pub mod FreedRows
 pub mod LackSlots
 pub mod GivenRows

@@ -1,6 +1,7 @@
 //! Which placements of the frames that wishes name stay where they are.
+ghost use Rattle.std.specs.List.{list_any};
 ghost use Rattle.std.specs.Prelude.{◌≡◌, [], IfOk};
-ghost use Rattle.fr_base.specs.KeptPlaces.{is_as_wished, is_kept, keep, kept_for};
+ghost use Rattle.fr_base.specs.KeptPlaces.{is_as_wished, keep, kept_for};
 ghost use Rattle.fr_base.specs.Tables.{get};
 ghost use Rattle.fr_base.specs.Turns.{places_given};
 ghost use Rattle.fr_world.specs.Pages.{frame_data, frame_of, own_rows_of};
@@ -58,7 +59,7 @@ fn is_as_wished(wish: &Wish, place: &Placement) -> bool
 
 // Whether a wish before keeps this placement of the frame.
 fn is_kept(kept: &[Given], frame: Name, place: &Placement) -> bool
-    ensures { result ≡ is_kept (places_given kept.now) frame place.now }
+    ensures { result ≡ list_any (is_kept_by frame place.now) kept.now }
 {
     kept.iter().any(|one| is_kept_by(one, frame, place))
 }
