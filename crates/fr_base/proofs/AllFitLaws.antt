@@ -1,26 +1,21 @@
 -- Each wish of a node has a placement exactly where all fit: wishes fit in one order where they do in another.
-use Rattle.std.proofs.Common.{◌≡◌, ◌≢◌, ◌⊎◌, ◌↔◌, ◌<◌, ◌≤◌, ◌+◌, ◌*◌, ◌%◌, ◌∙◌, ℕ, nat_le, Bool, true, false, cond, List, [], ◌∷◌, ◌++◌, map, filter, find, Option, Some, None, option_map, is_some, Result, Ok, Err, IsTrue, refl, sym, ap, subst, inl, inr, arith, true≢false}
+use Rattle.std.proofs.Common.{◌≡◌, ◌≢◌, ◌↔◌, ◌<◌, ◌≤◌, ◌+◌, ◌*◌, ◌%◌, ◌∙◌, ℕ, nat_le, true, false, cond, List, [], ◌∷◌, ◌++◌, map, filter, Option, Some, None, is_some, IsTrue, refl, sym, ap, subst, inl, inr, arith, true≢false}
 use Rattle.std.specs.List.{AllByRecursion, list_all, range_with_len}
 use Rattle.std.specs.Prelude.{◌==◌}
 use Rattle.std.proofs.lemmas.Bool.{cases_Bool, cases_lt, and_parts, eqb-true, eq-eqb, ne_eqb}
 use Rattle.std.proofs.lemmas.Bool.Decides.{nat_tests}
 use Rattle.std.proofs.lemmas.Nat.{mod-mul-add}
 use Rattle.std.specs.Option.{unwrap_or}
-use Rattle.fr_base.specs.Refusing.{◌>>=◌, ◌or◌}
-use Rattle.fr_base.specs.Tables.{get}
 use Rattle.fr_base.specs.Cells.{slots_of, has_cell}
 use Rattle.fr_base.specs.Channels.{channels_in, channels_number, has_channel}
 use Rattle.fr_base.specs.Cycles.{is_cycle_count, is_repetition}
-use Rattle.fr_base.specs.Cluster.{Cluster}
-use Rattle.fr_base.specs.Book.{Variant, Book}
 use Rattle.fr_base.specs.OwnRows.{OwnRows, own_rows}
 use Rattle.fr_base.specs.Wishes.{wishes_of_body}
 use Rattle.fr_base.specs.Turns.{is_for, repetitions_of, turns_on, in_turn, with_place, fittest_for, take_places}
-use Rattle.fr_base.specs.RefusedWishes.{frames_beside, asked_of, judged, judge, counted_frames, count_wish}
-use Rattle.fr_base.specs.Proposals.{held_slots, is_of_node, place_at, proposal_row, proposal, proposal_of}
-use Rattle.fr_base.specs.Sound.{IsSound}
+use Rattle.fr_base.specs.RefusedWishes.{frames_beside, asked_of, counted_frames}
+use Rattle.fr_base.specs.Proposals.{held_slots, is_of_node, place_at, proposal}
 use Rattle.fr_base.specs.Fits.{MayStand, FitBeside, Fit}
-use Rattle.fr_base.specs.ProposalLaws.{AreChain, told_at, placement_told, has_placement, AllAreGivenWhereAllFit}
+use Rattle.fr_base.specs.ProposalLaws.{AreChain, placement_told, has_placement, AllAreGivenWhereAllFit}
 use Rattle.fr_base.specs.declared.channel.Channels.{Channels}
 use Rattle.fr_base.specs.declared.channel.Channels.TheVariants as channels
 use Rattle.fr_base.specs.declared.name.Name.{Name}

@@ -1,38 +1,32 @@
 -- Under `replace` nothing moves that need not: where the wishes that keep nothing fit beside all that is kept, it is kept.
-use Rattle.std.proofs.Common.{◌≡◌, ◌≢◌, ◌⊎◌, ◌<◌, ◌≤◌, ◌%◌, ◌∙◌, ℕ, Bool, true, false, cond, List, [], ◌∷◌, ◌++◌, map, filter, Option, Some, None, is_some, IsTrue, refl, sym, ap, subst, inl, inr, arith, true≢false}
-use Rattle.std.specs.Prelude.{◌&&◌, is_none}
+use Rattle.std.proofs.Common.{◌≡◌, ◌≢◌, ◌⊎◌, ◌<◌, ◌∙◌, ℕ, true, false, cond, List, [], ◌∷◌, ◌++◌, map, filter, Option, Some, None, is_some, IsTrue, refl, sym, ap, subst, inl, inr, arith, true≢false}
+use Rattle.std.specs.Prelude.{is_none}
 use Rattle.std.specs.List.{AllByRecursion, list_all}
 use Rattle.std.proofs.lemmas.Bool.{cases_Bool, and_parts}
 use Rattle.fr_base.specs.Tables.{Table, get}
 use Rattle.fr_base.specs.Keys.{owned}
 use Rattle.fr_base.specs.Cells.{slots_of}
 use Rattle.fr_base.specs.Channels.{channels_in, has_channel}
-use Rattle.fr_base.specs.Cycles.{is_cycle_count, is_repetition}
-use Rattle.fr_base.specs.Cluster.{Cluster}
-use Rattle.fr_base.specs.Book.{Frame, Variant, Book}
+use Rattle.fr_base.specs.Cycles.{is_cycle_count}
+use Rattle.fr_base.specs.Book.{Frame}
 use Rattle.fr_base.specs.OwnRows.{OwnRows, own_rows}
 use Rattle.fr_base.specs.Wishes.{wishes_of_body}
-use Rattle.fr_base.specs.Turns.{in_turn, with_place, take_places, take_turns, all_placed, places_given}
-use Rattle.fr_base.specs.RefusedWishes.{asked_of, frames_beside}
+use Rattle.fr_base.specs.Turns.{in_turn, with_place, take_places, take_turns, all_placed}
+use Rattle.fr_base.specs.RefusedWishes.{asked_of}
 use Rattle.fr_base.specs.KeptPlaces.{kept_for, keep}
-use Rattle.fr_base.specs.Proposals.{filled_places, held_slots, either, given_with, given_beside, given_to, place_at, proposal}
-use Rattle.fr_base.specs.Sound.{IsSound}
-use Rattle.fr_base.specs.Fits.{MayStand, FitBeside, Fit}
-use Rattle.fr_base.specs.ProposalLaws.{AreChain, asked_of_node, told_at, placement_told, kept_of_node, without_place, beside_kept, NothingMovesThatNeedNot}
+use Rattle.fr_base.specs.Proposals.{held_slots, either, given_with, given_beside, given_to, proposal}
+use Rattle.fr_base.specs.Fits.{Fit}
+use Rattle.fr_base.specs.ProposalLaws.{AreChain, told_at, placement_told, kept_of_node, without_place, beside_kept, NothingMovesThatNeedNot}
 use Rattle.fr_base.specs.declared.channel.Channels.{Channels}
 use Rattle.fr_base.specs.declared.name.Name.{Name}
-use Rattle.fr_base.specs.declared.params.Params.{Params}
 use Rattle.fr_base.specs.declared.placement.Placement.{Placement}
 use Rattle.fr_base.specs.declared.proposal.Given.{Given}
 use Rattle.fr_base.specs.declared.wish.Asked.{Asked}
-use Rattle.fr_base.specs.declared.wish.Wish.{Wish}
 use Rattle.fr_base.specs.declared.wish.WishRead.{WishRead}
-use Rattle.fr_base.proofs.AskedLines.{Member, member-filter, member-kept, member-front, member-back, member-either, AreNumbered, body-numbered}
-use Rattle.fr_base.proofs.FitPlaces.{some_cycle}
-use Rattle.fr_base.proofs.SoundRows.{same_text-is}
-use Rattle.fr_base.proofs.TurnOrder.{Pairs, pairs-append, pairs-filter, each-of, of-each, IsBefore, turns-in_order, turn-member}
+use Rattle.fr_base.proofs.AskedLines.{Member, member-filter, member-kept, member-front, member-either, AreNumbered, body-numbered}
+use Rattle.fr_base.proofs.TurnOrder.{Pairs, pairs-append, pairs-filter, each-of, of-each, turns-in_order, turn-member}
 use Rattle.fr_base.proofs.TurnLaws.{wishes_of}
-use Rattle.fr_base.proofs.GivenLaws.{HaveOwnLines, the_judged, of_node, there, all_given, given_node, given-at_line, node-asked, one-wish, judged-lines, asked-by_line, asked-taken, member-map, pairs-from_map, pairs-lines, wish-admitted, told-is, proposed_for}
+use Rattle.fr_base.proofs.GivenLaws.{HaveOwnLines, the_judged, of_node, there, given_node, given-at_line, node-asked, one-wish, judged-lines, asked-by_line, asked-taken, member-map, pairs-from_map, pairs-lines, wish-admitted, told-is, proposed_for}
 use Rattle.fr_base.proofs.AllFitLaws.{HaveLines, way_of, fit-way, way-among, way-fits, all-in_order, all-take}
 use Rattle.fr_base.proofs.CertainLaws.{held-has, sound-count}
 

@@ -1,8 +1,8 @@
 -- The rows of a proposal are those of its wishes, in their order.
-use Rattle.std.proofs.Common.{◌≡◌, ◌∙◌, ℕ, false, List, [], ◌∷◌, map, Option, Some, None, Result, Ok, Err, IsTrue, refl, sym, ap, subst}
+use Rattle.std.proofs.Common.{◌≡◌, ◌∙◌, ℕ, false, List, [], ◌∷◌, map, Option, Some, None, Result, Ok, Err, IsTrue, refl, sym, ap}
 use Rattle.std.specs.List.{AllByRecursion, AllZip, cons_option, list_all}
 use Rattle.fr_base.specs.Refusing.{◌>>=◌, ◌or◌}
-use Rattle.fr_base.specs.Tables.{Table, get}
+use Rattle.fr_base.specs.Tables.{Table}
 use Rattle.fr_base.specs.Keys.{owned}
 use Rattle.fr_base.specs.Cells.{slots_of}
 use Rattle.fr_base.specs.Channels.{channels_in, has_channel}
@@ -15,7 +15,6 @@ use Rattle.fr_base.specs.declared.placement.Placement.{Placement}
 use Rattle.fr_base.specs.declared.proposal.Given.{Given}
 use Rattle.fr_base.specs.declared.proposal.ProposedPlacement.{ProposedPlacement}
 use Rattle.fr_base.specs.declared.refusal.Refusal.{Refusal}
-use Rattle.fr_base.specs.declared.refusal.Refusal.TheVariants.{NoRoom}
 use Rattle.fr_base.specs.declared.wish.Asked.{Asked}
 use Rattle.fr_base.specs.declared.wish.Wish.{Wish}
 use Rattle.fr_base.specs.declared.wish.WishRead.{WishRead}

@@ -1,5 +1,7 @@
--- Laws of proposals. Where the repetitions of a node's wishes are a chain, a wish has no room exactly where it does not fit.
-use Rattle.std.specs.Prelude.{◌≡◌, ◌⊎◌, ◌↔◌, ℕ, ◌%◌, ◌==◌, Bool, true, false, not, List, [], ◌∷◌, ◌++◌, map, filter, find, is_some, is_none, length, Option, Some, None, option_map, Result, Ok, Err, IsTrue, IsFalse}
+-- Laws of proposals. Where the repetitions of a node's wishes are a chain, a wish has no room exactly where it does not fit, and each has a placement exactly
+-- where all fit. What is proposed without `replace` is imported as it stands, and its records are those of the wishes, in their order. Under `replace` nothing
+-- moves that need not.
+use Rattle.std.specs.Prelude.{◌≡◌, ◌⊎◌, ◌↔◌, ℕ, ◌%◌, ◌==◌, Bool, true, false, not, List, [], ◌∷◌, ◌++◌, map, filter, find, is_some, is_none, length, Option, Some, None, option_map, Result, Ok, Err, IsTrue, IsFalse, nat_lt, if◌then◌else◌}
 use Rattle.std.specs.List.{AllByRecursion, AllZip, filter_map}
 use Rattle.fr_base.specs.Tables.{get}
 use Rattle.fr_base.specs.Cluster.{Cluster}
@@ -15,7 +17,12 @@ use Rattle.fr_base.specs.Fits.{Fit}
 use Rattle.fr_base.specs.ExportedLaws.{File, ReadsAs, MayBeKept}
 use Rattle.fr_base.specs.Step.{knows, step}
 use Rattle.fr_base.specs.declared.actor.Actor.TheVariants.{Supplier}
-use Rattle.fr_base.specs.declared.answer.Answer.TheVariants.{Imported}
+use Rattle.fr_base.specs.Names.{is_name}
+use Rattle.fr_base.specs.declared.limits.TheConstants.{MAX_IMPORT_BYTES}
+use Rattle.fr_base.specs.declared.params.Params.{Params}
+use Rattle.fr_base.specs.declared.answer.Answer.{Answer}
+use Rattle.fr_base.specs.declared.answer.Answer.TheVariants.{Imported, Refused, Report}
+use Rattle.fr_base.specs.declared.answer.ReportRows.TheVariants as rows
 use Rattle.fr_base.specs.declared.delivery.Purpose.TheVariants as purpose
 use Rattle.fr_base.specs.declared.request.Request.TheVariants.{Deliver}
 use Rattle.fr_base.specs.declared.channel.Channels.{Channels}
@@ -28,7 +35,7 @@ use Rattle.fr_base.specs.declared.proposal.Proposal.{Proposal}
 use Rattle.fr_base.specs.declared.proposal.ProposalRow.{ProposalRow}
 use Rattle.fr_base.specs.declared.proposal.ProposedPlacement.{ProposedPlacement}
 use Rattle.fr_base.specs.declared.refusal.Refusal.{Refusal}
-use Rattle.fr_base.specs.declared.refusal.Refusal.TheVariants.{NoRoom}
+use Rattle.fr_base.specs.declared.refusal.Refusal.TheVariants.{NoVariant, Released, Limit, NoRoom}
 use Rattle.fr_base.specs.declared.wish.Asked.{Asked}
 use Rattle.fr_base.specs.declared.wish.Wish.{Wish}
 use Rattle.fr_base.specs.declared.wish.WishRead.{WishRead}
@@ -157,3 +164,19 @@ NothingMovesThatNeedNot = (c : Cluster) (b : Book) (s v n : Name) (x : Variant) 
     let others = without_place (kept_of_node own reads n) in
     AllByRecursion (λ a. a.wish.channels ≡ cs) others → AreChain (map (λ a. a.wish.repetition) others) → Fit own (beside_kept own reads n) (map (λ a. a.wish) others) →
     AllByRecursion (λ g. (q : Placement) → g.place ≡ Some q → placement_told (told_at (proposal own true reads) g.asked.line) ≡ Some (g.asked.wish.frame, q)) (kept_of_node own reads n)
+
+-- ---- the answer
+
+-- What a supplier is answered of a proposal. It is refused where the variant is not there, else where it is released, else where the file is too long; else the
+-- proposal by the supplier's own rows is told.
+abbrev pub proposal_told : Params → Bool → Book → Name → List ℕ → Option Variant → Answer
+proposal_told p replace b s body None = Refused NoVariant
+proposal_told p replace b s body (Some x) =
+    if x.released then Refused Released
+    else if nat_lt MAX_IMPORT_BYTES (length body) then Refused Limit
+    else Report false (rows.Proposal replace (proposal (own_rows p b s x) replace (wishes_of_body p body)))
+
+-- In any book a supplier that is known, and names a variant in its form, is told that, and the book stays.
+abbrev pub ProposalIsTold : Type 0
+ProposalIsTold = (c : Cluster) (b : Book) (s : Name) (v body : List ℕ) (replace : Bool) → IsTrue (knows b (Supplier s)) → IsTrue (is_name v) →
+    step c b (Supplier s) (Deliver v (purpose.Proposal replace) body) ≡ record { book = b; answer = proposal_told c.params replace b s body (get b.variants v) }

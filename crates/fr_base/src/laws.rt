@@ -30,7 +30,7 @@ pub use loads::{load_counts_the_schedule, load_shows_each_lane, load_shows_own_l
 pub use openings::{flat_is_first, opened_is_alike};
 pub use proposals::{
     all_are_given_where_all_fit, no_room_is_certain, nothing_moves_that_need_not,
-    proposal_is_imported, rows_are_their_wishes,
+    proposal_is_imported, proposal_is_told, rows_are_their_wishes,
 };
 pub use queries::{
     difference_is_of_rows, difference_is_told, inventory_is_told, load_is_told,

@@ -130,6 +130,7 @@ pub use laws::other_step_leaves_rows;
 pub use laws::own_export_changes_nothing;
 pub use laws::own_step_is_alone;
 pub use laws::proposal_is_imported;
+pub use laws::proposal_is_told;
 pub use laws::query_changes_nothing;
 pub use laws::refused_changes_nothing;
 pub use laws::refused_room_refuses;

@@ -1,5 +1,5 @@
 //! What holds of the placements that are proposed for wishes.
-ghost use Rattle.fr_base.specs.ProposalLaws.{AllAreGivenWhereAllFit, NoRoomIsCertain, NothingMovesThatNeedNot, ProposalIsImported, RowsAreTheirWishes};
+ghost use Rattle.fr_base.specs.ProposalLaws.{AllAreGivenWhereAllFit, NoRoomIsCertain, NothingMovesThatNeedNot, ProposalIsImported, ProposalIsTold, RowsAreTheirWishes};
 
 /// Without `replace`, of a node whose wishes have repetitions of which one divides the other: a wish has no room exactly where
 /// it does not fit together with those before it in turn on its channels that have a placement, beside what is there and
@@ -30,4 +30,10 @@ pub fn proposal_is_imported()
 /// one divides the other: where these fit beside all that is kept, each wish that keeps a placement has it in the proposal.
 pub fn nothing_moves_that_need_not()
     ensures { NothingMovesThatNeedNot }
+{}
+
+/// A proposal for a supplier that is known, of a variant's name, is refused where the variant is not there or is released, or
+/// the file is too long; else it is told by the supplier's own rows. The book stays.
+pub fn proposal_is_told()
+    ensures { ProposalIsTold }
 {}
