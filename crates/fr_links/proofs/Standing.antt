@@ -1,5 +1,5 @@
 -- Whose request is to be answered stands in the queue: as one comes to stand there, as others go, and as the first is taken.
-use Rattle.std.proofs.Common.{◌≡◌, ◌∙◌, ℕ, Bool, true, false, List, [], ◌∷◌, ◌++◌, Option, None, Some, IsSome, IsTrue, refl, sym, subst, inl, inr, arith}
+use Rattle.std.proofs.Common.{◌≡◌, ◌∙◌, ℕ, true, false, List, [], ◌∷◌, ◌++◌, Option, None, Some, IsSome, IsTrue, refl, sym, subst, inl, inr, arith}
 use Rattle.std.specs.Prelude.{◌≢◌, ◌||◌, nat_eq}
 use Rattle.std.specs.List.{AllByRecursion}
 use Rattle.std.proofs.lemmas.Bool.{cases_eq}
@@ -51,9 +51,9 @@ module _ {S : Type 0} where
   queued_joins links mid links' ready ready' key queued others joins k waits =
       elim (cases_eq k key) [
         | inl same ↦ elim joins.own [
-            | inl stands ↦ subst (λ xs. IsTrue (stands_in xs k)) (sym stands.1) (subst (λ n. IsTrue (stands_in (ready ++ key ∷ []) n)) (sym same) (stands_last ready key))
-            | inr gone ↦ absurd (not_waiting (get links' key) gone.0 (subst (λ n. IsWaiting (get links' n)) same waits))
-          ]
+          | inl stands ↦ subst (λ xs. IsTrue (stands_in xs k)) (sym stands.1) (subst (λ n. IsTrue (stands_in (ready ++ key ∷ []) n)) (sym same) (stands_last ready key))
+          | inr gone ↦ absurd (not_waiting (get links' key) gone.0 (subst (λ n. IsWaiting (get links' n)) same waits))
+        ]
         | inr differs ↦
             let before : IsWaiting (get links k) = subst IsWaiting (joins.others k differs ∙ others k differs) waits in
             let stood : IsTrue (stands_in ready k) = queued k before in

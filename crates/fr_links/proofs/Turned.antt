@@ -3,7 +3,6 @@ use Rattle.std.proofs.Common.{arith, ◌≡◌, ◌∙◌, ℕ, List, [], ◌∷
 use Rattle.std.specs.Prelude.{◌≢◌, ◌⊎◌, OnErr}
 use Rattle.std.proofs.KnownBytes.{Appends-trans, Consumes-trans}
 use Rattle.std.proofs.lemmas.Bool.{cases_eq, cases_lt}
-use Rattle.std.proofs.lemmas.Grind.{common_steps}
 use Rattle.std.specs.Io.KnownBytes.{Consumes}
 use Rattle.fr_links.proofs.Connecting.{same}
 use Rattle.fr_links.proofs.Moved.{none_due, none_early}
@@ -12,7 +11,7 @@ use Rattle.fr_links.proofs.Slots.{AllStay-links, Follows-trans, Goes-gone, Stays
 use Rattle.fr_links.specs.Connection.{Follows, IsAnswered, IsBegun, IsMoved, LosesNone, due_of, early_of}
 use Rattle.fr_links.specs.Connections.{AllStay, Goes, IsKnown, OthersStay, Queues, Stays, at}
 use Rattle.fr_links.specs.Sending.{Moves}
-use Rattle.fr_links.specs.Turning.{AllKnown, CameIn, GoesOn, Reached, Reaches, Turns}
+use Rattle.fr_links.specs.Turning.{CameIn, GoesOn, Reached, Reaches, Turns}
 use Rattle.fr_links.specs.declared.held.Held.{Held}
 use Rattle.fr_links.specs.declared.judge.Judgement.{Judgement}
 use Rattle.fr_links.specs.declared.link.Link.{Link}
@@ -158,26 +157,30 @@ module _ {S : Type 0} (remaining contents : S → Option (List ℕ)) (fresh : S 
   came_on (Some y) None came goes = inl refl
   came_on (Some y) (Some z) came goes =
       let begun = came.2 in
-      inr (came.0, came.1, record {
-        first = begun.first;
-        over = begun.over;
-        empty = begun.empty;
-        none_due = begun.none_due;
-        none_early = begun.none_early;
-        moved = moved_twice remaining contents begun.first y.link z.link y.stage z.stage begun.moved goes.0 goes.1 goes.2;
-      })
+      inr (
+        came.0,
+        came.1,
+        record {
+          first = begun.first;
+          over = begun.over;
+          empty = begun.empty;
+          none_due = begun.none_due;
+          none_early = begun.none_early;
+          moved = moved_twice remaining contents begun.first y.link z.link y.stage z.stage begun.moved goes.0 goes.1 goes.2;
+        },
+      )
 
   pub reaches_after : (a b c : Option (Held S)) → Reaches remaining contents fresh a b → Reaches remaining contents fresh b c → Reaches remaining contents fresh a c
   reaches_after a b c p q =
       elim q [
         | inr came ↦ inr came
         | inl goes ↦ elim p [
-            | inl before ↦ inl (goes_after remaining contents a b c before goes)
-            | inr came ↦ elim (came_on b c came goes) [
-                | inl gone ↦ inl (subst (Goes remaining contents a) (sym gone) (Goes-gone remaining contents a))
-                | inr still ↦ inr still
-              ]
+          | inl before ↦ inl (goes_after remaining contents a b c before goes)
+          | inr came ↦ elim (came_on b c came goes) [
+            | inl gone ↦ inl (subst (Goes remaining contents a) (sym gone) (Goes-gone remaining contents a))
+            | inr still ↦ inr still
           ]
+        ]
       ]
 
   -- what begins on a fresh stream came in, or is gone

@@ -147,9 +147,7 @@ impl<P: Port + Drop, J: Judge + Drop> Links<P, J> {
             done => done?,
         }
         let now = Instant::now(rt)?;
-        let told = self
-            .table
-            .go_on_each(&self.events, EARS, now, &self.judge);
+        let told = self.table.go_on_each(&self.events, EARS, now, &self.judge);
         self.hears |= told;
         self.knocks |= told;
         Ok(())
@@ -264,7 +262,8 @@ impl<P: Port + Drop, J: Judge + Drop> Links<P, J> {
         ensures most { self.new.most ≡ self.old.most }
     {
         let now = Instant::now(rt).unwrap_or(self.given);
-        self.table.postpone(now.saturating_duration_since(self.given));
+        self.table
+            .postpone(now.saturating_duration_since(self.given));
         let end = self.end_from(now);
         self.table
             .take_back(reply, served, now, end, self.poll.registry());

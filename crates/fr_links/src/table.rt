@@ -339,7 +339,10 @@ impl<S: Wire + Drop> Table<S> {
         ensures stay { AllStay self.old self.new }
         ensures queue { Queues self.old self.new }
     {
-        if let Some(key) = self.first_to_end(|held, _| matches!(held.stage, Stage::Resting { .. })) {
+        if let Some(key) = self.first_to_end(|held, _| matches!(
+            held.stage,
+            Stage::Resting { .. }
+        )) {
             self.end(key);
             return true;
         }

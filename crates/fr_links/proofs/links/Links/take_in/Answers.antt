@@ -29,20 +29,20 @@ loop-preserved g c =
     let judge : c.has_room.new.self.judge ≡ c.args.self.now.judge = c.has_room.ensures.judge ∙ i.judge in
     elim c.match-accept_now.branch [
       | in-Ok w ↦ record {
-          turns = subst (λ self. Turns g.P.Stream.Wire.remaining g.P.Stream.Wire.contents g.P.Port.fresh (g.J.Judge.tells c.args.self.now.judge) c.args.self.now.table self.table) (sym w.self-is)
-              (then_turns g.P.Stream.Wire.remaining g.P.Stream.Wire.contents g.P.Port.fresh g.J.Judge.tells c.args.self.now.table c.has_room.new.self.table w.welcome.new.self.table c.args.self.now.judge c.has_room.new.self.judge judge here w.welcome.ensures.turns);
-          judge = ap (λ self. self.judge) w.self-is ∙ w.welcome.ensures.judge ∙ judge;
-        }
+        turns = subst (λ self. Turns g.P.Stream.Wire.remaining g.P.Stream.Wire.contents g.P.Port.fresh (g.J.Judge.tells c.args.self.now.judge) c.args.self.now.table self.table) (sym w.self-is)
+            (then_turns g.P.Stream.Wire.remaining g.P.Stream.Wire.contents g.P.Port.fresh g.J.Judge.tells c.args.self.now.table c.has_room.new.self.table w.welcome.new.self.table c.args.self.now.judge c.has_room.new.self.judge judge here w.welcome.ensures.turns);
+        judge = ap (λ self. self.judge) w.self-is ∙ w.welcome.ensures.judge ∙ judge;
+      }
       | in-Err+in-NoneWaits w ↦ record {
-          turns = subst (λ self. Turns g.P.Stream.Wire.remaining g.P.Stream.Wire.contents g.P.Port.fresh (g.J.Judge.tells c.args.self.now.judge) c.args.self.now.table self.table) (sym w.self-is) here;
-          judge = ap (λ self. self.judge) w.self-is ∙ judge;
-        }
+        turns = subst (λ self. Turns g.P.Stream.Wire.remaining g.P.Stream.Wire.contents g.P.Port.fresh (g.J.Judge.tells c.args.self.now.judge) c.args.self.now.table self.table) (sym w.self-is) here;
+        judge = ap (λ self. self.judge) w.self-is ∙ judge;
+      }
       | in-Err+in-WasGivenUp w ↦ record {
-          turns = subst (λ self. Turns g.P.Stream.Wire.remaining g.P.Stream.Wire.contents g.P.Port.fresh (g.J.Judge.tells c.args.self.now.judge) c.args.self.now.table self.table) (sym w.self-is) here;
-          judge = ap (λ self. self.judge) w.self-is ∙ judge;
-        }
+        turns = subst (λ self. Turns g.P.Stream.Wire.remaining g.P.Stream.Wire.contents g.P.Port.fresh (g.J.Judge.tells c.args.self.now.judge) c.args.self.now.table self.table) (sym w.self-is) here;
+        judge = ap (λ self. self.judge) w.self-is ∙ judge;
+      }
       | in-Err+in-Lacks-2 w ↦ record {
-          turns = subst (λ self. Turns g.P.Stream.Wire.remaining g.P.Stream.Wire.contents g.P.Port.fresh (g.J.Judge.tells c.args.self.now.judge) c.args.self.now.table self.table) (sym w.self-is) here;
-          judge = ap (λ self. self.judge) w.self-is ∙ judge;
-        }
+        turns = subst (λ self. Turns g.P.Stream.Wire.remaining g.P.Stream.Wire.contents g.P.Port.fresh (g.J.Judge.tells c.args.self.now.judge) c.args.self.now.table self.table) (sym w.self-is) here;
+        judge = ap (λ self. self.judge) w.self-is ∙ judge;
+      }
     ]
