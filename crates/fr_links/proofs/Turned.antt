@@ -3,7 +3,6 @@ use Rattle.std.proofs.Common.{arith, ◌≡◌, ◌∙◌, ℕ, List, [], ◌∷
 use Rattle.std.specs.Prelude.{◌≢◌, ◌⊎◌, OnErr}
 use Rattle.std.proofs.KnownBytes.{Appends-trans, Consumes-trans}
 use Rattle.std.proofs.lemmas.Bool.{cases_eq, cases_lt}
-use Rattle.std.proofs.lemmas.Grind.{common_steps}
 use Rattle.std.specs.Io.KnownBytes.{Consumes}
 use Rattle.fr_links.proofs.Connecting.{same}
 use Rattle.fr_links.proofs.Moved.{none_due, none_early}
@@ -12,7 +11,7 @@ use Rattle.fr_links.proofs.Slots.{AllStay-links, Follows-trans, Goes-gone, Stays
 use Rattle.fr_links.specs.Connection.{Follows, IsAnswered, IsBegun, IsMoved, LosesNone, due_of, early_of}
 use Rattle.fr_links.specs.Connections.{AllStay, Goes, IsKnown, OthersStay, Queues, Stays, at}
 use Rattle.fr_links.specs.Sending.{Moves}
-use Rattle.fr_links.specs.Turning.{AllKnown, CameIn, GoesOn, Reached, Reaches, Turns}
+use Rattle.fr_links.specs.Turning.{CameIn, GoesOn, Reached, Reaches, Turns}
 use Rattle.fr_links.specs.declared.held.Held.{Held}
 use Rattle.fr_links.specs.declared.judge.Judgement.{Judgement}
 use Rattle.fr_links.specs.declared.link.Link.{Link}

@@ -1,5 +1,5 @@
 -- Each connection went on by itself.
-use Rattle.std.proofs.Common.{◌≡◌, ℕ}
+use Rattle.std.proofs.Common.{ℕ}
 use Rattle.fr_links.specs.Connections.{at}
 use Rattle.fr_links.specs.Turning.{Reaches}
 use Rattle.fr_links.proofs.links.Links.finish.Given as goal

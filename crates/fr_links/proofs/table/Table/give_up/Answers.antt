@@ -1,6 +1,5 @@
-use Rattle.std.proofs.Common.{subst, sym}
-use Rattle.slab.specs.Slab.{ContainsKey, with_value}
-use Rattle.slab.proofs.SlabLemmas.{Updates-with_value}
+use Rattle.std.proofs.Common.{sym}
+use Rattle.slab.specs.Slab.{with_value}
 use Rattle.fr_links.proofs.Standing.{queued_joins, put_beside}
 use Rattle.fr_links.proofs.table.Table.give_up.Goals as goal
 
