@@ -91,3 +91,66 @@ class Habits(PlannerCase):
         self.show_key(CAMERA)
         self.is_in()
         self.see("of the plan", [1, 1], browser.run(seen))
+
+
+class Links(PlannerCase):
+    """A link leads to a view and an object; Back, Forward and a page that is loaded again keep what is shown."""
+
+    def setUp(self):
+        super().setUp()
+        self.plan(CLUSTER, REQUESTS)
+
+    def enter_at(self, hash):
+        self.browser.open("about:blank")
+        self.browser.open(self.url + hash)
+        self.show_key(CAMERA)
+        self.is_in()
+        self.rests()
+
+    def shown(self):
+        """The variant, the view and the frame that are shown."""
+        return self.browser.run("""const frame = document.querySelector('#frames [aria-current=true] b')?.textContent ?? null;
+            return [document.getElementById('variant').value, document.querySelector('#tabs [aria-selected=true]').id.slice(4), frame];""")
+
+    def test_links(self):
+        for hash, wanted in [("#my28", ["my28", "plan", None]), ("#my29/frames", ["my29", "frames", None]), ("#my29/frames/signs", ["my29", "frames", "signs"]),
+                             ("#my28/diff", ["my28", "diff", None]), ("", ["my29", "plan", None]), ("#my29/nothing", ["my29", "plan", None])]:
+            self.enter_at(hash)
+            self.see(f"{hash} leads to", wanted, self.shown())
+
+    def test_what_is_not_there(self):
+        self.enter_at("#nosuch")
+        self.says("There is no variant nosuch. my29 is shown.")
+        self.see("another is shown", ["my29", "plan", None], self.shown())
+        self.enter_at("#my29/plan/nosuch")
+        self.says("my29 has no frame nosuch.")
+        self.enter_at("#%3Cimg%20src=x%20onerror=alert(1)%3E")
+        self.says("There is no variant <img src=x onerror=alert(1)>.")
+
+    def test_back_and_forward(self):
+        self.enter_at("#my29")
+        self.frame("signs")
+        self.view("frames")
+        self.view("lanes")
+        self.see("the address", "#my29/lanes/signs", self.browser.run("return location.hash"))
+        for step, wanted in [("back", ["my29", "frames", "signs"]), ("back", ["my29", "plan", "signs"]), ("forward", ["my29", "frames", "signs"])]:
+            self.browser.call("POST", f"/{step}")
+            self.browser.wait(f"{step} to {wanted}", "return document.querySelector('#tabs [aria-selected=true]').id === 'tab-' + arguments[0]", wanted[1])
+            self.rests()
+            self.see(step, wanted, self.shown())
+
+    def test_loaded_again(self):
+        self.browser.open(self.url)
+        self.browser.click("#keep")
+        self.show_key(CAMERA)
+        self.is_in()
+        self.browser.choose("#times", "milliseconds")
+        self.browser.type("#macrotick", "2")
+        self.frame("signs")
+        self.view("frames")
+        before = self.shown(), self.seen("#figures")
+        self.browser.call("POST", "/refresh")
+        self.is_in()
+        self.rests()
+        self.see("what is shown", before, (self.shown(), self.seen("#figures")))
+        self.browser.choose("#times", "macroticks")

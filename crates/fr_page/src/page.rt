@@ -2443,9 +2443,7 @@ function rowText(desk, row) {
   if (row.kind === \"signal\") return bitsText(row);
   return row.gap === Infinity ? \"never sent\" : desk.times.text(row.gap);
 }
-";
 
-pub const PROGRAM_3: &str = "
 // ---- gone.js
 
 // What a file would take away that takes the place of what was there: rows that the register has, and the file has not.
@@ -2483,7 +2481,9 @@ const isSameGone = (one, other) => one.length === other.length && one.every(({te
 const goneCount = ({gone}) => Object.keys(TEXTS).map(kind => [gone.filter(one => one.kind === kind).length, kind])
   .filter(([count]) => count).map(([count, kind]) => plural(count, kind)).join(\", \");
 const goneList = ({gone}) => make(\"ul\", {class: \"scroll\"}, gone.map(({text}) => make(\"li\", {}, text)));
+";
 
+pub const PROGRAM_3: &str = "
 // ---- workbook.js
 
 // Reads a workbook of Excel (.xlsx) or LibreOffice (.ods): the texts of its sheets' cells, as records.
@@ -3339,9 +3339,7 @@ async function askFrame(desk, typed = null) {
   if (isName(name.value)) addFrame(desk, name.value, node.value);
   else askFrame(desk, name.value);
 }
-";
 
-pub const PROGRAM_4: &str = "
 // ---- painting.js
 
 // Paints the cells of a plan: what is granted, what is sent, what differs.
@@ -3441,7 +3439,9 @@ function paintMark(ink, sheet, x, cycle, isNew, isEmpty) {
   fillBox(ink, isNew ? GREEN : RED, middle[0] - 3.5, middle[1] - 0.8, 7, 1.6);
   if (isNew) fillBox(ink, GREEN, middle[0] - 0.8, middle[1] - arm, 1.6, arm * 2);
 }
+";
 
+pub const PROGRAM_4: &str = "
 // ---- cells.js
 
 // A cell of the plan that was pointed at: what is there, and what it is in words.
@@ -4033,6 +4033,59 @@ function turned(desk, event) {
   else redo(desk);
 }
 
+// ---- address.js
+
+// The page's address: which variant, view and frame are shown stands behind its `#`, so that a link leads there, and Back goes back.
+
+const SHOWN = [\"plan\", \"frames\", \"lanes\", \"files\", \"diff\", \"manage\"];
+
+// What an address wants to be shown: `#my30`, `#my30/frames`, `#my30/frames/free_space`.
+function wantedBy(hash) {
+  const [variant = \"\", view = \"plan\", frame = null] = hash.replace(/^#/, \"\").split(\"/\").map(unquoted);
+  return {variant, view: SHOWN.includes(view) ? view : \"plan\", frame};
+}
+
+function unquoted(text) {
+  try { return decodeURIComponent(text); } catch { return text; }
+}
+
+function hashOf({variant, view, frame}) {
+  if (variant === null) return \"\";
+  return \"#\" + [variant, ...(frame ? [view, frame.name] : view === \"plan\" ? [] : [view])].join(\"/\");
+}
+
+// Keeps the address as what is shown, and shows what it is changed to.
+function addressed(desk) {
+  const keep = () => {
+    const hash = hashOf(desk);
+    if (!desk.register || hash === location.hash) return;
+    if (wantedBy(location.hash).variant === desk.variant) history.pushState(null, \"\", hash);
+    else history.replaceState(null, \"\", hash);
+  };
+  desk.on(\"plan view choice\", keep);
+  window.addEventListener(\"popstate\", () => { if (desk.plan) follow(desk, wantedBy(location.hash)); });
+}
+
+// What is said of a variant that an address names, and that is not there.
+const noSuch = variant => `There is no variant ${short(variant)}.`;
+
+async function follow(desk, {variant, view, frame}) {
+  if (!desk.variants.some(({name}) => name === variant)) {
+    say(\"warn\", noSuch(variant));
+    return;
+  }
+  if (variant !== desk.variant) await attempt(desk, () => choose(desk, variant), `Reading ${variant} ...`);
+  if (variant === desk.variant) showWanted(desk, {view, frame});
+}
+
+// Shows a view and a frame of the variant that is there.
+function showWanted(desk, {view, frame}) {
+  const found = desk.plan?.frames.find(({name}) => name === frame) ?? null;
+  if (found !== desk.frame) desk.choose({frame: found});
+  if (view !== desk.view) desk.show(view);
+  if (frame !== null && !found) say(\"warn\", `${desk.variant} has no frame ${short(frame)}.`);
+}
+
 // ---- login.js
 
 // The key: it is asked once, and kept in memory; by a tick also in the tab's storage, so that the page may be loaded again.
@@ -4077,8 +4130,8 @@ async function begin(desk, key, isKept) {
     // A supplier's plan is all its own: its frames are told apart.
     desk.look.colourBy = desk.isIntegrator ? \"supplier\" : \"frame\";
     if (isKept) stored(storage => storage.setItem(STORED, key));
-    const wanted = location.hash.slice(1), inOrder = inTree(desk);
-    const first = inOrder.find(({name}) => name === wanted) ?? inOrder.findLast(variant => !variant.isReleased) ?? inOrder.at(-1);
+    const wanted = wantedBy(location.hash), inOrder = inTree(desk);
+    const first = inOrder.find(({name}) => name === wanted.variant) ?? inOrder.findLast(variant => !variant.isReleased) ?? inOrder.at(-1);
     byId(\"login\").hidden = true;
     byId(\"app\").hidden = false;
     if (first) {
@@ -4086,7 +4139,10 @@ async function begin(desk, key, isKept) {
       await choose(desk, first.name);
       quiet();
     } else say(\"warn\", desk.isIntegrator ? \"There is no variant yet. Open one.\" : \"There is no variant yet. The integrator opens one.\");
-    desk.show(first ? \"plan\" : \"manage\");
+    desk.view = first ? \"plan\" : \"manage\";
+    if (first?.name === wanted.variant) showWanted(desk, wanted);
+    desk.show(desk.view);
+    if (first && wanted.variant && first.name !== wanted.variant) say(\"warn\", `${noSuch(wanted.variant)} ${first.name} is shown.`);
     desk.tell(\"entered\");
   } catch (fault) {
     if (!(fault instanceof Refused || fault instanceof Lost || fault instanceof Strange)) throw fault;
@@ -4316,6 +4372,8 @@ function openHelp(desk) {
 
 // The top of the page: the variant that is shown, the views, who asks, the cluster's figures, and how times are told.
 
+// How long a macrotick is stays as the page is loaded again.
+const MACROTICK = \"slotplan macrotick \" + location.pathname;
 const VIEWS = [[\"plan\", \"Plan\"], [\"frames\", \"Frames\"], [\"lanes\", \"Lanes\"], [\"files\", \"Files\"], [\"diff\", \"Differences\"], [\"manage\", \"Cluster\"]];
 // Views that use the whole width.
 const WIDE = [\"files\", \"diff\", \"manage\"];
@@ -4332,14 +4390,10 @@ function topBar(desk) {
   listenToTimes(desk);
   desk.on(\"register plan\", () => showVariants(desk));
   desk.on(\"register plan look\", () => showFigures(desk));
-  desk.on(\"plan\", () => history.replaceState(null, \"\", \"#\" + desk.variant));
+  addressed(desk);
   desk.on(\"view plan\", () => showView(desk));
   desk.on(\"view\", quietGood);
   desk.on(\"left\", () => { byId(\"figures\").textContent = \"\"; });
-  window.addEventListener(\"hashchange\", () => {
-    const wanted = location.hash.slice(1);
-    if (desk.plan && wanted !== desk.variant && desk.variants.some(({name}) => name === wanted)) show(desk, wanted);
-  });
 }
 
 async function show(desk, variant) {
@@ -4353,8 +4407,15 @@ function listenToTimes(desk) {
     const isLong = byId(\"times\").value === \"ms\", microseconds = Number(byId(\"macrotick\").value.replace(\",\", \".\"));
     byId(\"macrotick-label\").hidden = !isLong;
     desk.times.microseconds = isLong && microseconds > 0 && microseconds <= 1000 ? microseconds : 0;
-    desk.tell(\"look\", \"choice\");
+    desk.tell(\"look\");
+    stored(storage => desk.times.microseconds ? storage.setItem(MACROTICK, String(desk.times.microseconds)) : storage.removeItem(MACROTICK));
   };
+  const kept = stored(storage => storage.getItem(MACROTICK));
+  if (kept) {
+    Object.assign(byId(\"times\"), {value: \"ms\"});
+    byId(\"macrotick\").value = kept;
+    take();
+  }
   listen(\"times\", \"change\", take);
   listen(\"macrotick\", \"input\", take);
 }
