@@ -154,3 +154,56 @@ class Links(PlannerCase):
         self.rests()
         self.see("what is shown", before, (self.shown(), self.seen("#figures")))
         self.browser.choose("#times", "macroticks")
+
+
+class Several(PlannerCase):
+    """Several files that are dropped together, and keys that are made up."""
+
+    def setUp(self):
+        super().setUp()
+        self.plan(CLUSTER, REQUESTS)
+
+    def rows(self):
+        return [line for line in self.api.get(CAMERA, "variants/my29/rows").splitlines() if not line.startswith("GRANT")]
+
+    def test_last_week(self):
+        """Three files of last week are taken back in one step: the frames first, whatever their order."""
+        browser, before = self.enter(CAMERA), self.rows()
+        self.view("files")
+        paths = []
+        for kind in "signals", "placements", "frames":
+            browser.press(f"{kind}.csv", "#view-files")
+            self.says(f"my29_{kind}.csv")
+            paths.append(self.folder / f"week_{kind}.csv")
+            paths[-1].write_text(browser.taken(f"my29_{kind}.csv"))
+        for frame in "signs", "night_view":
+            self.see(f"{frame} is dropped since", {"ok": "done"}, self.api.command(CAMERA, do="drop_frame", variant="my29", frame=frame))
+        browser.click("#reload")
+        self.says("The plan is read again.")
+        browser.drop(browser.run("const box = document.querySelector('.drop').getBoundingClientRect(); return [box.x + 20, box.y + 20]"), *paths)
+        browser.wait("the frames", "return document.getElementById('view-files').textContent.includes('week_frames.csv')")
+        self.rests()
+        self.see("the others come behind it", True, "Then: week_placements.csv, week_signals.csv." in self.seen("#view-files"))
+        browser.click("input[name=way][value=whole]")
+        self.rests()
+        browser.click("#carry-out-all")
+        browser.wait("all three", "return document.getElementById('message').textContent.includes('week_signals.csv')")
+        self.rests()
+        self.see("all is as it was", before, self.rows())
+
+    def test_a_key_stays(self):
+        """A key that was made up is shown until it is put away, whatever else is said."""
+        browser = self.enter(BOSS)
+        self.view("manage")
+        browser.type("#form-Addasupplier-supplier", "newcomer")
+        browser.press("Make up a key", "#manage-forms form:nth-of-type(3)")
+        key = browser.run("return document.getElementById('form-Addasupplier-key').value")
+        browser.press("Add it", "#manage-forms form:nth-of-type(3)")
+        self.says("newcomer has joined")
+        browser.click("#reload")
+        self.says("The plan is read again.")
+        shown = "return document.querySelector('#manage-forms .key input')?.value ?? null"
+        self.see("it is shown still", key, browser.run(shown))
+        self.see("it is the newcomer's", "supplier newcomer", self.api.get(key, "cluster").splitlines()[-1])
+        browser.press("I have it", "#manage-forms")
+        self.see("then it goes", None, browser.run(shown))

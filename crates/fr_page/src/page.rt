@@ -1100,7 +1100,7 @@ function take(desk, [rows, since], from) {
 async function choose(desk, variant) {
   const turn = desk.turn += 1, from = variant === desk.variant ? desk.difference?.from : null, read = await readVariant(desk, variant, from);
   if (desk.turn !== turn) return;
-  if (variant !== desk.variant) Object.assign(desk, {difference: null, granting: null, room: null, lane: null, file: null});
+  if (variant !== desk.variant) Object.assign(desk, {difference: null, granting: null, room: null, lane: null, file: null, queue: []});
   desk.variant = variant;
   take(desk, read, from);
 }
@@ -1941,6 +1941,7 @@ function clusterView(desk) {
   desk.on(\"register plan view entered\", show);
   desk.on(\"left\", () => {
     byId(\"manage-lists\").replaceChildren();
+    for (const box of document.querySelectorAll(\"#manage-forms .key\")) box.remove();
     for (const form of forms) form.card.reset();
     pasted.clear();
   });
@@ -1984,11 +1985,24 @@ function releaseCard(desk) {
 }
 
 // Carries out a command on the cluster, and reads what it changed. What is said of a key stays until it is closed.
+// A new key is shown here until it is put away, whatever else is said.
+function keyBox(desk, {supplier, key}) {
+  const shown = make(\"input\", {readonly: \"\", value: key, class: \"code\", \"aria-label\": `The key of ${supplier}`});
+  const copy = async () => {
+    shown.select();
+    try { await navigator.clipboard.writeText(key); say(\"good\", \"The key is copied.\"); } catch { say(\"warn\", \"Press Ctrl+C: the key is chosen.\"); }
+  };
+  const box = make(\"div\", {class: \"card key\"}, make(\"h2\", {}, `The key of ${supplier}`), shown,
+    row(button(\"Copy it\", copy, {class: \"main\"}), button(\"I have it\", () => box.remove())));
+  byId(\"manage-forms\").prepend(box);
+}
+
 const change = (desk, request, text, then) => inTurn(desk, () => attempt(desk, async () => {
   await desk.register.command(request);
   await readRegister(desk);
   if (then) await then();
   else if (desk.plan) desk.tell(\"plan\");
+  if (request.key) keyBox(desk, request);
   done(desk, text, null, request.key ? \"warn\" : \"good\");
   return true;
 }, \"Sending ...\"));
@@ -2128,7 +2142,7 @@ class Desk {
   clear() {
     this.turn += 1;
     this.session = (this.session ?? 0) + 1;
-    Object.assign(this, EMPTY, {nodes: [], variants: [], waiting: [], pending: [], histories: new Map()});
+    Object.assign(this, EMPTY, {nodes: [], variants: [], waiting: [], pending: [], queue: [], histories: new Map()});
   }
 
   // Calls a listener when one of these changes: entered, left, register, plan, choice, mode, difference, file, look, view, undo, pending,
@@ -2997,19 +3011,36 @@ const isTakenFrom = ({variants}, {name, kind}) => variants.some(variant => name.
 
 const LARGEST = 4_000_000;
 
-async function takeFile(desk, blob) {
+// The order in which files of several kinds are taken: placements and signals want their frames.
+const IN_TURN = [\"frames\", \"placements\", \"signals\"];
+const placeOf = ({kind}) => (IN_TURN.indexOf(kind) + IN_TURN.length + 1) % (IN_TURN.length + 1);
+
+// Takes files that were dropped or chosen, one after the other.
+async function takeFiles(desk, blobs) {
   if (desk.view !== \"files\") desk.show(\"files\");
   // The view says why.
   if (!desk.mayPlan()) return;
+  desk.queue = [];
+  const files = [];
+  for (const blob of blobs) {
+    const file = await fileIn(desk, blob);
+    if (file && (file.kind || !tookWishes(desk, file))) files.push(file);
+  }
+  const [first, ...others] = files.sort((one, other) => placeOf(one) - placeOf(other));
+  desk.queue = others;
+  if (first) await takeLooked(desk, first);
+}
+
+// A file as it is looked at; what is none that can be read is told.
+async function fileIn(desk, blob) {
   if (blob.size > LARGEST) {
     takeLooked(desk, null);
     say(\"bad\", `${blob.name} has ${grouped(blob.size)} bytes. That is no plan.`);
-    return;
+    return null;
   }
   const bytes = await blob.arrayBuffer().catch(() => null);
-  const file = bytes && await looked(blob.name, new Uint8Array(bytes));
-  if (file && (file.kind || !tookWishes(desk, file))) await takeLooked(desk, file);
-  else if (!bytes) say(\"bad\", `${blob.name} cannot be read. If another program has it open, close it there, and choose it again.`);
+  if (!bytes) say(\"bad\", `${blob.name} cannot be read. If another program has it open, close it there, and choose it again.`);
+  return bytes && looked(blob.name, new Uint8Array(bytes));
 }
 
 // Takes a file that was looked at or mended, and tries it.
@@ -3017,6 +3048,7 @@ async function takeLooked(desk, file, way = file && isTakenFrom(desk, file) ? \"
   desk.file = file && Object.assign(file, {way, parts: null, part: 0, fates: null, gone: [], shown: [], onlyRefused: false});
   if (file) {
     divide(file);
+    if (file.parts && WAYS[way].isWhole) file.way = \"replace\";
     file.label = suggestedLabel(file);
   }
   desk.tell(\"file\");
@@ -3089,6 +3121,15 @@ function filedIn(desk, {kind, shown, way}) {
 
 const carryOut = desk => inTurn(desk, () => carryOutNow(desk));
 
+// Carries out the file and those that were dropped with it, up to the first of which a row would be refused, or that is not carried out.
+const carryOutAll = desk => inTurn(desk, async () => {
+  for (let file = desk.file; file?.fates && !file.fates.some(({no}) => no); file = desk.file) {
+    const {part} = file;
+    await carryOutNow(desk);
+    if (desk.file === file && file.part === part) return;
+  }
+});
+
 async function carryOutNow(desk) {
   const {file} = desk, way = WAYS[file?.way];
   if (!file?.fates) return;
@@ -3097,7 +3138,7 @@ async function carryOutNow(desk) {
     return;
   }
   if (!await mayTakeAway(desk, file)) return;
-  const own = filedIn(desk, file), {plan: old, me} = desk;
+  const own = filedIn(desk, file), {plan: old, me} = desk, chosen = file.way;
   const isDone = await attempt(desk, async () => {
     const {rows} = await way.send(desk, file, bodyOf(file)), filedNames = file.shown.slice(1).map(([frame]) => frame);
     let said = `${plural(rows, \"row\")} of ${file.name} ${way.said(file)}`;
@@ -3109,7 +3150,9 @@ async function carryOutNow(desk) {
       said += ` Part ${file.part + 1} of ${file.parts.length} comes next.`;
     }
     const others = bySomebody(await reread(desk, own));
-    if (isLast) desk.tell(\"file\");
+    const next = isLast ? desk.queue.shift() : null;
+    if (next) await takeLooked(desk, next, next.kind ? chosen : undefined);
+    else if (isLast) desk.tell(\"file\");
     else await tryFile(desk);
     const names = new Set(way.isWhole ? [...old.frames, ...desk.plan.frames].map(({name}) => name) : filedNames);
     done(desk, said + others, {label: `${file.name}: ${plural(rows, \"row\")} of ${file.kind}, ${way.verb.toLowerCase()}`, before: statesOf(old, me, names), after: statesOf(desk.plan, me, names)});
@@ -3129,7 +3172,7 @@ function filesView(desk) {
   window.addEventListener(\"dragover\", event => event.preventDefault());
   window.addEventListener(\"drop\", event => {
     event.preventDefault();
-    if (desk.plan && event.dataTransfer.files[0]) takeFile(desk, event.dataTransfer.files[0]);
+    if (desk.plan && event.dataTransfer.files.length) takeFiles(desk, [...event.dataTransfer.files]);
   });
 }
 
@@ -3140,13 +3183,13 @@ function showFiles(desk) {
     refill(byId(\"view-files\"), down, make(\"p\", {}, why));
     return;
   }
-  refill(byId(\"view-files\"), card(\"Send a file\", dropZone(desk), file ? fileBox(desk, file) : \"\"),
-    wishesCard(desk, (bytes, replaces) => takeProposal(desk, bytes, replaces)), down);
+  refill(byId(\"view-files\"), card(\"Send a file\", dropZone(desk), file ? fileBox(desk, file) : \"\"), down,
+    wishesCard(desk, (bytes, replaces) => takeProposal(desk, bytes, replaces)));
 }
 
 function dropZone(desk) {
-  const take = ({target}) => { if (target.files[0]) takeFile(desk, target.files[0]); };
-  const pick = make(\"input\", {type: \"file\", accept: \".csv,.txt,.xlsx,.ods,text/csv\", id: \"pick\", onchange: take});
+  const take = ({target}) => { if (target.files.length) takeFiles(desk, [...target.files]); };
+  const pick = make(\"input\", {type: \"file\", multiple: true, accept: \".csv,.txt,.xlsx,.ods,text/csv\", id: \"pick\", onchange: take});
   const zone = make(\"div\", {class: \"drop\"},
     make(\"p\", {}, make(\"strong\", {}, \"Drop a CSV file here\"), \" or \", make(\"label\", {for: \"pick\"}, \"choose one: \"), pick),
     note(\"With one of these headers: \", Object.keys(HEADERS).join(\"  |  \"), \". A workbook (.xlsx, .ods) with such a sheet does too.\"));
@@ -3209,7 +3252,9 @@ function fateBox(desk, file) {
   return [row(make(\"strong\", {class: refused.length ? \"fault\" : \"\"}, all), make(\"span\", {id: \"fresh\"},
     `${plural(Math.max(0, fresh), \"row is\", \"rows are\")} new or changed, ${grouped(there)} ${there === 1 ? \"is\" : \"are\"} there already.`)),
     WAYS[file.way].replaces ? goneBox(file) : \"\",
-    row(file.way === \"import\" ? [make(\"label\", {for: \"label\"}, \"Label\"), label] : \"\", go),
+    row(file.way === \"import\" ? [make(\"label\", {for: \"label\"}, \"Label\"), label] : \"\", go,
+      desk.queue.length ? button(`This and ${plural(desk.queue.length, \"more file\")}`, () => carryOutAll(desk), {id: \"carry-out-all\", disabled: refused.length > 0}) : \"\"),
+    desk.queue.length ? note(`Then: ${desk.queue.map(({name}) => name).join(\", \")}.`) : \"\",
     refused.length && refused.length < fates.length ? make(\"label\", {class: \"check\"}, only, \"only refused rows\") : \"\",
     longTable([[\"line\", \"num\"], ...file.shown[0], \"what would become of it\"], file.onlyRefused ? refused : fates, fate => fateRow(desk, file, fate))];
 }
