@@ -139,11 +139,13 @@ class Hostile(HostileCase):
         self.file("evil.csv", "frame,node\n" + EVIL + ",n1\n")
         self.says("line that no report has")
         self.is_clean("a try")
+        browser.press("Close", "#message")
         browser.type("#wishes-text", f"frame,node,channels,repetition\n{EVIL},n1,A,2")
         browser.click("#propose")
         self.says("line that no report has")
         self.is_clean("a proposal")
         for kind in "picture.html", "placements.csv":
+            browser.run("document.getElementById('message').hidden = true")
             browser.press(kind, "#view-files")
             self.is_clean(kind)
         self.answers["rows"] = f"FRAME {EVIL} n1\n"

@@ -142,6 +142,8 @@ p{margin:.3rem 0}
 .grow{flex:1}
 .hidden-label{position:absolute;width:1px;height:1px;overflow:hidden;clip-path:inset(50%)}
 
+.view{scroll-padding-bottom:5rem}
+
 /* Controls */
 button,select,input,textarea{font:inherit;color:inherit}
 button,select,textarea,input:not([type=checkbox]):not([type=radio]){border:1px solid #8b95a3;border-radius:4px;background:#fff;padding:.25rem .55rem;min-height:30px;max-width:100%}
