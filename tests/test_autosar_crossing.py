@@ -25,11 +25,11 @@ def channel(letter, triggerings="", pdus="", signals="", other=""):
 """
 
 
-def triggering(letter, slot=2, name=None, uuid=' UUID="4711"', rest="\n            <PAYLOAD-PREAMBLE-INDICATOR>false</PAYLOAD-PREAMBLE-INDICATOR>"):
+def triggering(letter, slot=2, uuid=' UUID="4711"'):
     """The triggering of the typed file's frame on a channel, with the ports of its sender and of who receives it."""
     return f"""
           <FLEXRAY-FRAME-TRIGGERING{uuid}>
-            <SHORT-NAME>{name or f"FT_f_{letter}"}</SHORT-NAME>
+            <SHORT-NAME>FT_f_{letter}</SHORT-NAME>
             <FRAME-PORT-REFS>
               <FRAME-PORT-REF DEST="FRAME-PORT">/E/n1/K{letter}/f_{letter}</FRAME-PORT-REF>
               <FRAME-PORT-REF DEST="FRAME-PORT">/E/n2/K{letter}/In</FRAME-PORT-REF>
@@ -50,7 +50,8 @@ def triggering(letter, slot=2, name=None, uuid=' UUID="4711"', rest="\n         
                 </COMMUNICATION-CYCLE>
                 <SLOT-ID>{slot}</SLOT-ID>
               </FLEXRAY-ABSOLUTELY-SCHEDULED-TIMING>
-            </ABSOLUTELY-SCHEDULED-TIMINGS>{rest}
+            </ABSOLUTELY-SCHEDULED-TIMINGS>
+            <PAYLOAD-PREAMBLE-INDICATOR>false</PAYLOAD-PREAMBLE-INDICATOR>
           </FLEXRAY-FRAME-TRIGGERING>"""
 
 
@@ -165,7 +166,7 @@ class Channels(UpdateCase):
         """It comes to B too: the triggering has a twin, and copies have no UUID."""
         wanted = whole(
             channel("A", triggering("A"), pdu_triggering("A"), signal_triggering()),
-            channel("B", triggering("B", uuid="", rest=""), pdu_triggering("B", ""), signal_triggering("")),
+            channel("B", triggering("B", uuid=""), pdu_triggering("B", ""), signal_triggering("")),
             ecu("n1", "s1", A=OUT + port("Else", "OUT"), B=port("Else", "OUT") + port("f_B", "OUT")), N2,
         )
         self.see("the text", wanted, self.carried(Placement(2, "AB", 1, 4)))

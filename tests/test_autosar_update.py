@@ -3,6 +3,8 @@ import codecs
 import csv
 import random
 import re
+import xml.etree.ElementTree as ET
+from collections import Counter
 from dataclasses import replace
 
 from clients.slotplan_plans.autosar import beside, known
@@ -17,6 +19,7 @@ from tests.models.large_file import large
 from tests.runner.case import Case
 from tests.runner.parameters import for_each
 from tests.test_autosar import SHAPES
+from tests.test_autosar_commands import CommandCase
 from tests.test_autosar_files import TABLE, TYPED, exported
 
 TRIGGERING = re.compile(r"(<FLEXRAY-FRAME-TRIGGERING\b.*?</FLEXRAY-FRAME-TRIGGERING>)", re.S)
@@ -88,9 +91,9 @@ class OtherFiles(UpdateCase):
         updated, written = self.updated(plan)
         self.see("nothing changed", (data, [], []), (written, list(updated.told()), updated.left))
         for number in range(self.turn % self.each, 50, self.each):
-            self.changed(plan, random.Random(number))
+            self.changed(data, plan, random.Random(number))
 
-    def changed(self, plan, dice):
+    def changed(self, data, plan, dice):
         changing = Changing(plan, dice)
         for _ in range(dice.choice((1, 1, 2, 5, 20))):
             getattr(changing, dice.choice(CHANGES))()
@@ -100,6 +103,24 @@ class OtherFiles(UpdateCase):
         dropped = {it.key for it in plan.frames} - {it.key for it in wanted.frames}
         self.see("frames that are gone", set() if remove else dropped, set(updated.gone.values()))
         self.is_the_plan("written", written, wanted, updated.gone)
+        self.see("references that lead nowhere", [], sorted(self.astray(written) - self.astray(data)))
+
+    def astray(self, data):
+        """The references of a file that lead to no element of their kind, and paths that two elements have."""
+        paths, refs = Counter(), []
+
+        def walk(element, path):
+            name = element.findtext("{*}SHORT-NAME")
+            if name is not None:
+                path = f"{path}/{name.strip()}"
+                paths[path, element.tag.rpartition("}")[2]] += 1
+            refs.append(((element.text or "").strip(), element.get("DEST")))
+            for child in element:
+                walk(child, path)
+
+        walk(ET.fromstring(data), "")
+        twice = {path for (path, kind), count in paths.items() if count > 1 and kind != "AR-PACKAGE"}
+        return twice | {" ".join(ref) for ref in refs if ref[1] and ref not in paths}
 
 
 @for_each((name, shape) for name, shape in SHAPES.items() if name != "127 words")
@@ -108,7 +129,7 @@ class OwnFiles(UpdateCase):
 
     step = 10
     seconds = 30
-    tried_each = OtherFiles.changed
+    tried_each, astray = OtherFiles.changed, OtherFiles.astray
 
     def tried(self, shape):
         data = exported(replace(shape, frames=6), random.Random(self.id()), self.folder).encode()
@@ -116,7 +137,7 @@ class OwnFiles(UpdateCase):
         updated, written = self.updated(plan)
         self.see("nothing changed", (data, [], []), (written, list(updated.told()), updated.left))
         for number in range(self.turn % self.each, 40, self.each):
-            self.tried_each(plan, random.Random(number))
+            self.tried_each(data, plan, random.Random(number))
 
 
 class OnlyThese(UpdateCase):
@@ -227,3 +248,75 @@ class Damaged(UpdateCase):
                 words.proposed([self.file])
             except Fault as fault:
                 self.see(f"{number}: {fault} is a line", True, str(fault).isprintable())
+
+
+class Commands(CommandCase):
+    """The command: what it prints, writes and refuses, over the register of the powertrain's example."""
+
+    def names_left(self):
+        return sorted(it.name for it in self.folder.iterdir())
+
+    def test_same(self):
+        text = self.exported("my27")
+        self.writes("rows out: 0, rows in: 0, gone: 0, left: 0\n", "update", "my27.arxml", "car.db", "my27", "out.arxml")
+        self.see("the same bytes", text, self.text("out.arxml"))
+
+    def test_other_variant(self):
+        """my26's file gets my27's plan: a frame is gone, one is sent, a grant went to another, a signal is gone."""
+        self.exported("my26")
+        before = self.names_left()
+        status, written, said = self.client("update", "my26.arxml", "car.db", "my27", "out.arxml")
+        self.see("it ends", (1, ""), (status, said))
+        lines = written.splitlines()
+        self.see("what is left", ["left: + SIGNAL engine_speed 0032 08 little fuel enginetec"], [it for it in lines if it.startswith("left")])
+        gone = "gone: FRAME exhaust_heat enginetec: the variant has it no more; --remove takes it out of the file"
+        self.see("what is gone", [gone], [it for it in lines if it.startswith("gone")])
+        self.see("the last line", True, lines[-1].endswith("gone: 1, left: 1; nothing was written: --leave writes the rest"))
+        self.see("nothing is written", before, self.names_left())
+        status, written, _ = self.client("update", "my26.arxml", "car.db", "my27", "out.arxml", "--leave", "--remove")
+        self.see("it ends", (0, True), (status, written.endswith("gone: 0, left: 1\n")))
+        status, differing, said = self.client("compare", "car.db", "my27", "out.arxml")
+        self.see("what differs", (1, "+ SIGNAL engine_speed 0032 08 little fuel enginetec\n", ""), (status, differing, said))
+        self.see("the variant's name", True, '<SD GID="variant">my27</SD>' in self.text("out.arxml"))
+        self.see("the frame is gone", 0, self.text("out.arxml").count("/Frames/exhaust_heat"))
+
+    def test_parts(self):
+        """A description in two files: each is written anew."""
+        text = self.exported("my27")
+        cut = text.index("    <AR-PACKAGE>\n      <SHORT-NAME>Suppliers<")
+        self.has("first.arxml", f"{text[:cut]}  </AR-PACKAGES>\n</AUTOSAR>\n")
+        self.has("second.arxml", text[: text.index("    <AR-PACKAGE>")] + text[cut:])
+        words = "update", "first.arxml", "car.db", "my28", "one.arxml", "--part", "second.arxml", "two.arxml"
+        status, _, said = self.client(*words)
+        self.see("it ends", (0, ""), (status, said))
+        self.writes("", "compare", "car.db", "my28", "one.arxml", "two.arxml")
+        self.see("the second", self.text("second.arxml"), self.text("two.arxml"))
+        self.see("the first", self.text("first.arxml").replace(">my27<", ">my28<"), self.text("one.arxml"))
+        self.stops("each file needs another name to be written by", *words[:-1], "one.arxml")
+
+    def test_refused(self):
+        text = self.exported("my27")
+        self.has("half.arxml", text[:5000])
+        self.has("fibex.xml", '<fx:FIBEX xmlns:fx="http://www.asam.net/xml/fbx"/>')
+        before = self.names_left()
+        refused = {
+            ("half.arxml", "my27"): "half.arxml is no XML: no element found", ("none.arxml", "my27"): "none.arxml: No such file or directory",
+            ("my27.arxml", "my99"): "there is no variant my99; there are: my26 my27 my28",
+            ("fibex.xml", "my27"): "fibex.xml is no description of AUTOSAR 4: it begins with {http://www.asam.net/xml/fbx}FIBEX",
+        }
+        for (file, variant), why in refused.items():
+            status, written, said = self.client("update", file, "car.db", variant, "out.arxml")
+            self.see(f"{file} {variant}", (2, "", True, 1), (status, written, why.split(": no el")[0] in said, said.count("\n")))
+        self.stops("car.db: it is a database, which may be a register; nothing is written", "update", "my27.arxml", "car.db", "my27", "car.db")
+        self.see("files", before, self.names_left())
+
+    def test_served(self):
+        """The integrator's server tells the same; a supplier's key is refused."""
+        text = self.exported("my27")
+        self.has("integrator.key", "carmaker01\n")
+        self.has("gearboxer.key", "gearboxer01\n")
+        with self.served() as (_, port):
+            words = "update", "my27.arxml", f"http://127.0.0.1:{port}", "my27", "out.arxml", "--key"
+            status, _, said = self.client(*words, "integrator.key", program=False)
+            self.see("it ends", (0, "", text), (status, said, self.text("out.arxml")))
+            self.stops("the key is of gearboxer: a description is the integrator's", *words, "gearboxer.key", program=False)

@@ -5,12 +5,12 @@ import sys
 
 from . import arranging, dumping, needs, rows, tables
 from .autosar import commands as autosar
-from .autosar import updating
+from .autosar import adopting, updating
 from .faults import Fault
 
 PROGRAM = "slotplan-plans"
 # Modules with a call `add_commands`, whose commands have a call `work`. It gives the status, or nothing for 0.
-SUBJECTS = (tables, rows, needs, arranging, dumping, autosar, updating)
+SUBJECTS = (tables, rows, needs, arranging, dumping, autosar, updating, adopting)
 
 
 class Words(argparse.ArgumentParser):

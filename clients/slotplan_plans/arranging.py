@@ -162,8 +162,8 @@ def frames_sent(plan):
     return found
 
 
-def send(source, variant, steps):
-    """Sends the requests one by one, up to the first that is not done."""
+def send(source, variant, steps, told=True):
+    """Sends the requests one by one, up to the first that is not done, and tells each that is."""
     number = 0
     try:
         with source.asked() as ask:
@@ -171,7 +171,8 @@ def send(source, variant, steps):
                 answer = ask(step.request(variant))
                 if answer.get("ok") != "done":
                     raise Fault(f"{step}: {answer.get('no', '')} {answer.get('refused', answer)}")
-                print(step, flush=True)
+                if told:
+                    print(step, flush=True)
     except (Fault, KeyboardInterrupt) as why:
         left = f"{number} of {len(steps)} were done, and the same call goes on"
         raise Fault(f"{str(why) or 'stopped'}; {left}") from None

@@ -3,8 +3,8 @@ import re
 from collections import Counter
 from typing import NamedTuple
 
-from .cells import Cell, Kind, Row, shown
-from .entries import RANGES, bare, number, said, value
+from .cells import Cell, Kind, Row, bare, shown
+from .entries import RANGES, number, said, value
 from .faults import Fault
 from .rowfiles import COLUMNS
 from .spans import UNITS, Gap

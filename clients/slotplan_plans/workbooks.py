@@ -65,7 +65,7 @@ def decimal(text):
 
 def filled(rows, name):
     """The rows in which something stands."""
-    return [Row(f"row {number} of '{shown(name)}'", cells) for number, cells in rows if any(cell.text.strip() for cell in cells)]
+    return [Row(f"row {number} of '{shown(name)}'", cells, number) for number, cells in rows if any(cell.text.strip() for cell in cells)]
 
 
 # ---- Excel

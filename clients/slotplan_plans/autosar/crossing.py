@@ -11,6 +11,7 @@ INSTANCES = "ECU-COMM-PORT-INSTANCES"
 # The references within triggerings, and what a triggering of this kind is there for.
 REFERENCES = "FRAME-PORT-REF", "I-PDU-PORT-REF", "I-SIGNAL-PORT-REF", "PDU-TRIGGERING-REF", "I-SIGNAL-TRIGGERING-REF"
 SUBJECTS = "I-PDU-REF", "I-SIGNAL-REF", "I-SIGNAL-GROUP-REF"
+FLAGS = "ALLOW-DYNAMIC-L-SDU-LENGTH", "MESSAGE-ID", "PAYLOAD-PREAMBLE-INDICATOR"
 WRAPPERS = {"FLEXRAY-FRAME-TRIGGERING": "FRAME-TRIGGERINGS", "PDU-TRIGGERING": "PDU-TRIGGERINGS", "I-SIGNAL-TRIGGERING": "I-SIGNAL-TRIGGERINGS"}
 
 
@@ -148,11 +149,11 @@ class Crossing:
         parent, frame = self.source.channels[letter], self.tree.at(path)
         if like is not None:
             refs = {tag: [self.twin(plain(leaf.text), letter) for leaf in like.iter(tag)] for tag in ("FRAME-PORT-REF", "PDU-TRIGGERING-REF")}
-            new = self.called(like, parent, letter)
+            new, flags = self.called(like, parent, letter), {it.tag: plain(it.text) for it in like if it.tag in FLAGS}
         else:
-            refs = {"FRAME-PORT-REF": [self.port(ecu, letter, "FRAME-PORT")], "PDU-TRIGGERING-REF": []}
+            refs, flags = {"FRAME-PORT-REF": [self.port(ecu, letter, "FRAME-PORT")], "PDU-TRIGGERING-REF": []}, {FLAGS[-1]: "false"}
             new = self.free(self.tree.path_of[parent], plain(frame.findtext("SHORT-NAME")))
-        self.changes.add(parent, ("FRAME-TRIGGERINGS",), lines_of(lambda out: triggering(out, new, path, refs, timings)))
+        self.changes.add(parent, ("FRAME-TRIGGERINGS",), lines_of(lambda out: triggering(out, new, path, refs, timings, flags)))
 
     def port(self, ecu, letter, tag):
         """The path of the port by which an ECU sends all that is new on a channel, or none where it has no connector there."""
@@ -176,9 +177,10 @@ def wrapper(element):
 
 
 def lettered(name, letter):
-    """A name that ends with a channel's letter, with this one in its place."""
-    stem, mark, last = name.rpartition("_")
-    return f"{stem}{mark}{letter}" if last in ("A", "B") and mark else name
+    """A name with this channel's letter in place of the other, which stands alone between underscores or at the end."""
+    words = name.split("_")
+    place = max((place for place, word in enumerate(words) if place and word in ("A", "B")), default=0)
+    return "_".join([*words[:place], letter, *words[place + 1 :]]) if place else name
 
 
 def port(out, tag, name):
@@ -187,8 +189,8 @@ def port(out, tag, name):
         out.leaf("COMMUNICATION-DIRECTION", "OUT")
 
 
-def triggering(out, path, frame, refs, timings):
-    """A frame's triggering, with these lines of timings."""
+def triggering(out, path, frame, refs, timings, flags):
+    """A frame's triggering, with these references, lines of timings, and flags."""
     with out.of("FLEXRAY-FRAME-TRIGGERING"):
         out.name(path.rpartition("/")[2])
         if refs["FRAME-PORT-REF"]:
@@ -203,3 +205,5 @@ def triggering(out, path, frame, refs, timings):
                         out.ref("PDU-TRIGGERING-REF", "PDU-TRIGGERING", pdu)
         with out.of("ABSOLUTELY-SCHEDULED-TIMINGS"):
             out.lines(timings)
+        for tag, text in flags.items():
+            out.leaf(tag, text)

@@ -31,13 +31,18 @@ def write(folder, proposal):
                 file.write(text)
     tables = {
         "notes.csv": [Note._fields, *sorted(proposal.notes, key=lambda note: KINDS.index(note.kind))],
-        "names.csv": [Row._fields, *sorted(proposal.rows, key=lambda row: (ROW_KINDS.index(row.kind), row.supplier, row.frame, row.name))],
+        "names.csv": names_of(proposal),
         "nodes.csv": [NODES, *((it.supplier, it.name) for it in plan.nodes)],
         "grants.csv": [GRANTS, *((it.slot, it.channel, it.supplier, it.node) for it in plan.grants)],
     }
     for name, rows in tables.items():
         with written(folder / name) as file:
             csv.writer(file, lineterminator="\n").writerows(rows)
+
+
+def names_of(proposal):
+    """The table of what is called how: its header and its rows."""
+    return [Row._fields, *sorted(proposal.rows, key=lambda row: (ROW_KINDS.index(row.kind), row.supplier, row.frame, row.name))]
 
 
 def cluster_file(cluster, keys, comment):

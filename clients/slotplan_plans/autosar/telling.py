@@ -8,14 +8,16 @@ def tell(changes, element, key, texts):
     data = element.find("ADMIN-DATA/SDGS")
     group = next((it for it in data if it.get("GID") == "slotplan"), None) if data is not None else None
     rows = [] if group is None else [it for it in group.findall("SD") if it.get("GID") == key]
-    if [plain(row.text) for row in rows] == list(texts):
-        return
-    for row in rows:
+    for row, text in zip(rows, texts):
+        if plain(row.text) != text:
+            changes.write(row, text)
+    for row in rows[len(texts) :]:
         changes.remove(row)
-    if texts and group is not None:
-        changes.add(group, (), lines_of(lambda out: [out.leaf("SD", text, GID=key) for text in texts]))
-    elif texts:
-        changes.add(element, ("ADMIN-DATA", "SDGS"), lines_of(lambda out: group_of(out, key, texts)))
+    more = texts[len(rows) :]
+    if more and group is not None:
+        changes.add(group, (), lines_of(lambda out: [out.leaf("SD", text, GID=key) for text in more]))
+    elif more:
+        changes.add(element, ("ADMIN-DATA", "SDGS"), lines_of(lambda out: group_of(out, key, more)))
 
 
 def group_of(out, key, texts):
