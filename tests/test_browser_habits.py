@@ -91,3 +91,119 @@ class Habits(PlannerCase):
         self.show_key(CAMERA)
         self.is_in()
         self.see("of the plan", [1, 1], browser.run(seen))
+
+
+class Links(PlannerCase):
+    """A link leads to a view and an object; Back, Forward and a page that is loaded again keep what is shown."""
+
+    def setUp(self):
+        super().setUp()
+        self.plan(CLUSTER, REQUESTS)
+
+    def enter_at(self, hash):
+        self.browser.open("about:blank")
+        self.browser.open(self.url + hash)
+        self.show_key(CAMERA)
+        self.is_in()
+        self.rests()
+
+    def shown(self):
+        """The variant, the view and the frame that are shown."""
+        return self.browser.run("""const frame = document.querySelector('#frames [aria-current=true] b')?.textContent ?? null;
+            return [document.getElementById('variant').value, document.querySelector('#tabs [aria-selected=true]').id.slice(4), frame];""")
+
+    def test_links(self):
+        for hash, wanted in [("#my28", ["my28", "plan", None]), ("#my29/frames", ["my29", "frames", None]), ("#my29/frames/signs", ["my29", "frames", "signs"]),
+                             ("#my28/diff", ["my28", "diff", None]), ("", ["my29", "plan", None]), ("#my29/nothing", ["my29", "plan", None])]:
+            self.enter_at(hash)
+            self.see(f"{hash} leads to", wanted, self.shown())
+
+    def test_what_is_not_there(self):
+        self.enter_at("#nosuch")
+        self.says("There is no variant nosuch. my29 is shown.")
+        self.see("another is shown", ["my29", "plan", None], self.shown())
+        self.enter_at("#my29/plan/nosuch")
+        self.says("my29 has no frame nosuch.")
+        self.enter_at("#%3Cimg%20src=x%20onerror=alert(1)%3E")
+        self.says("There is no variant <img src=x onerror=alert(1)>.")
+
+    def test_back_and_forward(self):
+        self.enter_at("#my29")
+        self.frame("signs")
+        self.view("frames")
+        self.view("lanes")
+        self.see("the address", "#my29/lanes/signs", self.browser.run("return location.hash"))
+        for step, wanted in [("back", ["my29", "frames", "signs"]), ("back", ["my29", "plan", "signs"]), ("forward", ["my29", "frames", "signs"])]:
+            self.browser.call("POST", f"/{step}")
+            self.browser.wait(f"{step} to {wanted}", "return document.querySelector('#tabs [aria-selected=true]').id === 'tab-' + arguments[0]", wanted[1])
+            self.rests()
+            self.see(step, wanted, self.shown())
+
+    def test_loaded_again(self):
+        self.browser.open(self.url)
+        self.browser.click("#keep")
+        self.show_key(CAMERA)
+        self.is_in()
+        self.browser.choose("#times", "milliseconds")
+        self.browser.type("#macrotick", "2")
+        self.frame("signs")
+        self.view("frames")
+        before = self.shown(), self.seen("#figures")
+        self.browser.call("POST", "/refresh")
+        self.is_in()
+        self.rests()
+        self.see("what is shown", before, (self.shown(), self.seen("#figures")))
+        self.browser.choose("#times", "macroticks")
+
+
+class Several(PlannerCase):
+    """Several files that are dropped together, and keys that are made up."""
+
+    def setUp(self):
+        super().setUp()
+        self.plan(CLUSTER, REQUESTS)
+
+    def rows(self):
+        return [line for line in self.api.get(CAMERA, "variants/my29/rows").splitlines() if not line.startswith("GRANT")]
+
+    def test_last_week(self):
+        """Three files of last week are taken back in one step: the frames first, whatever their order."""
+        browser, before = self.enter(CAMERA), self.rows()
+        self.view("files")
+        paths = []
+        for kind in "signals", "placements", "frames":
+            browser.press(f"{kind}.csv", "#view-files")
+            self.says(f"my29_{kind}.csv")
+            paths.append(self.folder / f"week_{kind}.csv")
+            paths[-1].write_text(browser.taken(f"my29_{kind}.csv"))
+        for frame in "signs", "night_view":
+            self.see(f"{frame} is dropped since", {"ok": "done"}, self.api.command(CAMERA, do="drop_frame", variant="my29", frame=frame))
+        browser.click("#reload")
+        self.says("The plan is read again.")
+        browser.drop(browser.run("const box = document.querySelector('.drop').getBoundingClientRect(); return [box.x + 20, box.y + 20]"), *paths)
+        browser.wait("the frames", "return document.getElementById('view-files').textContent.includes('week_frames.csv')")
+        self.rests()
+        self.see("the others come behind it", True, "Then: week_placements.csv, week_signals.csv." in self.seen("#view-files"))
+        browser.click("input[name=way][value=whole]")
+        self.rests()
+        browser.click("#carry-out-all")
+        browser.wait("all three", "return document.getElementById('message').textContent.includes('week_signals.csv')")
+        self.rests()
+        self.see("all is as it was", before, self.rows())
+
+    def test_a_key_stays(self):
+        """A key that was made up is shown until it is put away, whatever else is said."""
+        browser = self.enter(BOSS)
+        self.view("manage")
+        browser.type("#form-Addasupplier-supplier", "newcomer")
+        browser.press("Make up a key", "#manage-forms form:nth-of-type(3)")
+        key = browser.run("return document.getElementById('form-Addasupplier-key').value")
+        browser.press("Add it", "#manage-forms form:nth-of-type(3)")
+        self.says("newcomer has joined")
+        browser.click("#reload")
+        self.says("The plan is read again.")
+        shown = "return document.querySelector('#manage-forms .key input')?.value ?? null"
+        self.see("it is shown still", key, browser.run(shown))
+        self.see("it is the newcomer's", "supplier newcomer", self.api.get(key, "cluster").splitlines()[-1])
+        browser.press("I have it", "#manage-forms")
+        self.see("then it goes", None, browser.run(shown))

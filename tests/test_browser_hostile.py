@@ -58,7 +58,7 @@ ANSWERS = [
 ]
 # What a page has that ran or showed something that was sent to it.
 TRACES = """
-    const not = 'img, iframe, object, embed, svg, link[rel=stylesheet], a[href^=javascript], base, meta[http-equiv]';
+    const not = 'img, iframe, object, embed, svg, link[rel=stylesheet]:not([href="slotplan.css"]), a[href^=javascript], base, meta[http-equiv]';
     const handlers = [...document.querySelectorAll('*')].filter(it => [...it.attributes].some(({name}) => name.startsWith('on')));
     const elements = document.querySelectorAll(not).length, scripts = document.scripts.length - 1;
     return {hacked: window.hacked ?? null, elements, scripts, handlers: handlers.length, listed: document.querySelectorAll('#frames li').length};"""
@@ -120,20 +120,17 @@ class Hostile(HostileCase):
                 self.see(f"{what}: it is no success", False, self.browser.run("return document.getElementById('message').classList.contains('good')"))
 
     def test_behind_a_plan(self):
-        """Rooms, differences, fates, exports and pictures, and rows that are read anew, each shown as text or refused."""
+        """Differences, fates, proposals, exports and pictures, and rows that are read anew, each shown as text or refused."""
         evil_fates = json.dumps({"ok": "try", "lines": [EVIL]})
         self.answer(
-            room=(200, "text/html", EVIL),
+            proposals=(200, "application/json", json.dumps({"ok": "propose", "lines": [EVIL]})),
             since=(200, "text/html", f"+ FRAME {EVIL} n1\n"),
             tries=(200, "application/json", evil_fates),
             exports=(200, "text/html", EVIL),
             picture=(200, "text/html", EVIL),
         )
         browser = self.browser
-        browser.click("#frames button")
-        browser.click("#show-room")
-        self.says("line that no report has")
-        self.is_clean("room")
+        self.plan_of_one()
         self.view("diff")
         browser.press("Compare", "#view-diff")
         self.says("line that no")
@@ -142,7 +139,13 @@ class Hostile(HostileCase):
         self.file("evil.csv", "frame,node\n" + EVIL + ",n1\n")
         self.says("line that no report has")
         self.is_clean("a try")
+        browser.press("Close", "#message")
+        browser.type("#wishes-text", f"frame,node,channels,repetition\n{EVIL},n1,A,2")
+        browser.click("#propose")
+        self.says("line that no report has")
+        self.is_clean("a proposal")
         for kind in "picture.html", "placements.csv":
+            browser.run("document.getElementById('message').hidden = true")
             browser.press(kind, "#view-files")
             self.is_clean(kind)
         self.answers["rows"] = f"FRAME {EVIL} n1\n"

@@ -144,7 +144,7 @@ class BelowAPath(PlannerCase):
         browser.type("#signal-start", "20")
         browser.press("Add it", "#detail")
         self.says("contrast is added to night_view")
-        self.see("the address", f"{self.url}#my29", browser.run("return location.href"))
+        self.see("the address", f"{self.url}#my29/plan/night_view", browser.run("return location.href"))
         browser.click("#leave")
         self.see("the address of who has left", self.url, browser.run("return location.href"))
 

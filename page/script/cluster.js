@@ -1,7 +1,7 @@
 // The view of the cluster: its variants, suppliers and nodes; the integrator adds to them, and releases.
 import {button, byId, card, make, options, refill, row, table, tableRow, textField} from "./dom.js";
 import {grantsCard} from "./grantstable.js";
-import {attempt, confirmed, inTurn} from "./messages.js";
+import {attempt, confirmed, inTurn, say} from "./messages.js";
 import {chip} from "./palette.js";
 import {choose, readRegister} from "./reading.js";
 import {done} from "./steps.js";
@@ -19,6 +19,7 @@ export function clusterView(desk) {
   desk.on("register plan view entered", show);
   desk.on("left", () => {
     byId("manage-lists").replaceChildren();
+    for (const box of document.querySelectorAll("#manage-forms .key")) box.remove();
     for (const form of forms) form.card.reset();
     pasted.clear();
   });
@@ -62,11 +63,24 @@ function releaseCard(desk) {
 }
 
 // Carries out a command on the cluster, and reads what it changed. What is said of a key stays until it is closed.
+// A new key is shown here until it is put away, whatever else is said.
+function keyBox(desk, {supplier, key}) {
+  const shown = make("input", {readonly: "", value: key, class: "code", "aria-label": `The key of ${supplier}`});
+  const copy = async () => {
+    shown.select();
+    try { await navigator.clipboard.writeText(key); say("good", "The key is copied."); } catch { say("warn", "Press Ctrl+C: the key is chosen."); }
+  };
+  const box = make("div", {class: "card key"}, make("h2", {}, `The key of ${supplier}`), shown,
+    row(button("Copy it", copy, {class: "main"}), button("I have it", () => box.remove())));
+  byId("manage-forms").prepend(box);
+}
+
 const change = (desk, request, text, then) => inTurn(desk, () => attempt(desk, async () => {
   await desk.register.command(request);
   await readRegister(desk);
   if (then) await then();
   else if (desk.plan) desk.tell("plan");
+  if (request.key) keyBox(desk, request);
   done(desk, text, null, request.key ? "warn" : "good");
   return true;
 }, "Sending ..."));

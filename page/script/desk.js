@@ -22,7 +22,7 @@ export class Desk {
   clear() {
     this.turn += 1;
     this.session = (this.session ?? 0) + 1;
-    Object.assign(this, EMPTY, {nodes: [], variants: [], waiting: [], pending: [], histories: new Map()});
+    Object.assign(this, EMPTY, {nodes: [], variants: [], waiting: [], pending: [], queue: [], histories: new Map()});
   }
 
   // Calls a listener when one of these changes: entered, left, register, plan, choice, mode, difference, file, look, view, undo, pending,

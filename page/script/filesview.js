@@ -9,7 +9,7 @@ import {explained} from "./refusals.js";
 import {exported} from "./reading.js";
 import {isDigits, isName} from "./reports.js";
 import {wishesCard} from "./proposing.js";
-import {carryOut, takeFile, takeLooked, takeProposal, tryFile, WAYS, waysOf} from "./sending.js";
+import {carryOut, carryOutAll, takeFiles, takeLooked, takeProposal, tryFile, WAYS, waysOf} from "./sending.js";
 import {done} from "./steps.js";
 import {grouped, plural, short} from "./words.js";
 
@@ -19,7 +19,7 @@ export function filesView(desk) {
   window.addEventListener("dragover", event => event.preventDefault());
   window.addEventListener("drop", event => {
     event.preventDefault();
-    if (desk.plan && event.dataTransfer.files[0]) takeFile(desk, event.dataTransfer.files[0]);
+    if (desk.plan && event.dataTransfer.files.length) takeFiles(desk, [...event.dataTransfer.files]);
   });
 }
 
@@ -30,13 +30,13 @@ function showFiles(desk) {
     refill(byId("view-files"), down, make("p", {}, why));
     return;
   }
-  refill(byId("view-files"), card("Send a file", dropZone(desk), file ? fileBox(desk, file) : ""),
-    wishesCard(desk, (bytes, replaces) => takeProposal(desk, bytes, replaces)), down);
+  refill(byId("view-files"), card("Send a file", dropZone(desk), file ? fileBox(desk, file) : ""), down,
+    wishesCard(desk, (bytes, replaces) => takeProposal(desk, bytes, replaces)));
 }
 
 function dropZone(desk) {
-  const take = ({target}) => { if (target.files[0]) takeFile(desk, target.files[0]); };
-  const pick = make("input", {type: "file", accept: ".csv,.txt,.xlsx,.ods,text/csv", id: "pick", onchange: take});
+  const take = ({target}) => { if (target.files.length) takeFiles(desk, [...target.files]); };
+  const pick = make("input", {type: "file", multiple: true, accept: ".csv,.txt,.xlsx,.ods,text/csv", id: "pick", onchange: take});
   const zone = make("div", {class: "drop"},
     make("p", {}, make("strong", {}, "Drop a CSV file here"), " or ", make("label", {for: "pick"}, "choose one: "), pick),
     note("With one of these headers: ", Object.keys(HEADERS).join("  |  "), ". A workbook (.xlsx, .ods) with such a sheet does too."));
@@ -99,7 +99,9 @@ function fateBox(desk, file) {
   return [row(make("strong", {class: refused.length ? "fault" : ""}, all), make("span", {id: "fresh"},
     `${plural(Math.max(0, fresh), "row is", "rows are")} new or changed, ${grouped(there)} ${there === 1 ? "is" : "are"} there already.`)),
     WAYS[file.way].replaces ? goneBox(file) : "",
-    row(file.way === "import" ? [make("label", {for: "label"}, "Label"), label] : "", go),
+    row(file.way === "import" ? [make("label", {for: "label"}, "Label"), label] : "", go,
+      desk.queue.length ? button(`This and ${plural(desk.queue.length, "more file")}`, () => carryOutAll(desk), {id: "carry-out-all", disabled: refused.length > 0}) : ""),
+    desk.queue.length ? note(`Then: ${desk.queue.map(({name}) => name).join(", ")}.`) : "",
     refused.length && refused.length < fates.length ? make("label", {class: "check"}, only, "only refused rows") : "",
     longTable([["line", "num"], ...file.shown[0], "what would become of it"], file.onlyRefused ? refused : fates, fate => fateRow(desk, file, fate))];
 }

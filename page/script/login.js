@@ -1,4 +1,5 @@
 // The key: it is asked once, and kept in memory; by a tick also in the tab's storage, so that the page may be loaded again.
+import {noSuch, showWanted, wantedBy} from "./address.js";
 import {inTree} from "./cluster.js";
 import {byId, listen} from "./dom.js";
 import {Lost, Refused, Strange} from "./faults.js";
@@ -27,7 +28,7 @@ export function login(desk) {
 }
 
 // Some browsers give a page no storage.
-function stored(act) {
+export function stored(act) {
   try { return act(sessionStorage); } catch { return null; }
 }
 
@@ -46,8 +47,8 @@ async function begin(desk, key, isKept) {
     // A supplier's plan is all its own: its frames are told apart.
     desk.look.colourBy = desk.isIntegrator ? "supplier" : "frame";
     if (isKept) stored(storage => storage.setItem(STORED, key));
-    const wanted = location.hash.slice(1), inOrder = inTree(desk);
-    const first = inOrder.find(({name}) => name === wanted) ?? inOrder.findLast(variant => !variant.isReleased) ?? inOrder.at(-1);
+    const wanted = wantedBy(location.hash), inOrder = inTree(desk);
+    const first = inOrder.find(({name}) => name === wanted.variant) ?? inOrder.findLast(variant => !variant.isReleased) ?? inOrder.at(-1);
     byId("login").hidden = true;
     byId("app").hidden = false;
     if (first) {
@@ -55,7 +56,10 @@ async function begin(desk, key, isKept) {
       await choose(desk, first.name);
       quiet();
     } else say("warn", desk.isIntegrator ? "There is no variant yet. Open one." : "There is no variant yet. The integrator opens one.");
-    desk.show(first ? "plan" : "manage");
+    desk.view = first ? "plan" : "manage";
+    if (first?.name === wanted.variant) showWanted(desk, wanted);
+    desk.show(desk.view);
+    if (first && wanted.variant && first.name !== wanted.variant) say("warn", `${noSuch(wanted.variant)} ${first.name} is shown.`);
     desk.tell("entered");
   } catch (fault) {
     if (!(fault instanceof Refused || fault instanceof Lost || fault instanceof Strange)) throw fault;

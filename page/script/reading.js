@@ -50,7 +50,7 @@ function take(desk, [rows, since], from) {
 export async function choose(desk, variant) {
   const turn = desk.turn += 1, from = variant === desk.variant ? desk.difference?.from : null, read = await readVariant(desk, variant, from);
   if (desk.turn !== turn) return;
-  if (variant !== desk.variant) Object.assign(desk, {difference: null, granting: null, room: null, lane: null, file: null});
+  if (variant !== desk.variant) Object.assign(desk, {difference: null, granting: null, room: null, lane: null, file: null, queue: []});
   desk.variant = variant;
   take(desk, read, from);
 }

@@ -39,19 +39,36 @@ const isTakenFrom = ({variants}, {name, kind}) => variants.some(variant => name.
 
 const LARGEST = 4_000_000;
 
-export async function takeFile(desk, blob) {
+// The order in which files of several kinds are taken: placements and signals want their frames.
+const IN_TURN = ["frames", "placements", "signals"];
+const placeOf = ({kind}) => (IN_TURN.indexOf(kind) + IN_TURN.length + 1) % (IN_TURN.length + 1);
+
+// Takes files that were dropped or chosen, one after the other.
+export async function takeFiles(desk, blobs) {
   if (desk.view !== "files") desk.show("files");
   // The view says why.
   if (!desk.mayPlan()) return;
+  desk.queue = [];
+  const files = [];
+  for (const blob of blobs) {
+    const file = await fileIn(desk, blob);
+    if (file && (file.kind || !tookWishes(desk, file))) files.push(file);
+  }
+  const [first, ...others] = files.sort((one, other) => placeOf(one) - placeOf(other));
+  desk.queue = others;
+  if (first) await takeLooked(desk, first);
+}
+
+// A file as it is looked at; what is none that can be read is told.
+async function fileIn(desk, blob) {
   if (blob.size > LARGEST) {
     takeLooked(desk, null);
     say("bad", `${blob.name} has ${grouped(blob.size)} bytes. That is no plan.`);
-    return;
+    return null;
   }
   const bytes = await blob.arrayBuffer().catch(() => null);
-  const file = bytes && await looked(blob.name, new Uint8Array(bytes));
-  if (file && (file.kind || !tookWishes(desk, file))) await takeLooked(desk, file);
-  else if (!bytes) say("bad", `${blob.name} cannot be read. If another program has it open, close it there, and choose it again.`);
+  if (!bytes) say("bad", `${blob.name} cannot be read. If another program has it open, close it there, and choose it again.`);
+  return bytes && looked(blob.name, new Uint8Array(bytes));
 }
 
 // Takes a file that was looked at or mended, and tries it.
@@ -59,6 +76,7 @@ export async function takeLooked(desk, file, way = file && isTakenFrom(desk, fil
   desk.file = file && Object.assign(file, {way, parts: null, part: 0, fates: null, gone: [], shown: [], onlyRefused: false});
   if (file) {
     divide(file);
+    if (file.parts && WAYS[way].isWhole) file.way = "replace";
     file.label = suggestedLabel(file);
   }
   desk.tell("file");
@@ -131,6 +149,15 @@ function filedIn(desk, {kind, shown, way}) {
 
 export const carryOut = desk => inTurn(desk, () => carryOutNow(desk));
 
+// Carries out the file and those that were dropped with it, up to the first of which a row would be refused, or that is not carried out.
+export const carryOutAll = desk => inTurn(desk, async () => {
+  for (let file = desk.file; file?.fates && !file.fates.some(({no}) => no); file = desk.file) {
+    const {part} = file;
+    await carryOutNow(desk);
+    if (desk.file === file && file.part === part) return;
+  }
+});
+
 async function carryOutNow(desk) {
   const {file} = desk, way = WAYS[file?.way];
   if (!file?.fates) return;
@@ -139,7 +166,7 @@ async function carryOutNow(desk) {
     return;
   }
   if (!await mayTakeAway(desk, file)) return;
-  const own = filedIn(desk, file), {plan: old, me} = desk;
+  const own = filedIn(desk, file), {plan: old, me} = desk, chosen = file.way;
   const isDone = await attempt(desk, async () => {
     const {rows} = await way.send(desk, file, bodyOf(file)), filedNames = file.shown.slice(1).map(([frame]) => frame);
     let said = `${plural(rows, "row")} of ${file.name} ${way.said(file)}`;
@@ -151,7 +178,9 @@ async function carryOutNow(desk) {
       said += ` Part ${file.part + 1} of ${file.parts.length} comes next.`;
     }
     const others = bySomebody(await reread(desk, own));
-    if (isLast) desk.tell("file");
+    const next = isLast ? desk.queue.shift() : null;
+    if (next) await takeLooked(desk, next, next.kind ? chosen : undefined);
+    else if (isLast) desk.tell("file");
     else await tryFile(desk);
     const names = new Set(way.isWhole ? [...old.frames, ...desk.plan.frames].map(({name}) => name) : filedNames);
     done(desk, said + others, {label: `${file.name}: ${plural(rows, "row")} of ${file.kind}, ${way.verb.toLowerCase()}`, before: statesOf(old, me, names), after: statesOf(desk.plan, me, names)});

@@ -1,12 +1,16 @@
 // The top of the page: the variant that is shown, the views, who asks, the cluster's figures, and how times are told.
+import {addressed} from "./address.js";
 import {indented, inTree} from "./cluster.js";
 import {button, byId, listen, options} from "./dom.js";
 import {openHelp} from "./help.js";
 import {bySomebody} from "./meanwhile.js";
+import {stored} from "./login.js";
 import {attempt, hideTip, nothingChanged, quiet, quietGood, say} from "./messages.js";
 import {choose, refresh} from "./reading.js";
 import {grouped} from "./words.js";
 
+// How long a macrotick is stays as the page is loaded again.
+const MACROTICK = "slotplan macrotick " + location.pathname;
 const VIEWS = [["plan", "Plan"], ["frames", "Frames"], ["lanes", "Lanes"], ["files", "Files"], ["diff", "Differences"], ["manage", "Cluster"]];
 // Views that use the whole width.
 const WIDE = ["files", "diff", "manage"];
@@ -23,14 +27,10 @@ export function topBar(desk) {
   listenToTimes(desk);
   desk.on("register plan", () => showVariants(desk));
   desk.on("register plan look", () => showFigures(desk));
-  desk.on("plan", () => history.replaceState(null, "", "#" + desk.variant));
+  addressed(desk);
   desk.on("view plan", () => showView(desk));
   desk.on("view", quietGood);
   desk.on("left", () => { byId("figures").textContent = ""; });
-  window.addEventListener("hashchange", () => {
-    const wanted = location.hash.slice(1);
-    if (desk.plan && wanted !== desk.variant && desk.variants.some(({name}) => name === wanted)) show(desk, wanted);
-  });
 }
 
 async function show(desk, variant) {
@@ -44,8 +44,15 @@ function listenToTimes(desk) {
     const isLong = byId("times").value === "ms", microseconds = Number(byId("macrotick").value.replace(",", "."));
     byId("macrotick-label").hidden = !isLong;
     desk.times.microseconds = isLong && microseconds > 0 && microseconds <= 1000 ? microseconds : 0;
-    desk.tell("look", "choice");
+    desk.tell("look");
+    stored(storage => desk.times.microseconds ? storage.setItem(MACROTICK, String(desk.times.microseconds)) : storage.removeItem(MACROTICK));
   };
+  const kept = stored(storage => storage.getItem(MACROTICK));
+  if (kept) {
+    Object.assign(byId("times"), {value: "ms"});
+    byId("macrotick").value = kept;
+    take();
+  }
   listen("times", "change", take);
   listen("macrotick", "input", take);
 }

@@ -142,6 +142,8 @@ p{margin:.3rem 0}
 .grow{flex:1}
 .hidden-label{position:absolute;width:1px;height:1px;overflow:hidden;clip-path:inset(50%)}
 
+.view{scroll-padding-bottom:5rem}
+
 /* Controls */
 button,select,input,textarea{font:inherit;color:inherit}
 button,select,textarea,input:not([type=checkbox]):not([type=radio]){border:1px solid #8b95a3;border-radius:4px;background:#fff;padding:.25rem .55rem;min-height:30px;max-width:100%}
@@ -1100,7 +1102,7 @@ function take(desk, [rows, since], from) {
 async function choose(desk, variant) {
   const turn = desk.turn += 1, from = variant === desk.variant ? desk.difference?.from : null, read = await readVariant(desk, variant, from);
   if (desk.turn !== turn) return;
-  if (variant !== desk.variant) Object.assign(desk, {difference: null, granting: null, room: null, lane: null, file: null});
+  if (variant !== desk.variant) Object.assign(desk, {difference: null, granting: null, room: null, lane: null, file: null, queue: []});
   desk.variant = variant;
   take(desk, read, from);
 }
@@ -1941,6 +1943,7 @@ function clusterView(desk) {
   desk.on(\"register plan view entered\", show);
   desk.on(\"left\", () => {
     byId(\"manage-lists\").replaceChildren();
+    for (const box of document.querySelectorAll(\"#manage-forms .key\")) box.remove();
     for (const form of forms) form.card.reset();
     pasted.clear();
   });
@@ -1984,11 +1987,24 @@ function releaseCard(desk) {
 }
 
 // Carries out a command on the cluster, and reads what it changed. What is said of a key stays until it is closed.
+// A new key is shown here until it is put away, whatever else is said.
+function keyBox(desk, {supplier, key}) {
+  const shown = make(\"input\", {readonly: \"\", value: key, class: \"code\", \"aria-label\": `The key of ${supplier}`});
+  const copy = async () => {
+    shown.select();
+    try { await navigator.clipboard.writeText(key); say(\"good\", \"The key is copied.\"); } catch { say(\"warn\", \"Press Ctrl+C: the key is chosen.\"); }
+  };
+  const box = make(\"div\", {class: \"card key\"}, make(\"h2\", {}, `The key of ${supplier}`), shown,
+    row(button(\"Copy it\", copy, {class: \"main\"}), button(\"I have it\", () => box.remove())));
+  byId(\"manage-forms\").prepend(box);
+}
+
 const change = (desk, request, text, then) => inTurn(desk, () => attempt(desk, async () => {
   await desk.register.command(request);
   await readRegister(desk);
   if (then) await then();
   else if (desk.plan) desk.tell(\"plan\");
+  if (request.key) keyBox(desk, request);
   done(desk, text, null, request.key ? \"warn\" : \"good\");
   return true;
 }, \"Sending ...\"));
@@ -2128,7 +2144,7 @@ class Desk {
   clear() {
     this.turn += 1;
     this.session = (this.session ?? 0) + 1;
-    Object.assign(this, EMPTY, {nodes: [], variants: [], waiting: [], pending: [], histories: new Map()});
+    Object.assign(this, EMPTY, {nodes: [], variants: [], waiting: [], pending: [], queue: [], histories: new Map()});
   }
 
   // Calls a listener when one of these changes: entered, left, register, plan, choice, mode, difference, file, look, view, undo, pending,
@@ -2443,9 +2459,7 @@ function rowText(desk, row) {
   if (row.kind === \"signal\") return bitsText(row);
   return row.gap === Infinity ? \"never sent\" : desk.times.text(row.gap);
 }
-";
 
-pub const PROGRAM_3: &str = "
 // ---- gone.js
 
 // What a file would take away that takes the place of what was there: rows that the register has, and the file has not.
@@ -2483,7 +2497,9 @@ const isSameGone = (one, other) => one.length === other.length && one.every(({te
 const goneCount = ({gone}) => Object.keys(TEXTS).map(kind => [gone.filter(one => one.kind === kind).length, kind])
   .filter(([count]) => count).map(([count, kind]) => plural(count, kind)).join(\", \");
 const goneList = ({gone}) => make(\"ul\", {class: \"scroll\"}, gone.map(({text}) => make(\"li\", {}, text)));
+";
 
+pub const PROGRAM_3: &str = "
 // ---- workbook.js
 
 // Reads a workbook of Excel (.xlsx) or LibreOffice (.ods): the texts of its sheets' cells, as records.
@@ -2997,19 +3013,36 @@ const isTakenFrom = ({variants}, {name, kind}) => variants.some(variant => name.
 
 const LARGEST = 4_000_000;
 
-async function takeFile(desk, blob) {
+// The order in which files of several kinds are taken: placements and signals want their frames.
+const IN_TURN = [\"frames\", \"placements\", \"signals\"];
+const placeOf = ({kind}) => (IN_TURN.indexOf(kind) + IN_TURN.length + 1) % (IN_TURN.length + 1);
+
+// Takes files that were dropped or chosen, one after the other.
+async function takeFiles(desk, blobs) {
   if (desk.view !== \"files\") desk.show(\"files\");
   // The view says why.
   if (!desk.mayPlan()) return;
+  desk.queue = [];
+  const files = [];
+  for (const blob of blobs) {
+    const file = await fileIn(desk, blob);
+    if (file && (file.kind || !tookWishes(desk, file))) files.push(file);
+  }
+  const [first, ...others] = files.sort((one, other) => placeOf(one) - placeOf(other));
+  desk.queue = others;
+  if (first) await takeLooked(desk, first);
+}
+
+// A file as it is looked at; what is none that can be read is told.
+async function fileIn(desk, blob) {
   if (blob.size > LARGEST) {
     takeLooked(desk, null);
     say(\"bad\", `${blob.name} has ${grouped(blob.size)} bytes. That is no plan.`);
-    return;
+    return null;
   }
   const bytes = await blob.arrayBuffer().catch(() => null);
-  const file = bytes && await looked(blob.name, new Uint8Array(bytes));
-  if (file && (file.kind || !tookWishes(desk, file))) await takeLooked(desk, file);
-  else if (!bytes) say(\"bad\", `${blob.name} cannot be read. If another program has it open, close it there, and choose it again.`);
+  if (!bytes) say(\"bad\", `${blob.name} cannot be read. If another program has it open, close it there, and choose it again.`);
+  return bytes && looked(blob.name, new Uint8Array(bytes));
 }
 
 // Takes a file that was looked at or mended, and tries it.
@@ -3017,6 +3050,7 @@ async function takeLooked(desk, file, way = file && isTakenFrom(desk, file) ? \"
   desk.file = file && Object.assign(file, {way, parts: null, part: 0, fates: null, gone: [], shown: [], onlyRefused: false});
   if (file) {
     divide(file);
+    if (file.parts && WAYS[way].isWhole) file.way = \"replace\";
     file.label = suggestedLabel(file);
   }
   desk.tell(\"file\");
@@ -3089,6 +3123,15 @@ function filedIn(desk, {kind, shown, way}) {
 
 const carryOut = desk => inTurn(desk, () => carryOutNow(desk));
 
+// Carries out the file and those that were dropped with it, up to the first of which a row would be refused, or that is not carried out.
+const carryOutAll = desk => inTurn(desk, async () => {
+  for (let file = desk.file; file?.fates && !file.fates.some(({no}) => no); file = desk.file) {
+    const {part} = file;
+    await carryOutNow(desk);
+    if (desk.file === file && file.part === part) return;
+  }
+});
+
 async function carryOutNow(desk) {
   const {file} = desk, way = WAYS[file?.way];
   if (!file?.fates) return;
@@ -3097,7 +3140,7 @@ async function carryOutNow(desk) {
     return;
   }
   if (!await mayTakeAway(desk, file)) return;
-  const own = filedIn(desk, file), {plan: old, me} = desk;
+  const own = filedIn(desk, file), {plan: old, me} = desk, chosen = file.way;
   const isDone = await attempt(desk, async () => {
     const {rows} = await way.send(desk, file, bodyOf(file)), filedNames = file.shown.slice(1).map(([frame]) => frame);
     let said = `${plural(rows, \"row\")} of ${file.name} ${way.said(file)}`;
@@ -3109,7 +3152,9 @@ async function carryOutNow(desk) {
       said += ` Part ${file.part + 1} of ${file.parts.length} comes next.`;
     }
     const others = bySomebody(await reread(desk, own));
-    if (isLast) desk.tell(\"file\");
+    const next = isLast ? desk.queue.shift() : null;
+    if (next) await takeLooked(desk, next, next.kind ? chosen : undefined);
+    else if (isLast) desk.tell(\"file\");
     else await tryFile(desk);
     const names = new Set(way.isWhole ? [...old.frames, ...desk.plan.frames].map(({name}) => name) : filedNames);
     done(desk, said + others, {label: `${file.name}: ${plural(rows, \"row\")} of ${file.kind}, ${way.verb.toLowerCase()}`, before: statesOf(old, me, names), after: statesOf(desk.plan, me, names)});
@@ -3129,7 +3174,7 @@ function filesView(desk) {
   window.addEventListener(\"dragover\", event => event.preventDefault());
   window.addEventListener(\"drop\", event => {
     event.preventDefault();
-    if (desk.plan && event.dataTransfer.files[0]) takeFile(desk, event.dataTransfer.files[0]);
+    if (desk.plan && event.dataTransfer.files.length) takeFiles(desk, [...event.dataTransfer.files]);
   });
 }
 
@@ -3140,13 +3185,13 @@ function showFiles(desk) {
     refill(byId(\"view-files\"), down, make(\"p\", {}, why));
     return;
   }
-  refill(byId(\"view-files\"), card(\"Send a file\", dropZone(desk), file ? fileBox(desk, file) : \"\"),
-    wishesCard(desk, (bytes, replaces) => takeProposal(desk, bytes, replaces)), down);
+  refill(byId(\"view-files\"), card(\"Send a file\", dropZone(desk), file ? fileBox(desk, file) : \"\"), down,
+    wishesCard(desk, (bytes, replaces) => takeProposal(desk, bytes, replaces)));
 }
 
 function dropZone(desk) {
-  const take = ({target}) => { if (target.files[0]) takeFile(desk, target.files[0]); };
-  const pick = make(\"input\", {type: \"file\", accept: \".csv,.txt,.xlsx,.ods,text/csv\", id: \"pick\", onchange: take});
+  const take = ({target}) => { if (target.files.length) takeFiles(desk, [...target.files]); };
+  const pick = make(\"input\", {type: \"file\", multiple: true, accept: \".csv,.txt,.xlsx,.ods,text/csv\", id: \"pick\", onchange: take});
   const zone = make(\"div\", {class: \"drop\"},
     make(\"p\", {}, make(\"strong\", {}, \"Drop a CSV file here\"), \" or \", make(\"label\", {for: \"pick\"}, \"choose one: \"), pick),
     note(\"With one of these headers: \", Object.keys(HEADERS).join(\"  |  \"), \". A workbook (.xlsx, .ods) with such a sheet does too.\"));
@@ -3209,7 +3254,9 @@ function fateBox(desk, file) {
   return [row(make(\"strong\", {class: refused.length ? \"fault\" : \"\"}, all), make(\"span\", {id: \"fresh\"},
     `${plural(Math.max(0, fresh), \"row is\", \"rows are\")} new or changed, ${grouped(there)} ${there === 1 ? \"is\" : \"are\"} there already.`)),
     WAYS[file.way].replaces ? goneBox(file) : \"\",
-    row(file.way === \"import\" ? [make(\"label\", {for: \"label\"}, \"Label\"), label] : \"\", go),
+    row(file.way === \"import\" ? [make(\"label\", {for: \"label\"}, \"Label\"), label] : \"\", go,
+      desk.queue.length ? button(`This and ${plural(desk.queue.length, \"more file\")}`, () => carryOutAll(desk), {id: \"carry-out-all\", disabled: refused.length > 0}) : \"\"),
+    desk.queue.length ? note(`Then: ${desk.queue.map(({name}) => name).join(\", \")}.`) : \"\",
     refused.length && refused.length < fates.length ? make(\"label\", {class: \"check\"}, only, \"only refused rows\") : \"\",
     longTable([[\"line\", \"num\"], ...file.shown[0], \"what would become of it\"], file.onlyRefused ? refused : fates, fate => fateRow(desk, file, fate))];
 }
@@ -3339,9 +3386,7 @@ async function askFrame(desk, typed = null) {
   if (isName(name.value)) addFrame(desk, name.value, node.value);
   else askFrame(desk, name.value);
 }
-";
 
-pub const PROGRAM_4: &str = "
 // ---- painting.js
 
 // Paints the cells of a plan: what is granted, what is sent, what differs.
@@ -3441,7 +3486,9 @@ function paintMark(ink, sheet, x, cycle, isNew, isEmpty) {
   fillBox(ink, isNew ? GREEN : RED, middle[0] - 3.5, middle[1] - 0.8, 7, 1.6);
   if (isNew) fillBox(ink, GREEN, middle[0] - 0.8, middle[1] - arm, 1.6, arm * 2);
 }
+";
 
+pub const PROGRAM_4: &str = "
 // ---- cells.js
 
 // A cell of the plan that was pointed at: what is there, and what it is in words.
@@ -4033,6 +4080,59 @@ function turned(desk, event) {
   else redo(desk);
 }
 
+// ---- address.js
+
+// The page's address: which variant, view and frame are shown stands behind its `#`, so that a link leads there, and Back goes back.
+
+const SHOWN = [\"plan\", \"frames\", \"lanes\", \"files\", \"diff\", \"manage\"];
+
+// What an address wants to be shown: `#my30`, `#my30/frames`, `#my30/frames/free_space`.
+function wantedBy(hash) {
+  const [variant = \"\", view = \"plan\", frame = null] = hash.replace(/^#/, \"\").split(\"/\").map(unquoted);
+  return {variant, view: SHOWN.includes(view) ? view : \"plan\", frame};
+}
+
+function unquoted(text) {
+  try { return decodeURIComponent(text); } catch { return text; }
+}
+
+function hashOf({variant, view, frame}) {
+  if (variant === null) return \"\";
+  return \"#\" + [variant, ...(frame ? [view, frame.name] : view === \"plan\" ? [] : [view])].join(\"/\");
+}
+
+// Keeps the address as what is shown, and shows what it is changed to.
+function addressed(desk) {
+  const keep = () => {
+    const hash = hashOf(desk);
+    if (!desk.register || hash === location.hash) return;
+    if (wantedBy(location.hash).variant === desk.variant) history.pushState(null, \"\", hash);
+    else history.replaceState(null, \"\", hash);
+  };
+  desk.on(\"plan view choice\", keep);
+  window.addEventListener(\"popstate\", () => { if (desk.plan) follow(desk, wantedBy(location.hash)); });
+}
+
+// What is said of a variant that an address names, and that is not there.
+const noSuch = variant => `There is no variant ${short(variant)}.`;
+
+async function follow(desk, {variant, view, frame}) {
+  if (!desk.variants.some(({name}) => name === variant)) {
+    say(\"warn\", noSuch(variant));
+    return;
+  }
+  if (variant !== desk.variant) await attempt(desk, () => choose(desk, variant), `Reading ${variant} ...`);
+  if (variant === desk.variant) showWanted(desk, {view, frame});
+}
+
+// Shows a view and a frame of the variant that is there.
+function showWanted(desk, {view, frame}) {
+  const found = desk.plan?.frames.find(({name}) => name === frame) ?? null;
+  if (found !== desk.frame) desk.choose({frame: found});
+  if (view !== desk.view) desk.show(view);
+  if (frame !== null && !found) say(\"warn\", `${desk.variant} has no frame ${short(frame)}.`);
+}
+
 // ---- login.js
 
 // The key: it is asked once, and kept in memory; by a tick also in the tab's storage, so that the page may be loaded again.
@@ -4077,8 +4177,8 @@ async function begin(desk, key, isKept) {
     // A supplier's plan is all its own: its frames are told apart.
     desk.look.colourBy = desk.isIntegrator ? \"supplier\" : \"frame\";
     if (isKept) stored(storage => storage.setItem(STORED, key));
-    const wanted = location.hash.slice(1), inOrder = inTree(desk);
-    const first = inOrder.find(({name}) => name === wanted) ?? inOrder.findLast(variant => !variant.isReleased) ?? inOrder.at(-1);
+    const wanted = wantedBy(location.hash), inOrder = inTree(desk);
+    const first = inOrder.find(({name}) => name === wanted.variant) ?? inOrder.findLast(variant => !variant.isReleased) ?? inOrder.at(-1);
     byId(\"login\").hidden = true;
     byId(\"app\").hidden = false;
     if (first) {
@@ -4086,7 +4186,10 @@ async function begin(desk, key, isKept) {
       await choose(desk, first.name);
       quiet();
     } else say(\"warn\", desk.isIntegrator ? \"There is no variant yet. Open one.\" : \"There is no variant yet. The integrator opens one.\");
-    desk.show(first ? \"plan\" : \"manage\");
+    desk.view = first ? \"plan\" : \"manage\";
+    if (first?.name === wanted.variant) showWanted(desk, wanted);
+    desk.show(desk.view);
+    if (first && wanted.variant && first.name !== wanted.variant) say(\"warn\", `${noSuch(wanted.variant)} ${first.name} is shown.`);
     desk.tell(\"entered\");
   } catch (fault) {
     if (!(fault instanceof Refused || fault instanceof Lost || fault instanceof Strange)) throw fault;
@@ -4316,6 +4419,8 @@ function openHelp(desk) {
 
 // The top of the page: the variant that is shown, the views, who asks, the cluster's figures, and how times are told.
 
+// How long a macrotick is stays as the page is loaded again.
+const MACROTICK = \"slotplan macrotick \" + location.pathname;
 const VIEWS = [[\"plan\", \"Plan\"], [\"frames\", \"Frames\"], [\"lanes\", \"Lanes\"], [\"files\", \"Files\"], [\"diff\", \"Differences\"], [\"manage\", \"Cluster\"]];
 // Views that use the whole width.
 const WIDE = [\"files\", \"diff\", \"manage\"];
@@ -4332,14 +4437,10 @@ function topBar(desk) {
   listenToTimes(desk);
   desk.on(\"register plan\", () => showVariants(desk));
   desk.on(\"register plan look\", () => showFigures(desk));
-  desk.on(\"plan\", () => history.replaceState(null, \"\", \"#\" + desk.variant));
+  addressed(desk);
   desk.on(\"view plan\", () => showView(desk));
   desk.on(\"view\", quietGood);
   desk.on(\"left\", () => { byId(\"figures\").textContent = \"\"; });
-  window.addEventListener(\"hashchange\", () => {
-    const wanted = location.hash.slice(1);
-    if (desk.plan && wanted !== desk.variant && desk.variants.some(({name}) => name === wanted)) show(desk, wanted);
-  });
 }
 
 async function show(desk, variant) {
@@ -4353,8 +4454,15 @@ function listenToTimes(desk) {
     const isLong = byId(\"times\").value === \"ms\", microseconds = Number(byId(\"macrotick\").value.replace(\",\", \".\"));
     byId(\"macrotick-label\").hidden = !isLong;
     desk.times.microseconds = isLong && microseconds > 0 && microseconds <= 1000 ? microseconds : 0;
-    desk.tell(\"look\", \"choice\");
+    desk.tell(\"look\");
+    stored(storage => desk.times.microseconds ? storage.setItem(MACROTICK, String(desk.times.microseconds)) : storage.removeItem(MACROTICK));
   };
+  const kept = stored(storage => storage.getItem(MACROTICK));
+  if (kept) {
+    Object.assign(byId(\"times\"), {value: \"ms\"});
+    byId(\"macrotick\").value = kept;
+    take();
+  }
   listen(\"times\", \"change\", take);
   listen(\"macrotick\", \"input\", take);
 }
