@@ -1,5 +1,8 @@
 """References that do not begin at the top: they begin at a base that a package around them names."""
 
+# How many bases a base may lead to, one after the other.
+DEEPEST = 64
+
 
 class References:
     """The relative references of a tree. They become whole, and who reads them later sees no difference."""
@@ -35,7 +38,7 @@ class References:
         be relative itself."""
         text = leaf.text.strip()
         found = self.base(self.package_of[leaf], label)
-        if text.startswith("/") or found is None or depth > len(self.tree.relative):
+        if text.startswith("/") or found is None or depth > DEEPEST:
             return
         package, base = found
         start = base.find("PACKAGE-REF")
