@@ -3,7 +3,8 @@
 
 One supplier has 256 frames of 8 placements, and every slot on both channels; one frame has 7, so that there is room for it. The variant is released, and
 in a variant that was opened from it each fourth frame has another placement. The room for the frame stands beside the gaps, the load beside the grants,
-the rows and an export beside the frames, the differences beside the frames of both variants. Then a file of 512 placements is sent: as a replacement,
+the rows and an export beside the frames, the differences beside the frames of both variants. A proposal for 512 wishes of 64 frames, which keep what
+they have or seek other places in all slots, stands beside the trial of as many rows. Then a file of 512 placements is sent: as a replacement,
 as a trial of one, and whole, with other rows, the same rows and one row changed. It stands beside the import of as many rows into a variant without
 frames. The plan is in a file, and `ask` answers the requests. The processor time is that of the whole run less that of a run without requests, each
 the least of three, in milliseconds a request; beside it stands the length of its answer. Like all of bench/, it promises nothing."""
@@ -64,6 +65,17 @@ def rows(turn, moved=0):
     return "".join(f"{it}\n" for it in ("frame,node,slot,channels,base,repetition", *records))
 
 
+def own_rows():
+    """A file of the placements that 64 frames have in the variant old."""
+    records = (f"frame{row // PLACEMENTS},node0,{at['slot']},A,{at['base']},{CYCLES}" for row, at in enumerate(map(cell, range(ROWS))))
+    return "".join(f"{it}\n" for it in ("frame,node,slot,channels,base,repetition", *records))
+
+
+def wishes(repetition):
+    """A file of as many wishes of these frames."""
+    return "".join(f"{it}\n" for it in ("frame,node,channels,repetition", *(f"frame{row // PLACEMENTS},node0,A,{repetition}" for row in range(ROWS))))
+
+
 def reports(count):
     """Of each report, the requests for it, and the name of the one that it stands beside."""
     new = dict(variant="new")
@@ -78,10 +90,13 @@ def reports(count):
         "rows": ("rows", new),
         "differences": ("diff", {**new, "from": "old"}),
         "export of placements": ("export_placements", dict(new, part=0)),
+        "trial of 512 rows": ("try", dict(new, body=own_rows(), replace=True)),
+        "proposal, kept": ("propose", dict(new, body=wishes(CYCLES), replace=True)),
+        "proposal, sought": ("propose", dict(new, body=wishes(CYCLES // 2), replace=True)),
     }
-    beside = {"room": "gaps", "load": "grants", "rows": "frames", "differences": "frames", "export": "frames"}
+    beside = {"room": "gaps", "load": "grants", "rows": "frames", "differences": "frames", "export": "frames", "proposal": "trial of 512 rows"}
     for name, (do, fields) in asked.items():
-        asks = count // LONG if fields.get("repetition") == CYCLES else count
+        asks = count // LONG if fields.get("repetition") == CYCLES or "body" in fields else count
         yield name, beside.get(name.split()[0].strip(",")), [line(KEY, do, **fields)] * asks
 
 

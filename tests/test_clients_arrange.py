@@ -15,6 +15,7 @@ from tests.drivers.plans_client import ClientCase, TypedSource, ended
 from tests.drivers.program import ran
 from tests.models.plans import examples
 from tests.models.scripts import CLUSTER, cluster_file
+from tests.models.workbook import open_workbook, workbook
 from tests.runner.case import Case
 
 DONE = '{"ok":"done"}'
@@ -347,6 +348,15 @@ class Spreadsheets(Case):
                 for data in text.encode(), text.encode("utf-8-sig"), text.encode("utf-16"), text.rstrip().encode():
                     self.reads(data)
                 self.reads(end.join(mark.join(f'"{field}"' for field in row) for row in self.ROWS))
+
+    def test_workbooks(self):
+        """Of Excel and of LibreOffice: the sheet is read whose first row names the columns."""
+        rows = [list(row) for row in self.ROWS]
+        for made in workbook, open_workbook:
+            self.reads(made(rows))
+            self.reads(made([[*row[::-1], ""] for row in rows]))
+            said = "grants.csv: no sheet has a first row that names the columns slot, channel, supplier, node"
+            self.stops(said, lambda: grants_of(self.table(made(rows[1:]))))
 
     def test_looks(self):
         """Columns in another order and more of them, capital letters in the header, spaces, leading zeros, letters of other codes, empty rows."""

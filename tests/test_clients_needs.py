@@ -110,6 +110,25 @@ class Typed(NeedsCase):
         self.see("folders", (0, wanted, ""), self.client("needs", "more", *asked, program=False))
         self.see("files", (0, wanted, ""), self.client("needs", "wishes/s1.csv", "more/s2", *asked, program=False))
 
+    def test_no_chain(self):
+        """Of 12 cycles 4 and 6 divide neither the other: the sum of what they take is a bound alone. 4 and 3 never meet in one slot."""
+        self.has("cluster.toml", cluster_file({**TEN, "cycles": "12"}))
+        head = "frame,node,channels,repetition\n"
+        for rows, need, new in ("f,n1,A,4\ng,n1,A,6\n", "A 1, B 0, both 0, or more", 1), ("f,n1,A,4\ng,n1,A,3\n", "A 1, B 0, both 0, or more", 2):
+            self.wishes(head + rows, head)
+            self.told(f"s1 n1: {need}\nall: A 1 of 10, B 0 of 10\nthe cluster has them; new grants: {new}\n", "--cluster", "cluster.toml")
+
+    def test_one_channel(self):
+        self.has("cluster.toml", cluster_file({**TEN, "channels": '"A"'}))
+        head = "frame,node,channels,repetition\n"
+        self.wishes(f"{head}f,n1,A,1\ng,n1,A,2\n", head)
+        told = "s1 n1: A 2, B 0, both 0\nall: A 2 of 10\nthe cluster has them; new grants: 2\n"
+        self.told(told, "--cluster", "cluster.toml", "--grants", "grants.csv")
+        self.see("grants", "slot,channel,supplier,node\n1,A,s1,n1\n2,A,s1,n1\n", self.text("grants.csv"))
+        self.wishes(f"{head}f,n1,AB,1\n", head)
+        said = "wishes/s1.csv: line 2: the cluster has no channel B"
+        self.stops(said, "needs", "wishes", "--cluster", "cluster.toml", program=False)
+
     def test_lacking(self):
         """The cluster has not the slots: nothing is written."""
         self.wishes(S1, "frame,node,channels,repetition\n" + "".join(f"x{number},n1,A,1\n" for number in range(9)))

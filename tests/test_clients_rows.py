@@ -235,10 +235,11 @@ class Workbooks(RowsCase):
 
     def test_sheets(self):
         """Of two sheets that have a header one is named."""
-        made = office(["".join(FIRST_CELLS)])
-        self.given(made, "lights.xlsx")
-        self.is_at_fault("there is no sheet 'Other'", "--sheet", "Other", name="lights.xlsx")
-        self.prints(f"{PLACES}\nlow_beam,lamp_unit,4,A,0,2\n", (), "--sheet", "Plan", name="lights.xlsx")
+        self.given(office(["".join(FIRST_CELLS)], name="Pläne"), "lights.xlsx")
+        self.is_at_fault("there is no sheet 'Plan'", "--sheet", "Plan", name="lights.xlsx")
+        self.prints(f"{PLACES}\nlow_beam,lamp_unit,4,A,0,2\n", (), "--sheet", "Pläne", name="lights.xlsx")
+        self.given(office(["".join([*FIRST_CELLS[:2], text("four"), *FIRST_CELLS[3:]])], name="Pläne"), "lights.xlsx")
+        self.is_at_fault("row 2 of 'Pläne': the slot 'four' is no number", name="lights.xlsx")
         cells = "".join(f"<table:table-cell><text:p>{name}</text:p></table:table-cell>" for name in ("frame", "node"))
         self.given(open_with("", before=f"<table:table-row>{cells}</table:table-row>"), "lights.ods")
         self.is_at_fault("2 sheets have a header: notes, slots & cycles; name one with --sheet", name="lights.ods")

@@ -10,7 +10,8 @@ from random import Random
 from threading import Event, Thread
 
 from tests.drivers.connections import (
-    EXISTS, FRAMES, HONEST, NOTHING, READ_FAILED, SCHEDULE, TRUNCATED, WHOLE, HeldCase, LongCase, PlannedCase, add_frame, adds, long_schedule, soon,
+    EXISTS, FRAMES, HONEST, NOTHING, READ_FAILED, SCHEDULE, TRUNCATED, WHOLE, HeldCase, LongCase, PlannedCase, add_frame, adds,
+    each_line, long_schedule, soon,
 )
 from tests.drivers.http_clients import (
     LATE, SHORT, comes_to, connected, descriptors, had, interrupt, is_heard, is_open, limited, narrow, open_at, put, received, reset, stopped,
@@ -26,16 +27,18 @@ from tests.runner.parameters import for_each
 
 # How many connections may be open, and within how many seconds so many are served, on a slow machine too.
 OPEN, ALL_SOON = 1_024, 20
+# How many make room at once.
+ROOM = 64
 
 
 # ---- many at once
 
 
 class Crowd(HeldCase):
-    """Of connections so many are open at once; where one more comes, one goes. Each client is answered its own request."""
+    """Of connections so many are open at once; where one more comes, some go. Each client is answered its own request."""
 
     def test_more_than_may_be_open(self):
-        """Those go whose requests have been awaited longest; one that sent a byte just now, too."""
+        """Those go that sent nothing, the first of them first and so many at once; one that sent a byte stays, however long ago it came."""
         more = 76
         with descriptors(2 * OPEN), ExitStack() as held:
             server, port = held.enter_context(self.served("--count", str(OPEN + more + HONEST), *limited(SECONDS)))
@@ -44,16 +47,18 @@ class Crowd(HeldCase):
             streams[0].sendall(FRAMES[0][:1])
             streams += [held.enter_context(connected(port)) for _ in range(more)]
             self.see("they are heard", True, is_heard(port))
-            self.see("no more than may be", OPEN, comes_to(OPEN, lambda: open_at(server)))
-            self.see("who went", [*range(more)], [number for number, stream in enumerate(streams) if not is_open(stream)])
-            self.see("what they were sent", {b""}, {had(stream) for stream in streams[:more]})
+            gone = range(1, 2 * ROOM + 1)
+            stay = OPEN + more - len(gone)
+            self.see("how many are open then", stay, comes_to(stay, lambda: open_at(server)))
+            self.see("who went", [*gone], [number for number, stream in enumerate(streams) if not is_open(stream)])
+            self.see("what they were sent", {b""}, {had(streams[number]) for number in gone})
             self.honest(port)
-            gone = more + 1
-            self.see("one goes for the first of them, who leaves room for the next", gone, sum(not is_open(stream) for stream in streams))
-            for stream in streams[gone:]:
+            self.see("nobody goes for those who find room", len(gone), sum(not is_open(stream) for stream in streams))
+            streams[0].sendall(FRAMES[0][1:])
+            for stream in streams[gone.stop:]:
                 stream.sendall(FRAMES[0])
-            self.see("to each of the others", {FRAMES[1]}, {received(stream) for stream in streams[gone:]})
-            self.ends(server, READ_FAILED * gone)
+            self.see("to each of the others", {FRAMES[1]}, {received(stream) for stream in [streams[0], *streams[gone.stop:]]})
+            self.ends(server, READ_FAILED * len(gone))
 
     def test_one_that_only_ends(self):
         """Where one has its reply and does not close, that goes, and no word is said; who is silent stays."""
@@ -104,6 +109,7 @@ class Crowd(HeldCase):
                 stream.close()
             self.see("the server ends", 0, server.wait(SECONDS))
             said = server.stderr.read()
+            said = each_line(said)
             self.see("what it said", {READ_FAILED[:-1], TRUNCATED[:-1]}, set(said.splitlines()))
             self.see("once of each", silent, said.count(b"\n"))
 
@@ -118,6 +124,32 @@ class Crowd(HeldCase):
             self.honest(port)
             self.see("nobody is left", 0, comes_to(0, lambda: open_at(server)))
             self.see("it goes on", None, server.poll())
+
+
+class Behind(HeldCase):
+    """Those that come while the server is at work wait for it, more than may be open; then they are accepted, and nobody is shut out."""
+
+    def test_many_silent(self):
+        with descriptors(4 * OPEN), self.served(*limited(SECONDS)) as (server, port), ExitStack() as held:
+            with stopped(server):
+                begun = time.monotonic()
+                for _ in range(2 * OPEN):
+                    held.enter_context(connected(port))
+                self.see("they come at once", True, soon(begun))
+            self.honest(port)
+
+
+class Taken(LongCase):
+    """A reply that its client takes slowly is not cut by those that send nothing, however many come."""
+
+    def test_among_silent(self):
+        with descriptors(4 * OPEN), self.served(*limited(SECONDS)) as (server, port), ExitStack() as held:
+            taking = held.enter_context(narrow(port))
+            taking.sendall(SCHEDULE)
+            taking.recv(1, socket.MSG_PEEK)
+            silent = [held.enter_context(connected(port)) for _ in range(OPEN + ROOM)]
+            self.see("the first that sent nothing goes", False, comes_to(False, lambda: is_open(silent[0])))
+            self.see("a long reply", True, received(taking) == text(long_schedule()))
 
 
 class Waiting(HeldCase):

@@ -71,7 +71,9 @@ class Commands(CommandCase):
         named = self.text("first/names.csv")
         self.see("a frame", 1, named.count(f"frame,/FRAME/{fibex.LONG_FRAME},,brakes,,Frame_With_A_Name_That_Is_Longer\n"))
         self.see("a signal", 1, named.count("signal,/SIGNAL/Torque,,brakes,Brake,Torque\n"))
-        self.has("names.csv", named.replace(",Frame_With_A_Name_That_Is_Longer\n", ",shorter\n").replace(",Brake,Torque\n", ",Brake,torque_of_brakes\n"))
+        for old, new in (",Frame_With_A_Name_That_Is_Longer\n", ",shorter\n"), (",Brake,Torque\n", ",Brake,torque_of_brakes\n"):
+            named = named.replace(old, new)
+        self.has("names.csv", named)
         self.see("it is imported again", 0, self.client("import", "again", *asked, "--names", "names.csv", program=False)[0])
         self.see("the same names", sorted(self.text("names.csv").splitlines()), sorted(self.text("again/names.csv").splitlines()))
         rows = "".join(it.read_text() for it in sorted((self.folder / "again/brakes").glob("*.csv")))

@@ -252,6 +252,7 @@ class Bits(FileCase):
         self.see("signals", (self.Y, self.X), self.read(text, {}).plan.frames[0].signals)
 
 
+XSI = "http://www.w3.org/2001/XMLSchema-instance"
 OTHER_WORDS = {
     "numbers": [("CYCLE>100<", "CYCLE>0x64<"), ("N-I-T>10<", "N-I-T>1e1<"), ("SLOT>10<", "SLOT>10.0<")],
     "spaces": [("<SLOT-ID>2<", "<SLOT-ID>\n  2 <"), ('REF ID-REF="fr"', 'REF ID-REF=" fr "')],
@@ -291,6 +292,14 @@ class OtherWords(FileCase):
         proposal = self.read(TYPED.replace("</ECUS>", f"{other}</ECUS>"), {})
         self.see("nodes", (Node("s1", "n1"), Node("s1", "n1_2")), proposal.plan.nodes)
         self.see("a note", ["/ECU/n1"], [note.what for note in proposal.notes if note.kind == "changed"])
+
+    def test_beside(self):
+        """Texts between elements, and attributes that say something, are noted; what is for schemas says nothing."""
+        text = TYPED.replace("<FIBEX ", f'<FIBEX xmlns:xsi="{XSI}" ').replace('<FRAME ID="fr">', '<FRAME ID="fr" OID="7" xsi:type="x">a remark')
+        notes = self.read(text, {}).notes
+        for what in "text beside the elements of FRAME", "attribute OID":
+            self.see(what, True, ("not kept", what, "1 in the file") in notes)
+        self.see("of schemas", [], [note for note in notes if "type" in note.what])
 
     def test_senders(self):
         """Who sends a frame that no port names a table may say, by the triggering's ID and the ECU's name."""
@@ -388,7 +397,8 @@ class Damaged(FileCase):
     def of_this(self, lines, table):
         refused = 0
         for number in range(self.turn % self.each, OF_EACH, self.each):
-            hurt = damaged(lines, random.Random(number))
+            dice = random.Random(number)
+            hurt = with_other_references(damaged(lines, dice), dice)
             outcome = self.outcome(hurt, table)
             if isinstance(outcome, str):
                 refused += 1
@@ -406,6 +416,18 @@ class Damaged(FileCase):
 
     def test_of_another_tool(self):
         self.of_this(fibex.foreign().replace("><", ">\n<"), fibex.SUPPLIERS)
+
+
+REFERENCE = re.compile(' ID(?:-REF)?="([^"]*)"')
+
+
+def with_other_references(text, dice):
+    """The text, of which some IDs and references are others, or none."""
+    for _ in range(dice.choice((0, 1, 3, 20))):
+        found = list(REFERENCE.finditer(text))
+        hurt, other = dice.choice(found), dice.choice(found)
+        text = text[: hurt.start(1)] + dice.choice((other[1], other[1], "", f" {hurt[1]} ", "none")) + text[hurt.end(1) :]
+    return text
 
 
 def small(**figures):

@@ -138,13 +138,13 @@ class Laws(Case):
 
 
 class Promises(Case):
-    """README and docs/PROVED.md have the six promises with the same words."""
+    """README and docs/PROVED.md have the promises with the same words."""
 
     def test_words(self):
         readme = (TOP / "README.md").read_text().partition("## What is promised")[2].partition("\n## ")[0]
         promised = [" ".join(it.split()) for it in re.findall(r"^\d\. ((?:.+\n)+?)(?=\d\. |\n)", readme, re.M)]
         quoted = re.findall(r"^((?:> .+\n)+)", (TOP / "docs/PROVED.md").read_text(), re.M)
-        self.see("how many there are", 6, len(promised))
+        self.see("how many there are", 7, len(promised))
         self.see("the promises", promised, [" ".join(it.replace("\n> ", " ").removeprefix("> ").split()) for it in quoted])
 
 

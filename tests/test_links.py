@@ -9,6 +9,7 @@ import socket
 import struct
 from contextlib import ExitStack
 
+from tests.drivers.connections import each_line
 from tests.drivers.http_clients import connected, had, is_heard, put
 from tests.drivers.preload import Links
 from tests.drivers.program import SECONDS, ran
@@ -216,7 +217,7 @@ class Cut(LinkCase):
                 cut(port, ADD[:end], True)
             self.see("nothing was asked", ONE_FRAME, replied(port, FRAMES))
             self.ends(server)
-            said = server.stderr.read().splitlines()
+            said = each_line(server.stderr.read()).splitlines()
         # They are side by side: which word comes first is left open.
         self.see("each cut is said", len(cuts), said.count(b"slotplan: Truncated"))
         # A client that is gone may be told where `100 Continue` is written, too.
@@ -328,10 +329,10 @@ class Interrupted(FailingCase):
         self.interrupted(1_000, ["import", "car.db", "-", "v1", "a", "signals.csv"], b"supplier01\n", (0, b'{"ok":"imported","rows":1}\n', b""))
 
     def test_words(self):
-        """A line is told in three writes. With 334 interruptions before each, the last of the first line meets 333 of them, and the line
-        ends so. The one that is left meets the second line, which then has 669 in all. The third is as the first."""
-        whole, cut_off = b"slotplan: Truncated\n", b"slotplan: Truncated"
-        for waits, lines in (333, 3 * whole), (334, cut_off + whole + cut_off):
+        """A line is told in one write. With 1,001 interruptions before each, the first line is given up; the next meets none, and tells how often the
+        word came again."""
+        first, again = b"slotplan: Truncated\n", b"slotplan: Truncated (2 more)\n"
+        for waits, lines in (1_000, first + again), (1_001, again):
             with self.served("--count", "3", env=self.links.ending(ERROR_WAITS=waits)) as (server, port):
                 for _ in range(3):
                     cut(port, ADD[:1], False)

@@ -115,6 +115,8 @@ class OpenApi(Case):
         listed = {it["$ref"].rsplit("/", 1)[1] for it in self.schemas["Refused"]["oneOf"]}
         told = {**statuses(), "BadRow": (29, 422)}
         for number, name, status in refusals():
+            if name == "NoRoom":  # which stands in lines of a proposal alone
+                continue
             schema = self.schemas.get(name, {})
             self.see(f"{name} is listed", True, name in listed)
             self.see(f"{name}: number", number, schema.get("properties", {}).get("no", {}).get("const"))

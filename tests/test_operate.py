@@ -1,7 +1,6 @@
 """The backup script and the files for nginx of docs/OPERATE.md, taken from the page and run beside a server of the program, as their user has them.
 
-Their folders and ports are the test's own. Where the script calls systemctl the test starts and stops the server. What is wanted was typed by
-hand."""
+Their folders and ports are the test's own. What is wanted was typed by hand."""
 import os
 import re
 import shutil
@@ -12,23 +11,31 @@ import subprocess
 import time
 from contextlib import ExitStack, closing
 from json import loads
-from threading import Thread
+from threading import Event, Thread
 
 from tests import TOP
 from tests.drivers.http_clients import comes_to, connected, had
-from tests.drivers.program import SECONDS, program
+from tests.drivers.program import SECONDS, program, ran
 from tests.drivers.registers import RegisterCase
-from tests.drivers.server import HERE, free_port, listens_on, sent, started
-from tests.models.messages import DONE, UNKNOWN, command, head, json, post, refused, text
+from tests.drivers.server import HERE, free_port, sent, started
+from tests.models.messages import DONE, UNKNOWN, command, head, json, post, put, refused, text
 
 PAGE = (TOP / "docs/OPERATE.md").read_text()
 SCRIPT = re.search(r"^Put this at `/usr/local/sbin/slotplan-backup`[^\n]*\n\n```sh\n(.*?)```\n", PAGE, re.M | re.DOTALL)[1]
-# What it calls. What is asked of systemctl goes through one pipe; it is done once a line comes from the other.
-SYSTEMCTL = 'echo "$*" > "$ROOM/asked"\nread -r done < "$ROOM/done"\n'
+# What it must not call.
+SYSTEMCTL = 'echo "$*" >> "$ROOM/asked"\n'
 # In place of sqlite3: one that loses grants as it copies, one that finds a copy unsound, and one that takes its time, as long as a file is there.
 LACKING = '"$SQLITE3" "$@"\ncase "$2" in .backup*) "$SQLITE3" "$ROOM"/copies/new.*/copy.db "DELETE FROM grants" ;; esac\n'
 UNSOUND = 'case "$2" in PRAGMA*) echo "wrong # of entries in index grants_by_supplier" ;; *) exec "$SQLITE3" "$@" ;; esac\n'
 SLOW = 'touch "$ROOM/begun"\nwhile test -e "$ROOM/begun"; do sleep 0.1; done\nexit 1\n'
+# In place of cp: one behind whose copy of the database the log gets another head, as where it is emptied, to the first letter of a file's next line.
+EMPTIED = """\
+cp "$@"
+case "$1" in *.db) if test -s "$ROOM/times"; then
+    head -c 1 "$ROOM/times" | dd of="$1-wal" bs=1 seek=20 conv=notrunc status=none
+    sed -i 1d "$ROOM/times"
+fi ;; esac
+"""
 EMPTY_LOG = 41  # so many bytes has a log that has nothing
 DAY = 24 * 60 * 60
 
@@ -38,7 +45,7 @@ def opens(name):
 
 
 class Backups(RegisterCase):
-    """The script keeps a copy that tells what the register tells, or none; the server runs behind it, whatever happens."""
+    """The script keeps a copy that tells what the register tells, or none. The server goes on meanwhile, and one that was stopped stays so."""
 
     waits = in_memory = True
 
@@ -52,41 +59,16 @@ class Backups(RegisterCase):
         self.plan("registers/car.db")
         self.is_command("systemctl", SYSTEMCTL)
         (self.commands / "slotplan").symlink_to(program())
-        for pipe in "asked", "done":
-            os.mkfifo(self.folder / pipe)
-        self.asked, self.running = [], None
-        self.does = {"start slotplan@car": self.start, "stop slotplan@car": self.stop}
-        self.start()
-        systemd = Thread(target=self.obey)
-        systemd.start()
-        self.addCleanup(self.stop)
-        self.addCleanup(systemd.join)
-        self.addCleanup((self.folder / "asked").write_text, "end\n")
+        self.server, _, self.port = self.enterContext(started(self.registers))
 
     def is_command(self, name, text):
         path = self.commands / name
         path.write_text(f"#!/bin/sh\n{text}")
         path.chmod(0o755)
 
-    def start(self):
-        if not self.running:
-            self.running = started(self.registers)
-            self.server, line, self.port = self.running.__enter__()
-            assert line == listens_on(self.port), line
-
     def stop(self):
-        if self.running:
-            self.server.terminate()
-            self.server.wait(SECONDS)
-            self.running.__exit__(None, None, None)
-            self.running = None
-
-    def obey(self):
-        """Does what systemctl is asked, until the test ends."""
-        while (words := (self.folder / "asked").read_text().strip()) != "end":
-            self.asked.append(words)
-            self.does[words]()
-            (self.folder / "done").write_text("done\n")
+        self.server.terminate()
+        self.server.wait(SECONDS)
 
     def script(self, name="car"):
         """The script as it runs: that of the page, over the test's folders."""
@@ -102,7 +84,7 @@ class Backups(RegisterCase):
             got = script.stderr.read()
             self.see("the script's status", status, script.wait(SECONDS))
         self.see(f"it says {said}", True, said in got if said else got == b"" or got)
-        self.see("the server runs", None, self.server.poll())
+        self.see("it asks nothing of systemd", False, (self.folder / "asked").exists())
         return sorted(self.kept() - before)
 
     def kept(self):
@@ -131,7 +113,7 @@ class Backups(RegisterCase):
         self.see("one more copy and nothing else", 1, len(second))
         self.copy_tells(second[0], b"of_the_register - 1 open\nv1 - 1 open\n")
         self.copy_tells(first[0], b"of_the_copy - 1 open\nv1 - 1 open\n")
-        self.see("what it asks of systemd", ["stop slotplan@car", "start slotplan@car"] * 2, self.asked)
+        self.see("the server goes on", None, self.server.poll())
 
     def test_copy_that_lacks_rows(self):
         """A copy that a supplier's report tells apart from the register is not kept."""
@@ -150,40 +132,89 @@ class Backups(RegisterCase):
 
     def test_no_register(self):
         self.see("copies", [], self.backed_up(1, f"slotplan-backup: there is no {self.registers}/bus.db\n".encode(), "bus"))
-        self.see("what it asks of systemd", [], self.asked)
 
     def test_copy_that_is_not_sound(self):
         self.is_command("sqlite3", UNSOUND)
         self.see("copies", [], self.backed_up(1, b"slotplan-backup: the copy is not sound\n"))
 
-    def test_register_that_another_has(self):
-        """While somebody works on the register by hand there is no copy."""
-        self.does.update({"stop slotplan@car": self.held, "start slotplan@car": self.let_go})
-        self.see("copies", [], self.backed_up(1, b"database is locked"))
-
-    def held(self):
-        """The server is stopped, and `ask` has the register."""
+    def test_register_that_a_command_has(self):
+        """So it is while somebody works on the register by hand."""
         self.stop()
-        self.asks = subprocess.Popen([program(), "ask", "car.db"], cwd=self.registers, stdin=subprocess.PIPE, stdout=subprocess.PIPE, bufsize=0)
-        self.asks.stdin.write(b'integrator1 {"do":"variants"}\n')
-        self.asks.stdout.readline()
+        with subprocess.Popen([program(), "ask", "car.db"], cwd=self.registers, stdin=subprocess.PIPE, stdout=subprocess.PIPE, bufsize=0) as asks:
+            asks.stdin.write(b'integrator1 {"do":"open_variant","variant":"by_hand"}\n')
+            asks.stdout.readline()
+            (copy,) = self.backed_up()
+            asks.communicate()
+        self.copy_tells(copy, b"by_hand - 1 open\nv1 - 1 open\n")
 
-    def let_go(self):
-        self.asks.communicate()
-        self.start()
+    def test_server_that_was_stopped(self):
+        """It stays stopped; the copy has what stood in its log alone."""
+        self.replies(opens(b"in_the_log"))
+        self.server.send_signal(signal.SIGKILL)
+        self.server.wait(SECONDS)
+        self.see("the log has it", True, (self.registers / "car.db-wal").stat().st_size > EMPTY_LOG)
+        (copy,) = self.backed_up()
+        self.copy_tells(copy, b"in_the_log - 1 open\nv1 - 1 open\n")
+
+    def test_log_that_is_emptied_meanwhile(self):
+        """It copies again; of 20 such copies none is kept."""
+        self.replies(opens(b"more"))
+        self.stop()
+        self.is_command("cp", EMPTIED.replace("cp ", f"{shutil.which('cp')} ", 1))
+        self.is_command("sleep", "exit 0\n")
+        (self.folder / "times").write_text("a\nb\n" * 10)
+        self.see("copies", [], self.backed_up(1, b"slotplan-backup: of 20 copies none was whole\n"))
+
+    def test_beside_changes(self):
+        """A copy has each change that was answered before it, and of those that were sent meanwhile the first ones, whole."""
+        header, ends = b"frame,node\n", Event()
+        count = {"sent": 0, "answered": 0}
+
+        def change():
+            while not ends.is_set():
+                count["sent"] += 1
+                body = header + b"".join(b"f%d_%d,n1\n" % (count["sent"], row) for row in range(100))
+                sent(self.port, put("/v1/variants/v1/rows/whole", "supplier01", body))
+                count["answered"] = count["sent"]
+
+        changes = Thread(target=change)
+        changes.start()
+        self.addCleanup(changes.join)
+        self.addCleanup(ends.set)
+        self.see("changes are answered", True, comes_to(True, lambda: count["answered"] > 2))
+        for _ in range(3):
+            before = count["answered"]
+            (copy,) = self.backed_up()
+            behind = count["sent"]
+            told = ran(["frames", f"copies/{copy}", "v1", "--supplier", "s1"], self.folder)[1].decode().split()[1::3]
+            numbers = {int(name.partition("_")[0][1:]) for name in told}
+            self.see("all frames are of one change", (100, 1), (len(told), len(numbers)))
+            self.see("of which", True, before <= min(numbers) <= behind)
+            time.sleep(1)
+
+    def test_two_at_once(self):
+        """The second waits for the first; each has its copy."""
+        self.is_command("sqlite3", SLOW.replace("exit 1", 'exec "$SQLITE3" "$@"'))
+        with self.script() as first:
+            self.see("the first is at work", True, comes_to(True, (self.folder / "begun").exists))
+            with self.script() as second:
+                time.sleep(1)
+                self.see("the second waits", (None, 1), (second.poll(), len(self.kept())))
+                self.is_command("sqlite3", 'exec "$SQLITE3" "$@"\n')
+                (self.folder / "begun").unlink()
+                self.see("both end", (0, 0), (first.wait(SECONDS), second.wait(SECONDS)))
+        self.see("copies", 2, len(self.kept()))
 
     def test_killed_while_it_copies(self):
-        """The server is started again, and nothing is left."""
+        """Nothing is left."""
         self.is_command("sqlite3", SLOW)
         with self.script() as script:
             until = time.monotonic() + SECONDS
             while not (self.folder / "begun").exists() and time.monotonic() < until:
                 time.sleep(0.01)
-            self.see("the server is stopped meanwhile", None, self.running)
             script.terminate()
             (self.folder / "begun").unlink()
             self.see("the script's status", 1, script.wait(SECONDS))
-        self.see("the server runs", None, self.server.poll())
         self.see("what is left", set(), self.kept())
 
     def test_old_copies(self):
@@ -264,7 +295,7 @@ class Proxied(RegisterCase):
             ("listen 443 ssl;", f"listen {HERE}:{self.port} ssl;"),
             ("/etc/nginx/slotplan.owners", f"{self.folder}/owners"),
             ("/etc/ssl/", f"{self.folder}/"),
-            ("/var/log/nginx/slotplan.log", str(self.log)),
+            ("/var/log/slotplan/requests.log", str(self.log)),
             ("http://127.0.0.1:8080", f"http://{HERE}:{self.behind}"),
         ):
             self.see(f"the page has {old}", True, old in front)
@@ -374,12 +405,76 @@ class Proxied(RegisterCase):
         for line, said in self.lines(len(asked)):
             self.see("whose it is", "nobody", said["owner"])
             self.see("how long its line is", True, len(line) <= LINE or line[:LINE])
-        known = len(asked)
-        self.asked(command("supplier01", b'{"do":"grants","variant":"v1"}', CLOSE))
-        self.asked(command("integrator1", b'{"do":"set_key","supplier":"s1","key":"newKey2026"}', CLOSE))
-        bodies = [said["body"] for _, said in self.lines(known + 2)[known:]]
-        self.see("bodies of known owners", ['{"do":"grants","variant":"v1"}', "(not shown: it has a key)"], bodies)
-        self.see("keys in the log", [], [key for key in ("supplier01", "integrator1", "newKey2026") if key in self.log.read_text()])
+
+    def test_bodies_of_the_log(self):
+        """Those of known owners are logged where they have no key, and take twice their length at most."""
+        self.begin()
+        rows, secret = b"frame,node\nf7,n1\n", b'integrator1 {"do":"variants"}\n'
+        shown = {
+            command("supplier01", b'{"do":"grants","variant":"v1"}', CLOSE): '{"do":"grants","variant":"v1"}',
+            command("supplier01", b' {"do":"replace","variant":"v1","body":"frame,node\\nf7,n1\\n"}\n', CLOSE): None,
+            put("/v1/variants/v1/rows", "supplier01", rows, CLOSE): rows.decode(),
+            post("/v1/variants/v1/tries", "supplier01", b"\xef\xbb\xbf" + rows, CLOSE): "\ufeff" + rows.decode(),
+            head("GET", SCHEDULE_PATH, "supplier01", CLOSE): "",
+        }
+        longest = post("/v1/variants/v1/tries", "supplier01", b"frame," + b'"\n' * 32_765, CLOSE)
+        hidden = [
+            post("/v1/checks/requests", "supplier01", secret, CLOSE),
+            post("/v1/checks/rows", "supplier01", rows, CLOSE),
+            post("/v1/commands", "supplier01", secret, CLOSE),
+            post("/v1/variants/v1/imports/w1", "supplier01", secret, CLOSE),
+            post("/v1/variants/v1/imports/w1", "supplier01", rows + secret, CLOSE),
+            command("integrator1", b'{"do":"variants"}\n' + secret + b"{}", CLOSE),
+            command("integrator1", b'{"do":"set_key","supplier":"s1","key":"supplier02"}', CLOSE),
+            command("integrator1", b'{"do":"set_key","supplier":"s1","k\\u0065y":"newKey2026"}', CLOSE),
+            command("integrator1", b"\x01" * 65_536, CLOSE),
+            post("/v1/variants/v1/tries", "integrator1", b"frame," + b"\x01" * 65_530, CLOSE),
+        ]
+        for data in (*shown, longest, *hidden):
+            self.asked(data)
+        told = self.lines(len(shown) + 1 + len(hidden))
+        wanted = [text if text is not None else data.partition(b"\r\n\r\n")[2].decode() for data, text in shown.items()]
+        self.see("bodies that are shown", wanted, [said["body"] for _, said in told[: len(shown)]])
+        line, said = told[len(shown)]
+        self.see("the longest body is there", 65_536, len(said["body"]))
+        self.see("how long its line is", True, len(line) <= 2 * 65_536 + LINE)
+        others = told[len(shown) + 1 :]
+        self.see("bodies that are not", {"(not shown)", "(not shown: it may have a key)"}, {said["body"] for _, said in others})
+        self.see("whose they are", {"s1", "integrator"}, {said["owner"] for _, said in others})
+        self.see("keys in the log", [], [key for key in ("supplier01", "supplier02", "integrator1", "newKey2026") if key in self.log.read_text()])
+
+    def test_two_keys(self):
+        """Who shows two keys is the one that the log names, or nobody."""
+        self.begin()
+        pairs = ("supplier01", "integrator1"), ("integrator1", "supplier01"), ("nobody123", "integrator1")
+        for count, (first, second) in enumerate(pairs, 1):
+            status, body, _ = self.asked(head("GET", "/v1/nodes", first, f"X-Office-Key: {second}", CLOSE))
+            owner = {b"n1\n": "s1", b"n1 s1\n": "integrator"}.get(body, "nobody")
+            self.see(f"to {first} and {second}", owner, self.lines(count)[-1][1]["owner"])
+            self.see("its status", owner == "nobody", status != "200")
+
+    def test_unknown_bodies(self):
+        """Of who is nobody no body comes to the register, and the answer is the register's; what is asked without a body goes on."""
+        self.begin()
+        for data in command("nobody123", b"{", CLOSE), put("/v1/variants/v1/rows", "nobody123", b"x", CLOSE), command(None, b"{}", CLOSE):
+            self.replies(data, UNKNOWN)
+        self.replies(head("GET", "/v1/explanations/Taken", None, CLOSE), text(sent(self.behind, head("GET", "/v1/explanations/Taken")).partition(b"\r\n\r\n")[2]))
+
+    def test_fields(self):
+        """What a key's owner alone may see nobody keeps; a browser comes by TLS alone; texts are compressed for who takes that."""
+        self.begin()
+        for path in SCHEDULE_PATH, "/v1/nothing":
+            said = self.asked(head("GET", path, "supplier01", CLOSE))[2].lower()
+            for field in b"cache-control: no-store", b"vary: x-office-key", b"strict-transport-security: max-age=31536000":
+                self.see(f"{path}: {field}", 1, said.count(b"\r\n" + field))
+        page = self.asked(head("GET", "/", None, CLOSE))[2].lower()
+        self.see("the page", (1, 1), (page.count(b"\r\nstrict-transport-security: "), page.count(b"\r\ncache-control: no-cache")))
+        sent_rows = b"frame,node\n" + b"".join(b"frame_of_a_long_name_%d,n1\n" % row for row in range(200))
+        self.asked(put("/v1/variants/v1/rows", "supplier01", sent_rows, CLOSE))
+        for path in "/v1/variants/v1/frames", "/v1/variants/v1/exports/frames/0":
+            reply = self.sent(head("GET", path, "supplier01", CLOSE, "Accept-Encoding: gzip"))
+            plain = self.sent(head("GET", path, "supplier01", CLOSE))
+            self.see(f"{path} is compressed", (True, True), (b"content-encoding: gzip" in reply.lower(), len(reply) < len(plain) / 3))
 
     def test_slow_bodies(self):
         """Of one address so many may be under way. Others are let go, so that nginx has connections left, and who comes from another is answered."""

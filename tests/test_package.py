@@ -140,7 +140,7 @@ class Folder(Made):
 
 
 class Elsewhere(Made):
-    """What needs more than the gate has: zsh, man, dpkg-deb, and a clean root, which CLEAN_ROOT names, as debootstrap makes one; it is not changed."""
+    """What needs more than the gate has: zsh, man, systemd, dpkg-deb, and a clean root, which CLEAN_ROOT names, as debootstrap makes one; it is not changed."""
 
     may_be_skipped = True
 
@@ -188,6 +188,17 @@ class Elsewhere(Made):
             wanted = [help.splitlines()[0], *(line.removeprefix("Usage: ") for line in told)]
             self.see(f"{name}: what man warns of", "", got.stderr)
             self.see(f"{name}: what its page lacks", [], [line for line in wanted if " ".join(line.split()) not in shown])
+
+    def test_units(self):
+        """systemd finds no fault in the units."""
+        if not shutil.which("systemd-analyze"):
+            self.skipTest("there is no systemd-analyze")
+        units = []
+        for path in (self.tree / "lib/systemd/system").iterdir():
+            units.append(self.folder / path.name.replace("@", "@car"))
+            units[-1].write_text(path.read_text().replace("/usr/local/", f"{self.tree}/"))
+        got = subprocess.run(["systemd-analyze", "verify", *units], capture_output=True, text=True, timeout=SECONDS)
+        self.see("three units, and what is said of them", (3, 0, ""), (len(units), got.returncode, got.stdout + got.stderr))
 
     def debian(self):
         """The .deb unpacked."""

@@ -1,9 +1,11 @@
 """Modules of the planners' page, without a browser: what they make of reports and of files is what models/naive.py and python3's csv tell, or what
 was typed from the formats."""
+import base64
 import csv
 import io
 import json
 import random
+import zipfile
 from math import gcd
 
 from tests.drivers.modules import ModulesCase
@@ -572,3 +574,122 @@ class Grants(ModulesCase):
         got = self.tried(lanes=lanes, refused=6)
         self.see("the history", [[[3], []], [[1], [2]], [[1, 2], []]], got["counts"])
         self.see("what is held", sorted(lanes), sorted(got["held"]))
+
+
+class Wishes(ModulesCase):
+    """Wishes as they are typed and pasted: their repetitions by gaps, and what was proposed in a sentence."""
+
+    CLUSTER = {**CLUSTER, "macroticks_per_cycle": 5000, "cycles": 64}
+    SCRIPT = """return given.texts.map(([text, microseconds]) => {
+            const frame = {name: "f", supplier: "s1", node: "n7", placements: []}, times = new Times();
+            times.microseconds = microseconds;
+            const desk = {cluster: given.cluster, times, me: "s1", plan: {frameNamed: (_, name) => name === "f" ? frame : null}};
+            const {wishes, fault} = wishesIn(text, desk);
+            return [wishes.map(({frame, node, channels, repetition, fault}) => [frame, node, channels, repetition, fault]), fault];
+        });"""
+
+    def test_texts(self):
+        def wish(*fields, fault=""):
+            return [*fields, fault]
+
+        cases = [
+            ("frame,node,channels,repetition\nf,n1,A,64\n", 0, [wish("f", "n1", "A", 64)]),
+            ("frame\tnode\tchannels\trepetition\r\ng\tn1\tA+B\t2\r\n\r\n", 0, [wish("g", "n1", "AB", 2)]),
+            # A cycle is 5,000 macroticks; with 1 microsecond each it is 5 ms.
+            ("Frame;Node;Channel;Cycle time (ms)\ng;n1;a;10\ng;n1;A;12.5\ng;n1;A;5\ng;n1;A;400\n", 1,
+             [wish("g", "n1", "A", 2), wish("g", "n1", "A", 2), wish("g", "n1", "A", 1), wish("g", "n1", "A", 64)]),
+            ("frame\tnode\tchannels\tgap\ng\tn1\tB\t40 ms\ng\tn1\tB\t20,000 macroticks\n".replace("20,000", "20000"), 1, [wish("g", "n1", "B", 8), wish("g", "n1", "B", 4)]),
+            ("frame\tnode\tchannels\tgap\ng\tn1\tB\t3 cycles\ng\tn1\tB\t19999 MT\n", 0, [wish("g", "n1", "B", 2), wish("g", "n1", "B", 2)]),
+            ("frame\tchannels\tgap macroticks\nf\tA\t5000\n", 0, [wish("f", "n7", "A", 1)]),
+            ("frame\tnode\tchannels\tperiod ms\ng\tn1\tA\t2\n", 1, [wish("g", "n1", "A", None, fault="It is shorter than a cycle, so it needs 3 slots in each: ask for 3 placements of repetition 1.")]),
+            ("frame\tnode\tchannels\tperiod ms\ng\tn1\tA\t2\n", 0, [wish("g", "n1", "A", None, fault="Choose milliseconds above, and say how long a macrotick is.")]),
+            ("frame\tnode\tchannels\tgap\ng\tn1\tA\tsoon\ng\tn1\tA\t7\n", 0, [wish("g", "n1", "A", None, fault='"soon" is no gap.'), wish("g", "n1", "A", None, fault="7 has no unit: ms, macroticks or cycles.")]),
+            ("frame,node,channels,repetition\ng,n1,A,often\n", 0, [wish("g", "n1", "A", None, fault='"often" is no repetition.')]),
+        ]
+        imports = {"wishes": "wishesIn", "times": "Times"}
+        got = self.run_script(imports, self.SCRIPT, {"cluster": self.CLUSTER, "texts": [(text, microseconds) for text, microseconds, _ in cases]})
+        for (what, _, wanted), (wishes, fault) in zip(cases, got):
+            self.see(what, (wanted, ""), (wishes, fault))
+        faulty = ["", "frame,node\nf,n1\n", "frame,node,slot,channels,base,repetition\nf,n1,1,A,0,1\n", "hello"]
+        for text_, (wishes, fault) in zip(faulty, self.run_script(imports, self.SCRIPT, {"cluster": self.CLUSTER, "texts": [(one, 0) for one in faulty]})):
+            self.see(f"{text_!r} is none", ([], True), (wishes, fault.startswith("The first line names the columns")))
+
+    def test_answers(self):
+        """The worked rows of proposals as they are answered."""
+        script = """return given.map(lines => { try {
+            const told = readProposal({lines}), plan = {frames: [{name: "a", supplier: "s1", placements: [{slot: 1, channels: "A", base: 7, repetition: 8}]}]};
+            return [proposalText(told, plan, "s1", false), proposalText(told, plan, "s1", true), new TextDecoder().decode(placementsFile(told.rows)), lackMail(told.lacks, {variant: "v1", me: "s1"})];
+        } catch (fault) { if (fault instanceof Strange) return null; throw fault; } });"""
+        head = "frame,node,slot,channels,base,repetition\n"
+        good = ["0002 00 a,n1,1,A,7,8", "0003 00 b,n1,1,A,1,4", "0004 00 f,n1,1,A,2,4"]
+        cases = [
+            (good, ["All 3 fit.", "All 3 fit. 1 stays where it is.", head + "a,n1,1,A,7,8\nb,n1,1,A,1,4\nf,n1,1,A,2,4\n"]),
+            ([*good, "0005 32 NoRoom", "0006 32 NoRoom", "LACK n1 A 0001"], ["3 of 5 fit. Node n1 needs 1 slot more on A.", "3 of 5 fit. Node n1 needs 1 slot more on A. 1 stays where it is.",
+                                                                            head + "a,n1,1,A,7,8\nb,n1,1,A,1,4\nf,n1,1,A,2,4\n"]),
+            (["0002 00 h,n1,1,AB,0,2", "LACK n1 AB 0003"], ["It fits.", "It fits. 0 stay where they are.", head + "h,n1,1,AB,0,2\n"]),
+            (["0002 20 NodeDiffers"], ["0 of 1 fit.", "0 of 1 fit. 0 stay where they are.", head]),
+        ]
+        got = self.run_script({"reports": "readProposal", "wishes": "proposalText, placementsFile, lackMail", "faults": "Strange"}, script, [lines for lines, _ in cases])
+        for (lines, wanted), told in zip(cases, got):
+            self.see(lines, wanted, told[:3])
+        self.see("a mail", True, "- 1 slot, empty in all cycles, on A, for node n1" in got[1][3] and "for v1" in got[1][3])
+        bad = [["0002 00 NoRoom"], ["0002 32 a,n1,1,A,7,8"], ["0002 31 NoRoom"], ["LACK n1 C 0001"], ["0002 00 a,n1,1,AC,7,8"], "x"]
+        self.see("lines that no proposal has", [None] * len(bad), self.run_script({"reports": "readProposal", "wishes": "proposalText, placementsFile, lackMail", "faults": "Strange"}, script, bad))
+
+
+class Bounds(ModulesCase):
+    """Files that are no plan are told so at once, however they are made."""
+
+    SECONDS = 20
+    SCRIPT = """const said = [];
+        for (const [name, text] of given) {
+            const begun = performance.now(), file = await looked(name, Uint8Array.from(atob(text), letter => letter.charCodeAt(0)));
+            said.push([file.kind, file.fault, file.records.length, (performance.now() - begun) / 1000]);
+        }
+        return said;"""
+
+    def looked_at(self, files):
+        given = [(name, base64.b64encode(content).decode()) for name, content in files]
+        return self.run_script({"looking": "looked"}, self.SCRIPT, given)
+
+    def packed(self, parts):
+        out = io.BytesIO()
+        with zipfile.ZipFile(out, "w", zipfile.ZIP_DEFLATED) as packed:
+            for path, content in parts.items():
+                packed.writestr(path, content)
+        return out.getvalue()
+
+    def excel(self, sheet):
+        rels = '<Relationships><Relationship Id="r1" Target="worksheets/one.xml"/></Relationships>'
+        named = '<workbook><sheets><sheet name="one" r:id="r1"/></sheets></workbook>'
+        return self.packed({"xl/workbook.xml": named, "xl/_rels/workbook.xml.rels": rels, "xl/worksheets/one.xml": sheet})
+
+    def test_files(self):
+        row = '<row><c r="{}1" t="inlineStr"><is><t>x</t></is></c></row>'
+        text = "<table:table-cell{}><text:p>x</text:p></table:table-cell>"
+        open_sheet = "<table:table><table:table-row{}>{}</table:table-row></table:table>"
+        columns, rows = ' table:number-columns-repeated="1000"', ' table:number-rows-repeated="4000000"'
+        cases = [
+            ("rows without an end", "a.xlsx", self.excel("<sheetData>" + "<row>" * 1_500_000), "an element of it has no end"),
+            ("cells without an end", "a.xlsx", self.excel("<sheetData><row>" + "<c " * 2_000_000 + "</row>"), ""),
+            ("a cell at ZZZ", "a.xlsx", self.excel(row.format("ZZZ") * 2000), "more than 256 columns"),
+            ("65,536 columns", "a.xlsx", self.excel("<row>" + "<c><v>1</v></c>" * 65_536 + "</row>"), "more than 256 columns"),
+            ("many rows", "a.xlsx", self.excel("<row><c><v>1</v></c></row>" * 30_000), "more than 20,000 rows"),
+            ("a head without an end", "a.xlsx", self.excel("<row " + "a" * 3_000_000 + ">"), "an element of it has no end"),
+            ("notes without an end", "a.xlsx", self.excel('<row><c t="inlineStr"><is>' + "<rPh>" * 500_000 + "</is></c></row>"), "an element of it has no end"),
+            ("columns repeated", "a.ods", self.packed({"content.xml": open_sheet.format("", text.format(columns) * 500)}), "more than 256 columns"),
+            ("rows repeated", "a.ods", self.packed({"content.xml": open_sheet.format(rows, text.format(""))}), "more than 20,000 rows"),
+            ("a long field", "a.csv", b"frame,node\n" + b"f" * 3_900_000 + b",n1\n", "Row 2 has a field of 3,900,000 letters"),
+            ("a long quoted field", "a.csv", b'frame,node\n"' + b'""' * 1_900_000 + b'",n1\n', "Row 2 has a field of 1,900,000 letters"),
+            ("210,000 rows of a frame", "a.csv", b"frame,node\n" + b"f,n1\n" * 210_000, "It has 210,000 rows"),
+            ("a row of many fields", "a.csv", b"frame,node\n" + b"," * 3_000_000 + b"\n", "Row 2 has 3,000,001 fields"),
+        ]
+        for (what, *_, wanted), (kind, fault, _, seconds) in zip(cases, self.looked_at([(name, content) for _, name, content, _ in cases])):
+            self.see(f"{what}: it is told", True, (kind is None and fault != "" and wanted in fault) or fault)
+            self.see(f"{what}: soon", True, seconds < self.SECONDS or seconds)
+
+    def test_good_ones_are_read(self):
+        sheet = ('<sheetData><row r="1"><c r="A1" t="inlineStr"><is><t>frame</t></is></c><c r="B1" t="inlineStr"><is><t>no<rPh sb="0"><t>gone</t></rPh>de</t></is></c></row>'
+                 '<row/><row r="3"><c r="A3" t="inlineStr"><is><t>f1</t></is></c><c r="B3" t="inlineStr"><is><t>n1</t></is></c><c r="ZZZ3" s="1"/></row></sheetData>')
+        (kind, fault, *_), = self.looked_at([("a.xlsx", self.excel(sheet.replace("no<rPh", "node</t><rPh").replace("</rPh>de</t>", "</rPh>")))])
+        self.see("it is read", True, "Its sheet one has rows that the register reads" in fault or fault)

@@ -4,10 +4,10 @@ from fractions import Fraction
 
 from . import reading
 from .faults import Fault
+from .files import key_in
 from .plan import FIGURES, Cluster
 from .sources import RegisterFile, Server
 from .spans import Clock
-from .files import key_in
 from .words import is_server
 
 
@@ -52,18 +52,24 @@ def cluster_in(path):
         with open(path, "rb") as file:
             told = tomllib.loads(file.read().decode("utf-8-sig"))
         figures = {key: told.get(key, 64 if key == "cycles" else None) for key in FIGURES}
-        if told["channels"] not in ("A", "B", "AB") or any(type(figures[key]) is not int or figures[key] < 0 for key in FIGURES):
-            raise ValueError
-        whole = figures["static_slots"] * figures["slot_macroticks"] + sum(figures[f"{it}_macroticks"] for it in ("dynamic", "symbol", "idle"))
-        if whole != figures["macroticks_per_cycle"] or not 2 <= figures["static_slots"] <= 1023 or figures["cycles"] not in range(8, 65, 2):
-            raise ValueError
-        return Cluster(told["channels"], figures, tuple(sorted(told["suppliers"])))
+        if told["channels"] in ("A", "B", "AB") and are_whole(figures):
+            return Cluster(told["channels"], figures, tuple(sorted(told["suppliers"])))
     except OSError as fault:
         raise Fault(f"{path}: {fault.strerror}") from fault
     except (ValueError, KeyError, TypeError):
-        raise Fault(f"{path}: it is no cluster file; `slotplan check {path}` says what is wrong") from None
+        pass
+    raise Fault(f"{path}: it is no cluster file; `slotplan check {path}` says what is wrong")
+
+
+def are_whole(figures):
+    """Whether figures are those of a cluster: numbers in their ranges, whose segments fill the cycle."""
+    if any(type(it) is not int or it < 0 for it in figures.values()):
+        return False
+    filled = figures["static_slots"] * figures["slot_macroticks"] + sum(figures[f"{it}_macroticks"] for it in ("dynamic", "symbol", "idle"))
+    in_range = 2 <= figures["static_slots"] <= 1023 and figures["cycles"] in range(8, 65, 2) and figures["slot_macroticks"] > 0
+    return in_range and filled == figures["macroticks_per_cycle"]
 
 
 def clock_of(cluster, macrotick=None):
-    """The clock of a cluster. `macrotick` is the text of how many microseconds one lasts."""
+    """The clock of a cluster, of which each macrotick lasts so many microseconds, where they are known."""
     return Clock(cluster.figures["macroticks_per_cycle"], cluster.figures["cycles"], None if macrotick is None else Fraction(macrotick))

@@ -3,11 +3,9 @@ import re
 from fractions import Fraction
 
 from .arranging import NAME
-from .cells import Kind
+from .cells import Kind, bare, shown
 from .faults import Fault
 
-# What no reader sees, and spreadsheets leave around a text.
-UNSEEN = "\u200b\u200c\u200d\u2060\ufeff"
 NUMBER = re.compile("([0-9]{1,15})(?:([.,])([0-9]{0,20}))?(?:[eE][+]?([0-9]{1,2}))?")
 # What may stand between digits in threes, but for points and commas.
 BETWEEN = "[ \u00a0\u2009\u202f'\u2019]"
@@ -19,11 +17,6 @@ ORDERS = {
 }
 # The numbers that some register takes in each column.
 RANGES = {"slot": (1, 1023), "base": (0, 63), "repetition": (1, 64), "start": (0, 2031), "length": (1, 64)}
-
-
-def bare(cell):
-    """The text of a cell without what stands around it unseen."""
-    return cell.text.strip().strip(UNSEEN).strip()
 
 
 def value(column, cell):
@@ -46,11 +39,6 @@ def said(column, cell):
     if not text:
         raise Fault(f"there is no {column}")
     return text
-
-
-def shown(text):
-    """A text within a line, short and printable."""
-    return "".join(letter if letter.isprintable() else "?" for letter in text[:80])
 
 
 def name(column, text):

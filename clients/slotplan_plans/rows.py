@@ -4,8 +4,8 @@ import sys
 from pathlib import Path
 
 from . import rowtables
+from .cells import shown
 from .clusters import add_cluster, clock_of, cluster_of
-from .entries import shown
 from .faults import Fault
 from .files import made, written
 from .rowfiles import COLUMNS, ROWS, parts, text_of

@@ -3,8 +3,8 @@ import re
 from collections import Counter
 from typing import NamedTuple
 
-from .cells import Cell, Kind, Row
-from .entries import RANGES, bare, number, said, shown, value
+from .cells import Cell, Kind, Row, bare, shown
+from .entries import RANGES, number, said, value
 from .faults import Fault
 from .rowfiles import COLUMNS
 from .spans import UNITS, Gap
@@ -109,7 +109,7 @@ def chosen(path, sheet):
     known = sheets(path)
     mine = [it for it in known if sheet in (None, it.name)]
     if not mine:
-        raise Fault(f"{path}: there is no sheet {sheet!a:.60}" if known else f"{path}: there is no sheet")
+        raise Fault(f"{path}: there is no sheet '{shown(sheet)}'" if known else f"{path}: there is no sheet")
     return mine
 
 

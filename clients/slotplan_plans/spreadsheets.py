@@ -37,6 +37,11 @@ def sheets(path):
     return [split(text, mark) for mark in marks_of(text)]
 
 
+def is_workbook(path):
+    """Whether a file is a workbook, be it of an old form."""
+    return bytes_of(path).startswith((PACKED, OLD))
+
+
 def text_of(path):
     """The text of a file."""
     return decoded(bytes_of(path))
@@ -81,5 +86,5 @@ def split(text, mark):
             break
         names_mark = first == 1 and fields[:1] == ["sep="]
         if any(field.strip() for field in fields) and not names_mark:
-            rows.append(Row(f"line {first}", [Cell(field) for field in fields]))
+            rows.append(Row(f"line {first}", [Cell(field) for field in fields], first))
     return Sheet("", rows, broken)

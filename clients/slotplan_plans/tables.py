@@ -2,16 +2,16 @@
 import csv
 import io
 import sys
-from pathlib import Path
 
+from .cells import bare
 from .faults import Fault
 from .plan import Grant, Node
 from .reading import read
+from .spreadsheets import is_workbook, sheets, text_of
 from .words import add_source, source_of
 
 NODES = "supplier", "node"
 GRANTS = "slot", "channel", "supplier", "node"
-MARKS = {b"\xff\xfe": "utf-16", b"\xfe\xff": "utf-16"}
 
 
 def add_commands(commands):
@@ -32,20 +32,14 @@ def table(given):
     csv.writer(sys.stdout, delimiter=";" if given.semicolons else ",", lineterminator="\n").writerows(rows[given.kind])
 
 
-def text_of(path):
-    """The text of a file of UTF-8, or of UTF-16 with its mark."""
-    try:
-        data = Path(path).read_bytes()
-    except OSError as fault:
-        raise Fault(f"{path}: {fault.strerror}") from fault
-    return data.decode(MARKS.get(data[:2], "utf-8-sig"), errors="replace")
-
-
 def rows_of(path, columns):
     """The rows of a table: the number of the line that each ends with, and its fields in the order of these columns.
 
-    Fields stand apart by commas, semicolons or tabs. The first line names them, in any order; other columns, empty rows and spaces around a field
-    do not count."""
+    Fields stand apart by commas, semicolons or tabs, or in the cells of a workbook. The first line names them, in any order; other columns, empty
+    rows and spaces around a field do not count."""
+    if is_workbook(path):
+        yield from rows_of_workbook(path, columns)
+        return
     text = text_of(path)
     for mark in ",;\t":
         reader = csv.reader(io.StringIO(text, newline=""), delimiter=mark)
@@ -57,6 +51,19 @@ def rows_of(path, columns):
         except csv.Error as fault:
             raise Fault(f"{path}: line {reader.line_num}: {fault}") from fault
     raise Fault(f"{path}: the first line does not name the columns {', '.join(columns)}")
+
+
+def rows_of_workbook(path, columns):
+    """The same of the sheet of a workbook whose first row names the columns."""
+    for sheet in sheets(path):
+        records = [(row.number, list(map(bare, row.cells))) for row in sheet.rows]
+        header = [name.lower() for name in records[0][1]] if records else []
+        if set(columns) <= set(header):
+            for number, fields in records[1:]:
+                even = [*fields, *[""] * len(header)]
+                yield number, [even[header.index(name)] for name in columns]
+            return
+    raise Fault(f"{path}: no sheet has a first row that names the columns {', '.join(columns)}")
 
 
 def filled(reader, width):

@@ -7,11 +7,11 @@ import xml.etree.ElementTree as ET
 from collections import defaultdict
 from datetime import datetime, timedelta
 
-from .cells import Cell, Kind, Row, Sheet
+from .cells import Cell, Kind, Row, Sheet, shown
 from .faults import Fault
 
 # A part that is longer unpacked is none of a table.
-LONGEST = 100_000_000
+LONGEST = 50_000_000
 # Where rows or cells are said to stand more often in turn, they are no rows of a plan.
 TIMES = 5000
 # The day from which Excel counts.
@@ -65,7 +65,7 @@ def decimal(text):
 
 def filled(rows, name):
     """The rows in which something stands."""
-    return [Row(f"row {number} of {name!a:.60}", cells) for number, cells in rows if any(cell.text.strip() for cell in cells)]
+    return [Row(f"row {number} of '{shown(name)}'", cells, number) for number, cells in rows if any(cell.text.strip() for cell in cells)]
 
 
 # ---- Excel

@@ -72,5 +72,18 @@ function filed(kind, frames, rowOf) {
   return rows.length ? partsOf([HEADS[kind], ...rows]).map(part => ({file: fileOf(part), isWhole: false})) : [];
 }
 
+// How many rows of a file, below its header, the supplier has already just so.
+export function rowsThere(plan, supplier, kind, rows) {
+  const has = (fields, some, one) => some.some(other => asText(fields, other) === asText(fields, one));
+  const isThere = ([name, ...rest]) => {
+    const frame = plan.frameNamed(supplier, name);
+    if (!frame) return false;
+    if (kind === "signals") return has(SIGNAL, frame.signals, {name: rest[0], start: Number(rest[1]), length: Number(rest[2]), order: rest[3]});
+    const [node, slot, channels, base, repetition] = rest;
+    return frame.node === node && (kind === "frames" || has(PLACE, frame.placements, {slot: Number(slot), channels, base: Number(base), repetition: Number(repetition)}));
+  };
+  return rows.filter(isThere).length;
+}
+
 // Whether a request does exactly what it says, or is refused, whatever somebody else has changed.
 export const isExact = ({command}) => ["place", "unplace", "add_frame", "add_signal"].includes(command?.do);

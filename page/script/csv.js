@@ -1,4 +1,5 @@
 // Files of rows: their records, as the register reads them, and records as a file.
+import {grouped} from "./words.js";
 
 // The three files that the register knows, by their headers.
 export const HEADERS = {
@@ -36,6 +37,19 @@ const lineOf = record => record.map(quoted).join(",") + "\n";
 
 export const fileOf = records => new TextEncoder().encode(records.map(lineOf).join(""));
 
+// What the largest plan has of a kind: 64 signals of each of 256 frames. A name has 32 letters.
+const MOST_RECORDS = 16_384;
+const LONGEST_FIELD = 1000;
+
+// Why records can be no plan's; empty where they can.
+export function excessIn(records) {
+  if (records.length > MOST_RECORDS + 1) return `It has ${grouped(records.length - 1)} rows. A plan has at most ${grouped(MOST_RECORDS)} of a kind.`;
+  const at = records.findIndex(record => record.length > LONGEST_FIELD || record.some(field => field.length > LONGEST_FIELD));
+  if (at < 0) return "";
+  const longest = records[at].reduce((most, field) => Math.max(most, field.length), 0);
+  return longest > LONGEST_FIELD ? `Row ${at + 1} has a field of ${grouped(longest)} letters, and names have 32 at most.` : `Row ${at + 1} has ${grouped(records[at].length)} fields.`;
+}
+
 export const MOST_ROWS = 512;
 export const MOST_BYTES = 65536;
 
@@ -52,7 +66,7 @@ export function partsOf([header, ...rows]) {
       part = [header];
       bytes = lineOf(header).length;
     }
-    part.push(...group);
+    for (const row of group) part.push(row);
     bytes += more;
   }
   if (part.length > 1) parts.push(part);

@@ -6,7 +6,7 @@ const EMPTY = {
   register: null, isIntegrator: false, me: "", cluster: null, nodes: [], variants: [],
   variant: null, plan: null, difference: null,
   frame: null, placement: null, lane: null, found: null,
-  room: null, granting: null, draft: null, file: null, view: "plan", busy: 0, unansweredKey: "",
+  room: null, granting: null, draft: null, file: null, wishes: null, view: "plan", busy: 0, unansweredKey: "",
 };
 
 export class Desk {

@@ -1,6 +1,6 @@
 // The view of differences: what a variant has that another one has not, and the other way round.
-import {button, byId, longTable, make, options, refill, row, tableRow} from "./dom.js";
-import {attempt} from "./messages.js";
+import {button, byId, longTable, make, options, refill, row, save, tableRow} from "./dom.js";
+import {attempt, say} from "./messages.js";
 import {compare} from "./reading.js";
 import {bitsText, longPlaceText} from "./words.js";
 
@@ -33,6 +33,11 @@ function kindBar(desk, difference) {
   const all = button("all", () => show(null), {"aria-pressed": String(!difference.kind)});
   return row(difference.rows.length ? all : make("strong", {}, "Nothing differs."), kinds,
     button("Mark it in the plan", () => { desk.look.marks = true; desk.show("plan"); desk.tell("look"); }),
+    button("Take it as a picture", () => attempt(desk, async () => {
+      const {variant} = desk, name = `${variant}_since_${difference.from}.html`;
+      save(name, await desk.register.read(desk.path(`since/${difference.from}/picture`)), "text/html");
+      say("good", `${name} is the plan with what is new in it, as a page to print or to send.`);
+    }, "Taking the picture ...")),
     button("Forget it", () => { desk.difference = null; desk.tell("difference"); }));
 }
 

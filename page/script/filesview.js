@@ -1,5 +1,6 @@
 // The view of files: one is dropped or chosen, its rows' fates are told, and it is carried out; and the plan is taken as files.
 import {button, byId, card, longTable, make, note, options, refill, row, save, tableRow, textField} from "./dom.js";
+import {rowsThere} from "./changes.js";
 import {HEADERS} from "./csv.js";
 import {goneCount, goneList} from "./gone.js";
 import {mended, takeSheet} from "./looking.js";
@@ -7,7 +8,8 @@ import {attempt} from "./messages.js";
 import {explained} from "./refusals.js";
 import {exported} from "./reading.js";
 import {isDigits, isName} from "./reports.js";
-import {carryOut, takeFile, takeLooked, tryFile, WAYS, waysOf} from "./sending.js";
+import {wishesCard} from "./proposing.js";
+import {carryOut, takeFile, takeLooked, takeProposal, tryFile, WAYS, waysOf} from "./sending.js";
 import {done} from "./steps.js";
 import {grouped, plural, short} from "./words.js";
 
@@ -28,7 +30,8 @@ function showFiles(desk) {
     refill(byId("view-files"), down, make("p", {}, why));
     return;
   }
-  refill(byId("view-files"), card("Send a file", dropZone(desk), file ? fileBox(desk, file) : ""), down);
+  refill(byId("view-files"), card("Send a file", dropZone(desk), file ? fileBox(desk, file) : ""),
+    wishesCard(desk, (bytes, replaces) => takeProposal(desk, bytes, replaces)), down);
 }
 
 function dropZone(desk) {
@@ -92,7 +95,9 @@ function fateBox(desk, file) {
   const only = make("input", {type: "checkbox", id: "only-bad", checked: file.onlyRefused, onchange: choose});
   const all = refused.length ? `${plural(refused.length, "row")} of ${grouped(fates.length)} would be refused, so none is carried out.`
     : `${fates.length > 1 ? "All " : ""}${rows} would be carried out.`;
-  return [row(make("strong", {class: refused.length ? "fault" : ""}, all)),
+  const there = rowsThere(desk.plan, desk.me, file.kind, file.shown.slice(1)), fresh = fates.length - there;
+  return [row(make("strong", {class: refused.length ? "fault" : ""}, all), make("span", {id: "fresh"},
+    `${plural(Math.max(0, fresh), "row is", "rows are")} new or changed, ${grouped(there)} ${there === 1 ? "is" : "are"} there already.`)),
     WAYS[file.way].replaces ? goneBox(file) : "",
     row(file.way === "import" ? [make("label", {for: "label"}, "Label"), label] : "", go),
     refused.length && refused.length < fates.length ? make("label", {class: "check"}, only, "only refused rows") : "",

@@ -2,6 +2,7 @@
 import {button, byId, listen, make, options, refill, textField} from "./dom.js";
 import {confirmed, say} from "./messages.js";
 import {chip} from "./palette.js";
+import {findRoom} from "./reading.js";
 import {isName} from "./reports.js";
 import {addFrame} from "./steps.js";
 import {byText, grouped, plural, shortPlaceText} from "./words.js";
@@ -81,8 +82,13 @@ export class FrameList {
     const {desk} = this, [first] = frame.placements;
     this.open(false);
     if (["files", "diff", "manage"].includes(desk.view)) desk.show("plan");
+    const {room} = desk;
     desk.choose({frame});
-    if (first && desk.view === "plan") desk.reveal(first.slot, first.channels[0], first.base);
+    // Placing goes on with the other frame, and the plan stays where it is.
+    if (room) {
+      findRoom(desk, room.repetition, room.channels);
+      desk.tell("mode");
+    } else if (first && desk.view === "plan") desk.reveal(first.slot, first.channels[0], first.base);
     byId("detail").scrollIntoView({block: "nearest"});
   }
 }

@@ -3,7 +3,7 @@ import {cellAt} from "./cells.js";
 import {byId} from "./dom.js";
 import {paintGutter, paintHead} from "./heads.js";
 import {sized, within} from "./ink.js";
-import {paintChosen, paintCursor, paintPending, paintPicked, paintRoom} from "./overlays.js";
+import {paintChosen, paintCursor, paintPending, paintPicked, paintProposed, paintRoom} from "./overlays.js";
 import {Overview} from "./overview.js";
 import {paintColumns} from "./painting.js";
 import {laneOf} from "./plan.js";
@@ -81,6 +81,7 @@ export class Grid {
       paintColumns(ink, this, part);
       paintRoom(ink, this, part);
       paintPending(ink, this);
+      paintProposed(ink, this);
       paintPicked(ink, this);
       paintChosen(ink, this);
       if (document.activeElement === canvas) paintCursor(ink, this);

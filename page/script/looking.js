@@ -1,5 +1,5 @@
 // What can be said of a file before the register sees it: how spreadsheets write files that it does not read, and what is sure to mend that.
-import {fileOf, HEADERS, recordsOf} from "./csv.js";
+import {excessIn, fileOf, HEADERS, recordsOf} from "./csv.js";
 import {plural, short} from "./words.js";
 import {canUnpack, isOldWorkbook, isWorkbook, NoWorkbook, sheetsOf} from "./workbook.js";
 
@@ -53,6 +53,8 @@ export function takeSheet(file, sheet) {
 function lookIntoText(file) {
   const coding = encodingOf(file.bytes), text = decoded(file, coding);
   file.records = recordsOf(text);
+  const excess = excessIn(file.records);
+  if (excess) { Object.assign(file, {records: [], fault: `This is no plan. ${excess}`}); return; }
   const comma = [",", ";", "\t"].find(one => picked(withoutHint(recordsOf(text, one)))) ?? "";
   if (!comma) {
     file.fault = unknown(file.records) + (coding ? " " + UTF_16 : "");

@@ -11,9 +11,27 @@ const OUT_OF_DATE = [10, 11, 14, 15, 16, 17, 18, 19, 21, 22, 24, 25, 27, 29];
 // Says something: `good`, `bad`, `warn` or, of what is under way, `wait`.
 export function say(kind, text, ...buttons) {
   const box = byId("message");
+  clearTimeout(fading);
+  if (kind === "good") fading = setTimeout(fade, SHOWN_FOR);
   box.className = "message " + kind;
   box.replaceChildren(make("div", {}, text), ...buttons, button("Close", quiet));
   box.hidden = false;
+  box.style.bottom = aboveCell();
+}
+
+// Messages stand above the line that tells of a cell, where that is seen.
+function aboveCell() {
+  const line = byId("cell"), top = line.checkVisibility?.() ? line.getBoundingClientRect().top : 0;
+  return top > 0 && top < window.innerHeight ? `${window.innerHeight - top + 6}px` : "";
+}
+
+// What was done goes away by itself, unless it is pointed at or has the keyboard.
+const SHOWN_FOR = 15_000;
+let fading = 0;
+function fade() {
+  const box = byId("message");
+  if (box.matches(":hover, :focus-within")) fading = setTimeout(fade, SHOWN_FOR);
+  else quietGood();
 }
 
 export const quiet = () => { byId("message").hidden = true; };

@@ -1,6 +1,7 @@
 // Paints over the cells what the user is about: where a frame fits, what is chosen, which lanes are to be granted, and the cursor.
 import {fillBox, strokeBox, write} from "./ink.js";
 import {channelOf, slotOf} from "./plan.js";
+import {proposedIn} from "./proposing.js";
 
 // A frame's room: a plus in each cell in which a placement of it may begin or go on; that under the mouse is dark.
 export function paintRoom(ink, {sheet, desk, cursor}, {from, until, rows}) {
@@ -32,6 +33,18 @@ export function paintPending(ink, {sheet, desk}) {
       const y = sheet.y(cycle), tall = sheet.height(cycle);
       fillBox(ink, "#ffd98a", stretch.x + 1, y + 1, stretch.wide - 1, tall - 1);
       if (sheet.width >= 6) write(ink, "...", stretch.x + stretch.wide / 2, y + tall / 2 - 1, "#4a3200", 10, "center", "bold");
+    }
+  }
+}
+
+// What is proposed for wishes, as outlines over what is there.
+export function paintProposed(ink, {sheet, desk}) {
+  for (const placement of proposedIn(desk)) {
+    const stretch = sheet.stretch(placement.slot, placement.channels);
+    if (!stretch) continue;
+    for (const cycle of desk.plan.cyclesOf(placement)) {
+      strokeBox(ink, "#fff", 4, stretch.x + 1.5, sheet.y(cycle) + 1.5, stretch.wide - 2, sheet.height(cycle) - 2);
+      strokeBox(ink, "#7a1fa2", 2, stretch.x + 1.5, sheet.y(cycle) + 1.5, stretch.wide - 2, sheet.height(cycle) - 2);
     }
   }
 }

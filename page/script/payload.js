@@ -38,7 +38,8 @@ function signalForm(desk, frame, signals, matrix) {
   const isWhole = () => start.value !== "" && length.value >= 1 && length.value <= 64;
   const draw = () => matrix.replaceChildren(bitTable(desk.cluster, signals, isWhole() ? wanted() : null, pick));
   const keep = () => { desk.draft = {key, name: name.value, start: start.value, length: length.value, order: order.value}; };
-  for (const input of [name, start, length, order]) input.addEventListener("input", () => { keep(); draw(); });
+  name.addEventListener("input", keep);
+  for (const input of [start, length, order]) input.addEventListener("input", () => { keep(); draw(); });
   const add = event => {
     event.preventDefault();
     if (isDigits(start.value) && isDigits(length.value)) addSignal(desk, frame, wanted());

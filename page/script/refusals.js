@@ -35,6 +35,7 @@ const REFUSALS = {
   29: ["BadRow", "A row of the file is refused, and nothing of it was carried out.", ""],
   30: ["BadKey", "The key does not have the form of a key.", "8 to 64 letters and digits."],
   31: ["KeyTaken", "Somebody has this key already.", "Choose another one."],
+  32: ["NoRoom", "No placement is left for the wish.", "A greater repetition, or a slot more, may help."],
 };
 
 export const nameOfRefusal = number => REFUSALS[number]?.[0];

@@ -39,6 +39,9 @@ export class Register {
     return answerOf("try", await this.ask(replaces ? "PUT" : "POST", `variants/${variant}/tries${isWhole ? "/whole" : ""}`, file, false));
   }
 
+  // Where wishes would go.
+  async proposed(variant, file, replaces) { return answerOf("propose", await this.ask(replaces ? "PUT" : "POST", `variants/${variant}/proposals`, file, false)); }
+
   async imported(variant, label, file) {
     return answerOf("imported", await this.ask("POST", `variants/${variant}/imports/${label}`, file));
   }
@@ -61,7 +64,7 @@ function parsed(text) {
 // An answer that says this word; imports and replacements say how many rows they have. After another one a change may have been carried out.
 function answerOf(word, text) {
   const answer = parsed(text), isOwn = answer?.ok === word && (!word.endsWith("ed") || Number.isInteger(answer.rows));
-  if (!isOwn) throw Object.assign(new Strange("The server's answer is none of the register's."), {isChange: word !== "try"});
+  if (!isOwn) throw Object.assign(new Strange("The server's answer is none of the register's."), {isChange: word !== "try" && word !== "propose"});
   return answer;
 }
 

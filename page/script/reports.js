@@ -11,6 +11,8 @@ const FORMS = {
   cluster: form("(\\w+) (AB|A|B|\\d{1,10}|NAME)"),
   variant: form(`NAME (-|${NAME}) (\\d{1,2}) (open|released)`),
   node: form("NAME" + OWNER),
+  wish: form("(\\d{4,}) (\\d\\d) (?:NAME,NAME,(\\d{1,4}),(AB|A|B),(\\d{1,2}),(\\d{1,2})|(\\w{1,20}))"),
+  lack: form("LACK NAME (AB|A|B) (\\d{4})"),
   fate: form("(\\d{4,}) (\\d\\d) (\\w{1,20})(?: (\\d\\d) ([AB]) NAME| (\\d{4}) NAME)?"),
 };
 
@@ -92,6 +94,19 @@ export function readFates(answer) {
     }
     return fate;
   });
+}
+
+// A proposal: of each wish its record's number, and its placement or the refusal; and what is lacking, by nodes and channels.
+export function readProposal(answer) {
+  if (!Array.isArray(answer.lines)) throw new Strange("The answer to a proposal has no lines.");
+  const lines = answer.lines.map(String), isLack = line => line.startsWith("LACK ");
+  const lacks = lines.filter(isLack).map(line => fieldsOf(FORMS.lack, line)).map(([node, channels, lack]) => ({node, channels, lack: Number(lack)}));
+  const rows = lines.filter(line => !isLack(line)).map(line => {
+    const [record, number, frame, node, slot, channels, base, repetition, word] = fieldsOf(FORMS.wish, line), no = Number(number);
+    if ((frame !== undefined) !== (no === 0) || (no !== 0 && nameOfRefusal(no) !== word)) throw new Strange(`The server sent a line that no proposal has: ${short(line)}`);
+    return {record: Number(record), no, placement: no ? null : {frame, node, slot: Number(slot), channels, base: Number(base), repetition: Number(repetition)}};
+  });
+  return {rows, lacks};
 }
 
 function rowOf(line, me) {

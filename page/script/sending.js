@@ -5,6 +5,7 @@ import {goneCount, goneList, isSameGone, rowsGone} from "./gone.js";
 import {looked} from "./looking.js";
 import {bySomebody, placementsText} from "./meanwhile.js";
 import {attempt, confirmed, inTurn, say} from "./messages.js";
+import {tookWishes} from "./proposing.js";
 import {reread} from "./reading.js";
 import {isName, readFates} from "./reports.js";
 import {done} from "./steps.js";
@@ -33,6 +34,9 @@ export const WAYS = {
 // A part of a file is not sent whole: it would take away what the other parts have.
 export const waysOf = ({parts}) => Object.entries(WAYS).filter(([, {isWhole}]) => !isWhole || !parts);
 
+// A file that was taken from this page, as `my30_frames.csv`, is sent back in place of what is there.
+const isTakenFrom = ({variants}, {name, kind}) => variants.some(variant => name.startsWith(`${variant.name}_${kind}`));
+
 const LARGEST = 4_000_000;
 
 export async function takeFile(desk, blob) {
@@ -45,19 +49,26 @@ export async function takeFile(desk, blob) {
     return;
   }
   const bytes = await blob.arrayBuffer().catch(() => null);
-  if (bytes) await takeLooked(desk, await looked(blob.name, new Uint8Array(bytes)));
-  else say("bad", `${blob.name} cannot be read. If another program has it open, close it there, and choose it again.`);
+  const file = bytes && await looked(blob.name, new Uint8Array(bytes));
+  if (file && (file.kind || !tookWishes(desk, file))) await takeLooked(desk, file);
+  else if (!bytes) say("bad", `${blob.name} cannot be read. If another program has it open, close it there, and choose it again.`);
 }
 
 // Takes a file that was looked at or mended, and tries it.
-export async function takeLooked(desk, file) {
-  desk.file = file && Object.assign(file, {way: "import", parts: null, part: 0, fates: null, gone: [], shown: [], onlyRefused: false});
+export async function takeLooked(desk, file, way = file && isTakenFrom(desk, file) ? "replace" : "import") {
+  desk.file = file && Object.assign(file, {way, parts: null, part: 0, fates: null, gone: [], shown: [], onlyRefused: false});
   if (file) {
     divide(file);
     file.label = suggestedLabel(file);
   }
   desk.tell("file");
   await tryFile(desk);
+}
+
+// The rows that were proposed are tried as a file of placements.
+export function takeProposal(desk, bytes, replaces) {
+  const records = recordsOf(new TextDecoder().decode(bytes));
+  return takeLooked(desk, {name: "proposal.csv", bytes, records, kind: "placements", fault: "", mend: null, notes: [], sheets: null}, replaces ? "replace" : "import");
 }
 
 function divide(file) {

@@ -1,4 +1,5 @@
 // Reads a workbook of Excel (.xlsx) or LibreOffice (.ods): the texts of its sheets' cells, as records.
+import {grouped} from "./words.js";
 
 export class NoWorkbook extends Error {}
 
@@ -8,7 +9,11 @@ export const canUnpack = () => {
   try { return Boolean(new DecompressionStream("deflate-raw")); } catch { return false; }
 };
 
+// More than the largest plan has in one table.
 const MOST_LETTERS = 32_000_000;
+const MOST_LINES = 20_000;
+const MOST_COLUMNS = 256;
+const MOST_SHEETS = 64;
 
 // Its sheets in their order: name and records.
 export async function sheetsOf(bytes) {
@@ -21,7 +26,9 @@ export async function sheetsOf(bytes) {
 async function officeSheets(part) {
   const targets = new Map(elements(await part("xl/_rels/workbook.xml.rels"), "Relationship").map(({fields}) => [fields.Id, fields.Target]));
   const strings = elements(await part("xl/sharedStrings.xml"), "si").map(({inner}) => textIn(inner)), sheets = [];
-  for (const {fields} of elements(await part("xl/workbook.xml"), "sheet")) {
+  const named = elements(await part("xl/workbook.xml"), "sheet");
+  if (named.length > MOST_SHEETS) throw new NoWorkbook(`It has ${named.length} sheets. Of more than ${MOST_SHEETS} none is read.`);
+  for (const {fields} of named) {
     const target = targets.get(fields["r:id"]) ?? "";
     const records = recordsIn(await part(target.startsWith("/") ? target.slice(1) : "xl/" + target), strings);
     sheets.push({name: fields.name ?? "", records});
@@ -31,23 +38,25 @@ async function officeSheets(part) {
 
 // As OpenDocument has them: a cell, or a row, that stands several times in turn is written once, with their number.
 function openSheets(xml) {
-  const record = row => unrolled(elements(row.inner, "(?:covered-)?table-cell"), "columns", openText);
-  return elements(xml, "table").map(({fields, inner}) =>
-    ({name: fields["table:name"] ?? "", records: unrolled(elements(inner, "table-row"), "rows", record)}));
+  const record = row => unrolled(elements(row.inner, "(?:covered-)?table-cell"), "columns", MOST_COLUMNS, openText);
+  return elements(xml, "table").slice(0, MOST_SHEETS).map(({fields, inner}) =>
+    ({name: fields["table:name"] ?? "", records: unrolled(elements(inner, "table-row"), "rows", MOST_LINES, record)}));
 }
 
 // What is read of elements, each as often as it stands there, up to the last that has something in it.
-function unrolled(found, what, read) {
+function unrolled(found, what, most, read) {
   const runs = found.map(one => [read(one), (one.fields[`table:number-${what}-repeated`] ?? 1) >>> 0]);
-  const kept = runs.slice(0, runs.findLastIndex(([value]) => value.length) + 1);
-  if (kept.some(([, times]) => times > 1000)) throw new NoWorkbook("It is too large.");
+  const kept = runs.slice(0, runs.findLastIndex(([value]) => value.length) + 1), count = kept.reduce((sum, [, times]) => sum + times, 0);
+  if (count > most) throw new NoWorkbook(tooMany(what, most));
   return kept.flatMap(([value, times]) => Array(times).fill(value));
 }
 
+const tooMany = (what, most) => `A sheet of it has more than ${grouped(most)} ${what}, which no plan has.`;
+
 function openText({fields, inner}) {
   if (fields["office:value-type"] === "float") return numberText(fields["office:value"] ?? "");
-  const lines = elements(inner.replace(/<office:annotation[^]*?<\/office:annotation>/g, ""), "p");
-  return lines.map(line => unescaped(line.inner.replace(/<text:s\b[^>]*>/g, " ").replace(/<[^>]*>/g, ""))).join("\n");
+  const lines = elements(cleared(inner, "annotation"), "p");
+  return lines.map(line => unescaped(line.inner.replace(/<text:s\b[^<>]*>/g, " ").replace(/<[^<>]*>/g, ""))).join("\n");
 }
 
 // The places of a zip's entries, by their paths, as its directory at the end has them.
@@ -96,30 +105,51 @@ const unescaped = text => text.replace(/&(?:#(\d{1,7})|#x([0-9a-fA-F]{1,6})|(\w+
 
 // The elements of a name, which hold none of the same name: their fields, and what is between their tags.
 function elements(xml, name) {
-  const found = [];
-  for (const [, head, isEmpty, inner] of xml.matchAll(new RegExp(`<(?:\\w+:)?${name}(\\s[^>]*?)?(?:(/)>|>([^]*?)</(?:\\w+:)?${name}>)`, "g"))) {
+  return stretches(xml, name).map(({head, inner}) => {
     const fields = {};
-    for (const [, key, value] of (head ?? "").matchAll(/([\w:-]+)="([^"]*)"/g)) fields[key] = unescaped(value);
-    found.push({fields, inner: isEmpty ? "" : inner});
+    for (const [, key, value] of head.matchAll(/(?<![\w:-])([\w:-]+)="([^"]*)"/g)) fields[key] = unescaped(value);
+    return {fields, inner};
+  });
+}
+
+// Where they begin and end. Each letter is looked at a few times at most, however the text is damaged.
+function stretches(xml, name) {
+  const opening = new RegExp(`<(?:\\w+:)?${name}(\\s[^<>]*)?>`, "g"), closing = new RegExp(`</(?:\\w+:)?${name}>`, "g"), found = [];
+  for (let open = opening.exec(xml); open; open = opening.exec(xml)) {
+    const head = open[1] ?? "", from = opening.lastIndex, isEmpty = open[0].endsWith("/>");
+    closing.lastIndex = from;
+    const close = isEmpty ? null : closing.exec(xml);
+    if (!isEmpty && !close) throw new NoWorkbook("It is damaged: an element of it has no end.");
+    found.push({head, inner: isEmpty ? "" : xml.slice(from, close.index), begin: open.index, end: isEmpty ? from : closing.lastIndex});
+    opening.lastIndex = found.at(-1).end;
   }
   return found;
 }
 
+// A text without the elements of a name.
+function cleared(xml, name) {
+  let at = 0, left = "";
+  for (const {begin, end} of stretches(xml, name)) { left += xml.slice(at, begin); at = end; }
+  return left + xml.slice(at);
+}
+
 // What is said in the t elements; those of a reading aid are left out.
-const textIn = inner => elements(inner.replace(/<rPh[^]*?<\/rPh>/g, ""), "t").map(text => unescaped(text.inner)).join("");
+const textIn = inner => elements(cleared(inner, "rPh"), "t").map(text => unescaped(text.inner)).join("");
 
 function recordsIn(xml, strings) {
-  const records = [];
-  for (const row of elements(xml, "row")) {
+  const rows = elements(xml, "row"), filled = rows.slice(0, rows.findLastIndex(({inner}) => inner) + 1);
+  if (filled.length > MOST_LINES) throw new NoWorkbook(tooMany("rows", MOST_LINES));
+  return filled.map(row => {
     const record = [];
     for (const cell of elements(row.inner, "c")) {
-      const at = columnOf(cell.fields.r) ?? record.length;
+      const at = columnOf(cell.fields.r) ?? record.length, text = cellText(cell, strings);
+      if (at >= MOST_COLUMNS && text === "") continue;
+      if (at >= MOST_COLUMNS) throw new NoWorkbook(tooMany("columns", MOST_COLUMNS));
       while (record.length < at) record.push("");
-      record[at] = cellText(cell, strings);
+      record[at] = text;
     }
-    records.push(record);
-  }
-  return records;
+    return record;
+  });
 }
 
 // The number of a column, of a cell's name as `AB12`.

@@ -1,4 +1,5 @@
 """Tests of connections to a server: over the register after the first script, and over one whose schedule is longer than a connection holds."""
+import re
 import sqlite3
 import time
 from contextlib import closing
@@ -60,6 +61,15 @@ def fill_long(file):
         rows.executemany("INSERT INTO placements VALUES ('v1', ?, ?, ?, 'AB', 0, 1)", [(SUPPLIER, frame_in(slot), slot) for slot in slots])
 
 
+# A word that a server told, or how often it came again soon after.
+TOLD = re.compile(rb"(slotplan: \w+)(?: \((\d+) more\))?\n")
+
+
+def each_line(said):
+    """What a server told, with each word as often as it came."""
+    return TOLD.sub(lambda found: (found[1] + b"\n") * int(found[2] or 1), said)
+
+
 class ConnectionCase(RegisterCase):
     """A test of connections to a server, each test in a process of its own: it mostly waits."""
 
@@ -67,7 +77,7 @@ class ConnectionCase(RegisterCase):
 
     def ends(self, server, said=b""):
         super().ends(server)
-        self.see("what it said", said, server.stderr.read())
+        self.see("what it said", said, each_line(server.stderr.read()))
 
 
 class PlannedCase(ConnectionCase):

@@ -16,7 +16,8 @@ FRAME = """import {{readFileSync}} from "node:fs";
 {imports}
 const given = JSON.parse(readFileSync(0, "utf-8"));
 const script = async given => {{ {script} }};
-process.stdout.write(JSON.stringify((await script(given)) ?? null, (_, value) => value === Infinity ? "never" : value));
+const told = JSON.stringify((await script(given)) ?? null, (_, value) => value === Infinity ? "never" : value);
+process.stdout.write(told, () => process.exit(0));
 """
 # What modules ask of a page: elements that keep what is put into them, and nothing more.
 PAGE = """
@@ -31,6 +32,7 @@ class Element {
   getAttribute(name) { return this.attributes[name] ?? null; }
   addEventListener(name, act) { this["on" + name] = act; }
   contains() { return false; }
+  matches() { return false; }
   querySelectorAll() { return []; }
   text() { return this.children.map(child => child instanceof Element ? child.text() : String(child)).join("") || this.textContent; }
 }

@@ -65,13 +65,13 @@ def free_port():
 
 def could_not_listen(server, line):
     """Whether a server that began with this line has ended, since its port was somebody else's. What it said can be read still."""
-    return not line and server.wait(SECONDS) == 1 and server.stderr.peek() == b"slotplan: CannotListen\n"
+    return not line and server.wait(SECONDS) == 1 and (not server.stderr or server.stderr.peek() == b"slotplan: CannotListen\n")
 
 
 @contextmanager
-def started(folder, *more, db="car.db", env=None):
-    """A server of the register in the folder, the line with which it begins, and its port."""
-    pipes = {"stdin": subprocess.DEVNULL, "stdout": subprocess.PIPE, "stderr": subprocess.PIPE}
+def started(folder, *more, db="car.db", env=None, err=subprocess.PIPE):
+    """A server of the register in the folder, the line with which it begins, and its port. `err` is its standard error."""
+    pipes = {"stdin": subprocess.DEVNULL, "stdout": subprocess.PIPE, "stderr": err}
     for left in reversed(range(TRIES)):
         port = free_port()
         with subprocess.Popen([program(), "serve", db, str(port), *more], cwd=folder, env=with_more(env), **pipes) as server:

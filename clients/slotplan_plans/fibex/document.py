@@ -31,7 +31,7 @@ class Document:
         self.walk()
 
     def parsed(self, path):
-        """The file's top. Tags and attributes lose their name spaces."""
+        """The file's top. Tags lose their name spaces."""
         try:
             for _, element in ET.iterparse(path):
                 tag, element.tag = element.tag, element.tag.rpartition("}")[2]

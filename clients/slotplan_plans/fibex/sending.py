@@ -3,6 +3,7 @@ from collections import defaultdict
 
 from ..autosar.figures import unfit
 from ..autosar.found import Timing, folded
+from ..autosar.tree import plain
 from ..faults import Fault
 
 
@@ -20,7 +21,7 @@ class Sending:
         for ecu in self.document.of_kind("ECU"):
             for port in ecu.iter("OUTPUT-PORT"):
                 for leaf in port.iter("FRAME-TRIGGERING-REF"):
-                    found[leaf.get("ID-REF")].append((ecu, leaf))
+                    found[plain(leaf.get("ID-REF"))].append((ecu, leaf))
         return found
 
     def triggering(self, letter, channel, triggering):
@@ -60,7 +61,8 @@ class Sending:
     def senders(self, triggering):
         """The ECUs that have an OUTPUT-PORT of the triggering."""
         found = set()
-        for ecu, leaf in self.ports.get(triggering.get("ID"), ()) if triggering.get("ID") else ():
+        identity = plain(triggering.get("ID"))
+        for ecu, leaf in self.ports.get(identity, ()) if identity else ():
             self.document.follow(leaf)
             found.add(self.reader.ecu(ecu))
         return found - {None}

@@ -81,7 +81,7 @@ module _ (c : Cluster) (b : Book) (s v : Name) (y : Variant) (open_now : y.relea
   abbrev after : Book → Table owned Frame → Table owned Frame → File → Book
   after d t u file = with_import (at c.params d s v (with_frames t) u) (it file) file.label (count file)
 
-  import-passes : (d : Book) (t u : Table owned Frame) (file : File) (files : List File) → Now d t → MayBeKept d s (file ∷ files) →
+  pub import-passes : (d : Book) (t u : Table owned Frame) (file : File) (files : List File) → Now d t → MayBeKept d s (file ∷ files) →
       run_in c.params d s v (with_frames t) false t (rows_of_body c.params file.body) ≡ Ok u →
       step c d (Supplier s) (request.Deliver v (purpose.Import file.label) file.body) ≡ record { book = after d t u file; answer = answer.Imported (count file) }
   unfolding import imported outcome lifted

@@ -1,6 +1,6 @@
 -- Kept places: under a replacement a wish keeps a placement that its frame has with its channels and repetition, if one is left, in the order of
 -- lines and of the reports.
-use Rattle.std.specs.Prelude.{ℕ, ◌==◌, Bool, not, ◌&&◌, List, [], ◌∷◌, map, find, Option, Some, None}
+use Rattle.std.specs.Prelude.{◌==◌, Bool, not, ◌&&◌, List, [], ◌∷◌, map, find, Option, Some, None}
 use Rattle.std.specs.Ordering.{is_eq}
 use Rattle.std.specs.List.{list_any}
 use Rattle.fr_base.specs.Tables.{Table, get}

@@ -64,3 +64,5 @@ pub mod OpenedLaws
 pub mod FateLaws
 pub mod RefusedRooms
 pub mod RunLaws
+pub mod Fits
+pub mod ProposalLaws

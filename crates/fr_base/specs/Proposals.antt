@@ -3,7 +3,7 @@
 -- Where they are to replace, the frames that they name lose their placements, and a wish first keeps one that its frame had. If the other wishes, in turn
 -- beside what is kept, all take one, that is proposed; else, if all wishes in turn take one where nothing is kept, that; else what is kept, and what the
 -- others take beside it.
-use Rattle.std.specs.Prelude.{ℕ, ◌==◌, Bool, true, false, if◌then◌else◌, List, [], ◌∷◌, ◌++◌, map, filter, find, Option, is_none, is_some, Ok}
+use Rattle.std.specs.Prelude.{ℕ, ◌==◌, Bool, true, false, if◌then◌else◌, List, [], ◌++◌, map, filter, find, Option, is_none, is_some, Ok}
 use Rattle.std.specs.List.{flat_map}
 use Rattle.std.specs.Option.{option_and_then}
 use Rattle.fr_base.specs.Refusing.{◌>>=◌, ◌or◌}

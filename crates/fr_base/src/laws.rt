@@ -15,6 +15,7 @@ mod fates;
 mod keys;
 mod loads;
 mod openings;
+mod proposals;
 mod queries;
 mod rooms;
 mod runs;
@@ -27,6 +28,10 @@ pub use fates::{
 pub use keys::{key_stays, set_key_changes_one_key, set_key_is_done};
 pub use loads::{load_counts_the_schedule, load_shows_each_lane, load_shows_own_lanes};
 pub use openings::{flat_is_first, opened_is_alike};
+pub use proposals::{
+    all_are_given_where_all_fit, no_room_is_certain, nothing_moves_that_need_not,
+    proposal_is_imported, proposal_is_told, rows_are_their_wishes,
+};
 pub use queries::{
     difference_is_of_rows, difference_is_told, inventory_is_told, load_is_told,
     query_changes_nothing, rows_are_told,

@@ -457,7 +457,6 @@ fine_is_taken (Rows Signals) fields fine =
     let parts = and_parts (length fields == length (spelled Signals)) (is_fine_signal fields) fine in
     let taken = signal-taken fields parts.1 in
     (cluster_of 64, is_cluster 64 refl, taken.0, fitting _ _ taken.0 parts.0 taken.1)
-
 fine_is_taken Wishes fields fine =
     let parts = and_parts (length fields == length spelled_wishes) (is_fine_wish fields) fine in
     let taken = wish-taken fields parts.1 in

@@ -275,7 +275,7 @@ unfolding rows
 proposals = refl
 
 pub operations_of_proposals :
-    operation_by (Deliver (purpose.Proposal false)) (codes "/v1/variants/v1/proposals") (codes "x") ∷ operation_by (Deliver (purpose.Proposal true)) (codes "/v1/variants/v1/proposals") (codes "x") ∷ []
+    operation_by (Deliver (purpose.Proposal false)) (codes "/v1/variants/v1/proposals") [] (codes "x") ∷ operation_by (Deliver (purpose.Proposal true)) (codes "/v1/variants/v1/proposals") [] (codes "x") ∷ []
     ≡ Ok (operation.Request (request.Deliver (codes "v1") (purpose.Proposal false) (codes "x"))) ∷ Ok (operation.Request (request.Deliver (codes "v1") (purpose.Proposal true) (codes "x"))) ∷ []
 unfolding rows
 operations_of_proposals = refl

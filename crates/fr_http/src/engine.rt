@@ -1,18 +1,23 @@
-//! What connections are served with: memory, and the routes of requests, which are read once.
+//! What connections are served with: memory, the routes of requests and the tags of the planner's page, which are made once.
 ghost use Rattle.std.specs.Prelude.{◌≡◌, IfOk, OnOk};
+ghost use Rattle.fr_page.specs.Page.{text_of};
+ghost use Rattle.fr_http.specs.Conditions.{tag_of};
 ghost use Rattle.fr_http.specs.Routes.{matched, router, with_route};
 
+use crate::page_tags::PageTags;
 use crate::routes::{Resource, routes};
 use fr_base::NoMemory;
+use fr_page::Part;
 use matchit::Router;
 use std::alloc::{AllocError, Global};
 use std::marker::Model;
 
-/// An engine that serves connections, with the routes of all requests.
+/// An engine that serves connections, with the routes of all requests and the tags of the planner's page.
 #[derive(Drop)]
 pub struct Engine {
     alloc: Global,
     routes: Router<Resource>,
+    tags: PageTags,
 }
 
 /// An engine has all routes, and no other.
@@ -37,7 +42,12 @@ impl Engine {
         ensures { IfOk result (λ made. made ≡ (alloc, router)) }
     {
         let routes = router(alloc)?;
-        Ok(Engine { alloc, routes })
+        let tags = PageTags::new(alloc)?;
+        Ok(Engine {
+            alloc,
+            routes,
+            tags,
+        })
     }
 
     /// Its memory.
@@ -45,6 +55,13 @@ impl Engine {
         ensures { result ≡ self.now.0 }
     {
         self.alloc
+    }
+
+    /// The tag of a part of the planner's page.
+    pub(crate) fn tag(&self, part: Part) -> &str
+        ensures { result.now ≡ tag_of (text_of part) }
+    {
+        self.tags.of(part)
     }
 
     /// What the path leads to.

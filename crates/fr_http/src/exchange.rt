@@ -4,7 +4,8 @@ ghost use Rattle.fr_http.specs.Operations.{FindsActor, MakesCommand, MakesOperat
 ghost use Rattle.fr_http.specs.Outcome.{asked_by, is_ask};
 ghost use Rattle.fr_http.specs.Routes.{is_held, other_variant, part};
 
-use crate::conditions::{none_matches, tag_of};
+use crate::conditions::none_matches;
+use crate::engine::Engine;
 use crate::fault::{LinkFault, Unasked};
 use crate::head::Head;
 use crate::method::Method;
@@ -89,13 +90,14 @@ impl Operation {
 /// What a route asks for, with the fields and the body that came with the request, or why it asks nothing.
 #[tactic(auto, unfolding(crate::specs::Routes::operation_by))]
 pub(crate) fn asked_operation(
-    alloc: Global,
+    engine: &Engine,
     plan: &Plan<'_>,
     head: &Head<'_>,
     body: &[u8],
 ) -> Result<Operation, Unasked>
     ensures { MakesOperation plan.now.route plan.now.path.now head.now.0.fields body.now result }
 {
+    let alloc = engine.alloc();
     let words = PathWords {
         alloc,
         path: plan.path,
@@ -103,7 +105,7 @@ pub(crate) fn asked_operation(
     match plan.route {
         Route::Page(part) => Err(Unasked::Page {
             part,
-            held: is_held(alloc, part, head)?,
+            held: is_held(engine, part, head),
         }),
         Route::Explanations => Err(Unasked::Explained { word: None }),
         Route::Explanation => Err(Unasked::Explained {
@@ -128,11 +130,10 @@ pub(crate) fn asked_operation(
 }
 
 // Whether whoever sends this head holds the part of the page as it is.
-fn is_held(alloc: Global, part: Part, head: &Head<'_>) -> Result<bool, NoMemory>
-    ensures { IfOk result (λ held. held ≡ is_held part head.now.0.fields) }
+fn is_held(engine: &Engine, part: Part, head: &Head<'_>) -> bool
+    ensures { result ≡ is_held part head.now.0.fields }
 {
-    let tag = tag_of(alloc, part.digest())?;
-    Ok(!none_matches(head.values("if-none-match"), tag.as_str()))
+    !none_matches(head.values("if-none-match"), engine.tag(part))
 }
 
 // The other variant of a path that names one.

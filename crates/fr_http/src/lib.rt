@@ -14,6 +14,7 @@ mod laws;
 mod method;
 mod need;
 mod page_reply;
+mod page_tags;
 mod path_name;
 mod plan;
 mod receive;

@@ -6,7 +6,7 @@ ghost use Rattle.fr_http.specs.PageReply.{document_guards, file_guards, guards, 
 ghost use Rattle.fr_http.specs.Reply.{closing, status_line};
 ghost use Rattle.fr_http.specs.Replying.{IsReply};
 
-use crate::conditions::tag_of;
+use crate::engine::Engine;
 use crate::reply::{ReplyText, push_close, push_field, push_status};
 use fr_base::NoMemory;
 use fr_page::Part;
@@ -15,15 +15,15 @@ use itoa::Buffer;
 use std::alloc::Global;
 
 /// The reply with a part of the planner's page, or to whom holds it as it is.
-#[tactic(auto, unfolding(crate::specs::Conditions::tag_of))]
-pub(crate) fn planner_reply(alloc: Global, part: Part, held: bool) -> Result<ReplyText, NoMemory>
+pub(crate) fn planner_reply(engine: &Engine, part: Part, held: bool) -> Result<ReplyText, NoMemory>
     ensures { IfOk result (λ reply. IsReply (planner_reply part held) reply) }
 {
-    let tag = tag_of(alloc, part.digest())?;
+    let alloc = engine.alloc();
+    let tag = engine.tag(part);
     if held {
-        held_reply(alloc, tag.as_str())
+        held_reply(alloc, tag)
     } else {
-        part_reply(alloc, part, tag.as_str())
+        part_reply(alloc, part, tag)
     }
 }
 

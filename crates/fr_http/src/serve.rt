@@ -87,7 +87,7 @@ fn serve<R: Source, W: Sink, D: Desk>(
     match take(engine, input, output, desk) {
         Ok(exchange) => answer(alloc, &exchange, output, desk),
         Err(Unasked::Engine(rejection)) => send(engine_reply(alloc, rejection), output, false),
-        Err(Unasked::Page { part, held }) => send(planner_reply(alloc, part, held), output, false),
+        Err(Unasked::Page { part, held }) => send(planner_reply(engine, part, held), output, false),
         Err(Unasked::Explained { word }) => send(
             explained_reply(alloc, word.as_ref()),
             output,
@@ -123,7 +123,7 @@ fn take<R: Source, W: Sink, D: Desk>(
     let plan = make_plan(engine, &head)?;
     invite(&head, &plan, output)?;
     let body = read_body(alloc, input, head.rest(), plan.length)?;
-    let operation = asked_operation(alloc, &plan, &head, &body)?;
+    let operation = asked_operation(engine, &plan, &head, &body)?;
     let actor = actor(desk, &head).ok_or(Unasked::Refused(Refusal::UnknownKey))?;
     Ok(operation.asked_by(actor, plan.route.method()))
 }

@@ -5,3 +5,5 @@ pub mod Passing
 pub mod Connecting
 pub mod Slots
 pub mod Queueing
+pub mod Standing
+pub mod Turned

@@ -1,9 +1,10 @@
 -- The slots of the table: what a call at one key makes of them, and what several calls make.
-use Rattle.std.proofs.Common.{◌≡◌, ◌∙◌, ℕ, List, Option, None, Some, IfSome, IsSome, refl, sym, subst, inl, inr}
+use Rattle.std.proofs.Common.{◌≡◌, ◌∙◌, ℕ, List, Option, None, Some, IfSome, IsSome, refl, sym, ap, subst, inl, inr}
+use Rattle.std.specs.Prelude.{◌≢◌}
 use Rattle.std.proofs.lemmas.Bool.{cases_eq}
 use Rattle.slab.specs.Slab.{ContainsKey, Slab, get, with_value}
 use Rattle.slab.proofs.SlabLemmas.{Updates-with_value}
-use Rattle.fr_links.specs.Connection.{Follows, IsAnswered, IsBegun, IsMoved, IsUnanswered}
+use Rattle.fr_links.specs.Connection.{Follows, IsAnswered, IsBegun, IsMoved, IsReady, IsUnanswered}
 use Rattle.fr_links.proofs.Connecting.{loses_on}
 use Rattle.fr_links.specs.Gathering.{IsTold}
 use Rattle.fr_links.specs.declared.judge.Judgement.{Judgement}
@@ -40,6 +41,13 @@ not_both Asking was is = was
 not_both (Ready ending) was is = was
 not_both (Replying asked) was is = is
 not_both (Resting asked room) was is = is
+
+-- what is to be answered was not answered
+pub ready_unanswered : (stage : Stage) → IsReady stage → IsUnanswered stage
+ready_unanswered Asking ready = absurd ready
+ready_unanswered (Ready ending) ready = tt
+ready_unanswered (Replying asked) ready = absurd ready
+ready_unanswered (Resting asked room) ready = absurd ready
 
 -- what was answered stays so
 pub answered : (a b : Stage) → Follows a b → IsAnswered a → IsAnswered b
@@ -147,16 +155,17 @@ module _ {S : Type 0} (remaining contents : S → Option (List ℕ)) where
   Goes-stays None None (Some z) p q = absurd q
   Goes-stays (Some x) None (Some z) p q = absurd q
   Goes-stays None (Some y) (Some z) p q = absurd p
-  Goes-stays (Some x) (Some y) (Some z) p q = (moved_on x.link y.link z.link y.stage z.stage p.0 q.0 q.1, Follows-trans x.stage y.stage z.stage p.1 q.1)
+  Goes-stays (Some x) (Some y) (Some z) p q =
+      (moved_on x.link y.link z.link y.stage z.stage p.0 q.0 q.1, Follows-trans x.stage y.stage z.stage p.1 q.1, λ not. ap (λ link. link.inbox) q.0 ∙ p.2 not)
 
   -- a connection is written back under its key
   pub put_goes : (links : Slab (Held S)) (key : ℕ) (held held' : Held S) → get links key ≡ Some held → IsMoved remaining contents held.link held'.link held'.stage
-      → Follows held.stage held'.stage → Goes remaining contents (get links key) (get (with_value links key held') key)
-  put_goes links key held held' there moved follows =
+      → Follows held.stage held'.stage → (held.stage ≢ Asking → held'.link.inbox ≡ held.link.inbox) → Goes remaining contents (get links key) (get (with_value links key held') key)
+  put_goes links key held held' there moved follows whole =
       let present : ContainsKey links key = subst IsSome (sym there) refl in
       let written = (Updates-with_value links key held' present).changed in
       subst (λ slot. Goes remaining contents slot (get (with_value links key held') key)) (sym there)
-      (subst (λ slot. Goes remaining contents (Some held) slot) (sym written) (moved, follows))
+      (subst (λ slot. Goes remaining contents (Some held) slot) (sym written) (moved, follows, whole))
 
   -- a connection that began stays
   pub begun_stays : (stream : S) (held : Held S) (slot slot' : Option (Held S)) → slot ≡ Some held → Stays slot slot' → IsBegun remaining contents stream held.link held.stage

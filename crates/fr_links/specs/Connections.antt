@@ -8,7 +8,7 @@ use Rattle.fr_links.specs.Gathering.{Fits, IsTold, room_of}
 use Rattle.fr_links.specs.declared.ends.Given.{Given}
 use Rattle.fr_links.specs.declared.ends.Reply.{Reply}
 use Rattle.fr_links.specs.declared.judge.Judgement.{Judgement}
-use Rattle.fr_links.specs.declared.stage.Stage.TheVariants.{Ready}
+use Rattle.fr_links.specs.declared.stage.Stage.TheVariants.{Asking, Ready}
 use Rattle.fr_links.specs.declared.held.Held.{Held}
 use Rattle.fr_links.specs.declared.table.Table.{Table}
 
@@ -62,9 +62,10 @@ module _ {S : Type 0} where
       × (reply.link.outbox ≡ held.link.outbox) × Fits (Ready given.ending) (room_of held.link.inbox.need (vec_len held.link.inbox.came))
 
 module _ {S : Type 0} (remaining contents : S → Option (List ℕ)) where
-  -- It is gone, or its bytes moved: between it and its own stream alone.
+  -- It is gone, or its bytes moved: between it and its own stream alone. Nothing more comes of a request that is awaited no longer.
   abbrev pub Goes : Option (Held S) → Option (Held S) → Type 0
   Goes None None = Unit {0}
   Goes (Some old) None = Unit {0}
   Goes None (Some new) = ⊥
-  Goes (Some old) (Some new) = IsMoved remaining contents old.link new.link new.stage × Follows old.stage new.stage
+  Goes (Some old) (Some new) =
+      IsMoved remaining contents old.link new.link new.stage × Follows old.stage new.stage × (old.stage ≢ Asking → new.link.inbox ≡ old.link.inbox)

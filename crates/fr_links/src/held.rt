@@ -1,5 +1,5 @@
 //! A connection of the table: its link, where it stands, and when its time is over.
-ghost use Rattle.std.specs.Prelude.{◌≡◌, ◌↔◌, IsTrue, length, vec_len};
+ghost use Rattle.std.specs.Prelude.{◌≡◌, ◌↔◌, [], IsTrue, length, vec_len};
 ghost use Rattle.std.specs.Io.KnownBytes.{Keeps};
 ghost use Rattle.fr_links.specs.Gathering.{Fits, room_of};
 
@@ -88,6 +88,13 @@ impl<S: Wire> Held<S> {
         matches!(self.stage, Stage::Ready { .. })
     }
 
+    /// Whether its request is awaited, and nothing of it came.
+    pub fn is_silent(&self) -> bool
+        ensures { IsTrue result ↔ ((self.now.stage ≡ Asking) × (self.now.link.inbox.came.items ≡ [])) }
+    {
+        self.stage == Stage::Asking && self.link.is_silent()
+    }
+
     /// How many bytes are still to go out.
     pub fn left(&self) -> usize
         ensures { result ≡ length (due_of self.now.link.outbox) }
@@ -132,7 +139,9 @@ impl<S: Wire> Held<S> {
     /// to do.
     pub fn move_on(&mut self, now: Instant) -> bool
         ensures moved { IsMoved S.remaining S.contents self.old.link self.new.link self.new.stage }
+        ensures inbox { self.new.link.inbox ≡ self.old.link.inbox }
         ensures stage { Follows self.old.stage self.new.stage }
+        ensures ready { IsReady self.new.stage → IsReady self.old.stage }
     {
         match self.stage {
             Stage::Asking => true,
@@ -146,6 +155,7 @@ impl<S: Wire> Held<S> {
     fn reply(&mut self, asked: bool, now: Instant) -> bool
         requires { IsAnswered self.old.stage }
         ensures moved { IsMoved S.remaining S.contents self.old.link self.new.link self.new.stage }
+        ensures inbox { self.new.link.inbox ≡ self.old.link.inbox }
         ensures stage { IsAnswered self.new.stage }
     {
         match self.link.send() {
@@ -161,6 +171,7 @@ impl<S: Wire> Held<S> {
     // Reads what still comes, so many bytes at most.
     fn rest(&mut self, asked: bool, room: usize) -> bool
         ensures moved { IsMoved S.remaining S.contents self.old.link self.new.link self.new.stage }
+        ensures inbox { self.new.link.inbox ≡ self.old.link.inbox }
         ensures outbox { self.new.link.outbox ≡ self.old.link.outbox }
         ensures contents { Keeps (S.contents self.old.link.stream)
             (S.contents self.new.link.stream) }

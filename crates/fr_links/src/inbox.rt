@@ -1,5 +1,5 @@
 //! What came in on a connection, until its request is complete.
-ghost use Rattle.std.specs.Prelude.{◌≡◌, ◌≤◌, ◌++◌, [], false, length, vec_len, None, OnErr, OnOk};
+ghost use Rattle.std.specs.Prelude.{◌≡◌, ◌≤◌, ◌++◌, ◌↔◌, [], false, length, vec_len, IsTrue, None, OnErr, OnOk};
 ghost use Rattle.std.specs.Io.KnownBytes.{Keeps};
 ghost use Rattle.fr_links.specs.Gathering.{Gathers, Invites, IsTold, Leaves, known_of, room_of};
 
@@ -46,6 +46,13 @@ impl Inbox {
             invites: false,
             reads: 0,
         }
+    }
+
+    /// Whether nothing came.
+    pub fn is_empty(&self) -> bool
+        ensures { IsTrue result ↔ (self.now.came.items ≡ []) }
+    {
+        self.came.is_empty()
     }
 
     // How many bytes are still wanted.

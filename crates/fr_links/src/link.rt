@@ -1,5 +1,5 @@
 //! One connection: its stream, what came in on it, and what is still to go out.
-ghost use Rattle.std.specs.Prelude.{◌≡◌, ◌≤◌, [], length, take, vec_len, IfOk, MatchResult, None};
+ghost use Rattle.std.specs.Prelude.{◌≡◌, ◌≤◌, ◌↔◌, [], length, take, vec_len, IfOk, IsTrue, MatchResult, None};
 ghost use Rattle.std.specs.Io.KnownBytes.{Keeps};
 ghost use Rattle.fr_links.specs.Gathering.{Gathers, IsTold, Leaves, LetsGo, room_of};
 
@@ -56,6 +56,13 @@ impl<S: Wire> Link<S> {
             self.outbox.invite(&mut self.stream);
         }
         heard
+    }
+
+    /// Whether nothing came in.
+    pub fn is_silent(&self) -> bool
+        ensures { IsTrue result ↔ (self.now.inbox.came.items ≡ []) }
+    {
+        self.inbox.is_empty()
     }
 
     /// What came in. Nothing is left of it.

@@ -1,21 +1,20 @@
-//! The connections that come in at a TCP port of this machine, side by side.
-ghost use Rattle.std.specs.Prelude.{◌≡◌, ℕ, IfOk, IsTrue, None, OnOk};
+//! The connections that come in at a port, side by side.
+ghost use Rattle.std.specs.Prelude.{◌≡◌, ◌≢◌, ℕ, IfOk, IfSome, IsTrue, None, OnErr, OnOk};
 ghost use Rattle.slab.specs.Slab.{slab_len};
-ghost use Rattle.fr_links.specs.Connections.{IsGivenOut, at};
-ghost use Rattle.fr_links.specs.declared.table.Table.{Table as Connections};
-ghost use Rattle.mio.specs.declared.net.stream.TcpStream.{TcpStream as Socket};
+ghost use Rattle.fr_links.specs.Connection.{IsAnswered, IsMoved};
+ghost use Rattle.fr_links.specs.Connections.{Queues, Stays, at};
+ghost use Rattle.fr_links.specs.Turning.{Gives, Reached, Reaches, Turns};
 
 use crate::ends::{Given, Reply};
 use crate::judge::Judge;
+use crate::port::Port;
 use crate::table::{MAX_LINKS, Table};
-use mio::net::{TcpListener, TcpStream};
-use mio::{Events, Interest, Poll, Token};
+use mio::{Events, Poll, Token};
 use std::alloc::Global;
 use std::io::{self, ErrorKind};
-use std::net;
 use std::time::{Duration, Instant};
 
-/// The token of the socket at which connections come in.
+/// The token of the port.
 const EARS: Token = Token(usize::MAX);
 
 /// How many changes the poll tells at once.
@@ -39,13 +38,13 @@ const LACK: u64 = 50;
 
 /// Connections that come in at a port, side by side.
 #[derive(Drop)]
-pub struct Links<J> {
+pub struct Links<P: Port, J> {
     alloc: Global,
     judge: J,
-    listener: TcpListener,
+    port: P,
     poll: Poll,
     events: Events,
-    table: Table<TcpStream>,
+    table: Table<P::Stream>,
     // How many more connections are accepted.
     most: u32,
     // How many may be open now: fewer than `MAX_LINKS` where the system lacked what one more needed.
@@ -56,7 +55,7 @@ pub struct Links<J> {
     knocks: bool,
     seconds: u32,
     // When the last connection was given out.
-    given: Option<Instant>,
+    given: Instant,
 }
 
 /// What became of taking connections in.
@@ -70,26 +69,19 @@ enum Taken {
     Lacks,
 }
 
-impl<J: Judge + Drop> Links<J> {
-    /// Those that come in at this socket, as many as `most`.
-    pub fn new(
-        rt: &HostRuntime,
-        listener: net::TcpListener,
-        judge: J,
-        most: u32,
-    ) -> io::Result<Links<J>>
+impl<P: Port + Drop, J: Judge + Drop> Links<P, J> {
+    /// Those that come in at this port, as many as `most`.
+    pub fn new(rt: &HostRuntime, mut port: P, judge: J, most: u32) -> io::Result<Links<P, J>>
         ensures none { IfOk result (λ links. (key : ℕ) → at links.table key ≡ None) }
+        ensures judge { IfOk result (λ links. links.judge ≡ judge) }
         ensures most { IfOk result (λ links. links.most ≡ most) }
     {
-        listener.set_nonblocking(true)?;
-        let mut listener = TcpListener::from_std(listener);
         let poll = Poll::new(rt)?;
-        poll.registry()
-            .register(&mut listener, EARS, Interest::READABLE)?;
+        port.watch(poll.registry(), EARS)?;
         Ok(Links {
             alloc: rt.alloc(),
             judge,
-            listener,
+            port,
             poll,
             events: Events::with_capacity(rt.alloc(), EVENTS)?,
             table: Table::new(rt.alloc())?,
@@ -98,7 +90,7 @@ impl<J: Judge + Drop> Links<J> {
             hears: true,
             knocks: false,
             seconds: 1,
-            given: None,
+            given: Instant::now(rt)?,
         })
     }
 
@@ -108,18 +100,18 @@ impl<J: Judge + Drop> Links<J> {
         &mut self,
         rt: &HostRuntime,
         seconds: u32,
-    ) -> io::Result<(Given, Reply<TcpStream>)>
-        ensures { IfOk result (λ ends. (table : Connections Socket)
-            × IsGivenOut (at table ends.1.key) ends.0 ends.1) }
+    ) -> io::Result<(Given, Reply<P::Stream>)>
+        ensures gives { IfOk result (λ ends. Gives P.Stream.remaining P.Stream.contents P.fresh
+            (J.tells self.old.judge) self.old.table self.new.table ends.0 ends.1) }
+        ensures err { OnErr result (Reached P.Stream.remaining P.Stream.contents P.fresh
+            (J.tells self.old.judge) self.old.table self.new.table) }
+        ensures judge { self.new.judge ≡ self.old.judge }
     {
         self.seconds = seconds;
         for _ in 0..u64::MAX {
             self.turn(rt)?;
             if let Some(ends) = self.table.next(self.alloc) {
-                self.given = match Instant::now(rt) {
-                    Ok(now) => Some(now),
-                    Err(_) => None,
-                };
+                self.given = Instant::now(rt).unwrap_or(self.given);
                 return Ok(ends);
             }
             if self.is_over() {
@@ -138,7 +130,11 @@ impl<J: Judge + Drop> Links<J> {
 
     // Takes in what waits at the port, and goes on with each connection of which something is told. Waits for that where
     // nothing is to be answered.
-    fn turn(&mut self, rt: &HostRuntime) -> io::Result<()> {
+    fn turn(&mut self, rt: &HostRuntime) -> io::Result<()>
+        ensures turns { Turns P.Stream.remaining P.Stream.contents P.fresh
+            (J.tells self.old.judge) self.old.table self.new.table }
+        ensures judge { self.new.judge ≡ self.old.judge }
+    {
         let now = Instant::now(rt)?;
         self.table.expire(now);
         let taken = self.take_in(now)?;
@@ -151,14 +147,9 @@ impl<J: Judge + Drop> Links<J> {
             done => done?,
         }
         let now = Instant::now(rt)?;
-        for event in &self.events {
-            if event.token() == EARS {
-                self.hears = true;
-                self.knocks = true;
-            } else {
-                self.table.go_on(event.token().0, now, &self.judge);
-            }
-        }
+        let told = self.table.go_on_each(&self.events, EARS, now, &self.judge);
+        self.hears |= told;
+        self.knocks |= told;
         Ok(())
     }
 
@@ -175,13 +166,21 @@ impl<J: Judge + Drop> Links<J> {
     }
 
     // Takes in connections that wait at the port.
-    fn take_in(&mut self, now: Instant) -> io::Result<Taken> {
+    fn take_in(&mut self, now: Instant) -> io::Result<Taken>
+        ensures turns { Turns P.Stream.remaining P.Stream.contents P.fresh
+            (J.tells self.old.judge) self.old.table self.new.table }
+        ensures judge { self.new.judge ≡ self.old.judge }
+    {
         for _ in 0..AT_ONCE {
-            if !self.hears || self.most == 0 || !self.has_room()? {
+            if !self.hears || self.most == 0 {
                 return Ok(Taken::All);
             }
-            match self.listener.accept() {
-                Ok((stream, _)) => self.welcome(stream, now),
+            let has_room = self.has_room()?;
+            if !has_room {
+                return Ok(Taken::All);
+            }
+            match self.port.accept_now() {
+                Ok(stream) => self.welcome(stream, now),
                 Err(error) => match kind_of(&error) {
                     Refusal::NoneWaits => (self.hears, self.knocks) = (false, false),
                     Refusal::WasGivenUp => {}
@@ -194,35 +193,45 @@ impl<J: Judge + Drop> Links<J> {
         Ok(Taken::Some)
     }
 
-    // Whether one more connection may be open. Where as many are open as may be, another makes room for it; but only where one
-    // is known to wait, which the poll is asked to tell.
-    fn has_room(&mut self) -> io::Result<bool> {
-        if self.table.is_empty() {
-            self.limit = MAX_LINKS;
-        }
+    // Whether one more connection may be open. Where as many are open as may be, others make room for it; but only where one is
+    // known to wait, which the poll is asked to tell, and no request is to be answered, behind which a connection ends anyway.
+    fn has_room(&mut self) -> io::Result<bool>
+        ensures turns { Turns P.Stream.remaining P.Stream.contents P.fresh
+            (J.tells self.old.judge) self.old.table self.new.table }
+        ensures judge { self.new.judge ≡ self.old.judge }
+    {
+        self.limit = if self.table.is_empty() {
+            MAX_LINKS
+        } else {
+            self.limit
+        };
         if self.table.len() < self.limit {
             return Ok(true);
         }
         if !self.knocks {
             self.hears = false;
-            let registry = self.poll.registry();
-            registry.reregister(&mut self.listener, EARS, Interest::READABLE)?;
+            self.port.watch(self.poll.registry(), EARS)?;
             return Ok(false);
         }
         for _ in 0..MAX_LINKS {
-            if !self.table.make_room() {
+            if self.table.has_ready() {
                 return Ok(false);
             }
-            if self.table.len() < self.limit {
-                return Ok(true);
+            let made = self.table.make_room();
+            if !made || self.table.len() < self.limit {
+                return Ok(made);
             }
         }
         Ok(false)
     }
 
     // Takes in a connection that was accepted.
-    fn welcome(&mut self, stream: TcpStream, now: Instant) {
-        let _ = stream.set_nodelay(true);
+    fn welcome(&mut self, stream: P::Stream, now: Instant)
+        requires { P.fresh stream }
+        ensures turns { Turns P.Stream.remaining P.Stream.contents P.fresh
+            (J.tells self.old.judge) self.old.table self.new.table }
+        ensures judge { self.new.judge ≡ self.old.judge }
+    {
         let end = self.end_from(now);
         let registry = self.poll.registry();
         self.knocks = false;
@@ -242,23 +251,30 @@ impl<J: Judge + Drop> Links<J> {
 
     /// Takes back a connection that was answered, or lets it go where it was not: `served` says whether its request was read to
     /// its end.
-    pub fn close(&mut self, rt: &HostRuntime, reply: Reply<TcpStream>, served: Option<bool>)
-        ensures { self.new.most ≡ self.old.most }
+    pub fn close(&mut self, rt: &HostRuntime, reply: Reply<P::Stream>, served: Option<bool>)
+        ensures others { (other : ℕ) → other ≢ self.old.table.links.vacant_key
+            → Stays (at self.old.table other) (at self.new.table other) }
+        ensures own { IfSome (at self.new.table self.old.table.links.vacant_key)
+            (λ held. IsMoved P.Stream.remaining P.Stream.contents reply.link held.link held.stage
+            × IsAnswered held.stage) }
+        ensures queue { Queues self.old.table self.new.table }
+        ensures judge { self.new.judge ≡ self.old.judge }
+        ensures most { self.new.most ≡ self.old.most }
     {
-        if let Ok(now) = Instant::now(rt) {
-            if let Some(given) = self.given {
-                self.table.postpone(now.saturating_duration_since(given));
-            }
-            let end = self.end_from(now);
-            self.table
-                .take_back(reply, served, now, end, self.poll.registry());
-        }
+        let now = Instant::now(rt).unwrap_or(self.given);
+        self.table
+            .postpone(now.saturating_duration_since(self.given));
+        let end = self.end_from(now);
+        self.table
+            .take_back(reply, served, now, end, self.poll.registry());
     }
 
     /// Sends what is still to go out, until each client took it or its time is over. No further request is answered. Where it
     /// does not fail, no connection is open then.
     pub fn finish(&mut self, rt: &HostRuntime) -> io::Result<()>
-        ensures { OnOk result (slab_len self.new.table.links ≡ 0) }
+        ensures none { OnOk result (slab_len self.new.table.links ≡ 0) }
+        ensures each { (key : ℕ) → Reaches P.Stream.remaining P.Stream.contents P.fresh
+            (at self.old.table key) (at self.new.table key) }
     {
         self.most = 0;
         self.table.let_go_unanswered();

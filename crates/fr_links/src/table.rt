@@ -1,15 +1,14 @@
 //! The connections that are open, and which of them have a complete request.
 ghost use Rattle.std.specs.Prelude.{◌≡◌, ◌≢◌, ◌↔◌, ◌<◌, ◌++◌, ℕ, [], ◌∷◌, length, IfNone, IfOk, IfSome, IsTrue, None, Some};
 ghost use Rattle.slab.specs.Slab.{get, slab_len};
-ghost use Rattle.fr_links.specs.Connection.{IsAnswered, IsBegun, IsMoved};
-ghost use Rattle.fr_links.specs.Connections.{AllStay, Goes, IsGivenOut, IsKnown, IsUnready, OthersStay, Queues, Stays, TakesFirst, at};
+ghost use Rattle.fr_links.specs.Waiting.{AllQueued, Joins};
 
 use crate::ends::{Given, Reply};
 use crate::held::Held;
 use crate::judge::Judge;
 use crate::stage::Stage;
 use crate::wire::Wire;
-use mio::Registry;
+use mio::{Events, Registry, Token};
 use slab::Slab;
 use std::alloc::{AllocError, Global};
 use std::collections::VecDeque;
@@ -17,6 +16,9 @@ use std::time::{Duration, Instant};
 
 /// How many connections are open at most.
 pub const MAX_LINKS: usize = 1024;
+
+/// How many connections make room at once, where one more comes.
+pub const ROOM: usize = 64;
 
 /// How many bytes of replies are kept at most for clients that do not take them, beside the last reply.
 pub const MAX_KEPT: usize = 67_108_864;
@@ -28,9 +30,14 @@ pub struct Table<S> {
     ready: VecDeque<usize>,
     // No connection's time is over before this.
     soonest: Option<Instant>,
+    ghost queued: { AllQueued links ready.items },
 }
 
 impl<S: Wire + Drop> Table<S> {
+    ghost use Rattle.fr_links.specs.Connection.{IsAnswered, IsBegun, IsMoved};
+    ghost use Rattle.fr_links.specs.Connections.{AllStay, Goes, IsGivenOut, IsKnown, IsUnready, OthersStay, Queues, Stays, TakesFirst, at};
+    ghost use Rattle.fr_links.specs.Turning.{GoesOn};
+
     /// One without a connection.
     pub fn new(alloc: Global) -> Result<Table<S>, AllocError>
         ensures none { IfOk result (λ table. (key : ℕ) → at table key ≡ None) }
@@ -112,11 +119,11 @@ impl<S: Wire + Drop> Table<S> {
         let Ok(at) = self.links.insert(held) else {
             return false;
         };
-        if !is_ready {
+        if is_ready {
+            queue(&mut self.links, &mut self.ready, at);
+        } else {
             self.note(end);
-            return true;
         }
-        self.queue(at);
         true
     }
 
@@ -141,19 +148,7 @@ impl<S: Wire + Drop> Table<S> {
             return;
         };
         if held.stage == Stage::Asking && held.hear(judge) {
-            self.queue(key);
-        }
-    }
-
-    // Puts the connection behind all others whose requests are to be answered.
-    #[tactic(auto, using(crate::proofs::Queueing::stands, crate::proofs::Queueing::stands_behind))]
-    fn queue(&mut self, key: usize)
-        ensures others { OthersStay self.old self.new key }
-        ensures own { Stays (at self.old key) (at self.new key) }
-        ensures queue { Queues self.old self.new }
-    {
-        if self.ready.push_back(key).is_err() {
-            self.end(key);
+            queue(&mut self.links, &mut self.ready, key);
         }
     }
 
@@ -174,6 +169,28 @@ impl<S: Wire + Drop> Table<S> {
             Stage::Ready { .. } => {}
             Stage::Replying { .. } | Stage::Resting { .. } => self.move_on(key, now),
         }
+    }
+
+    /// Goes on with each connection of which the poll told something. Gives whether it told of the port, which has this token.
+    pub fn go_on_each<J: Judge>(
+        &mut self,
+        events: &Events,
+        port: Token,
+        now: Instant,
+        judge: &J,
+    ) -> bool
+        ensures { GoesOn S.remaining S.contents (J.tells judge.now) self.old self.new }
+    {
+        let mut told = false;
+        for event in events {
+            let token = event.token();
+            if token == port {
+                told = true;
+                continue;
+            }
+            self.go_on(token.0, now, judge);
+        }
+        told
     }
 
     // Sends what is to go out, and then reads what still comes.
@@ -200,12 +217,15 @@ impl<S: Wire + Drop> Table<S> {
         ensures others { IfSome result (λ ends. OthersStay self.old self.new ends.1.key) }
         ensures once { IfSome result (λ ends. at self.new ends.1.key ≡ None) }
         ensures given { IfSome result (λ ends. IsGivenOut (at self.old ends.1.key) ends.0 ends.1) }
-        ensures none { IfNone result (self.new.links ≡ self.old.links) }
+        ensures stays { IfNone result (self.new.links ≡ self.old.links) }
+        ensures none { IfNone result ((key : ℕ) → IsUnready (at self.old key)) }
         ensures first { IfSome result (λ ends. TakesFirst self.old self.new ends.1.key) }
     {
-        while let Some(key) = self.ready.pop_front() {
-            if let Some(ends) = self.give_out(alloc, key) {
-                return Some(ends);
+        while let Some(key) = self.ready.front().copied() {
+            let ends = self.give_out(alloc, key);
+            self.ready.pop_front();
+            if ends.is_some() {
+                return ends;
             }
         }
         None
@@ -311,26 +331,52 @@ impl<S: Wire + Drop> Table<S> {
         kept
     }
 
-    /// Makes room for one more connection: one that only ends its reply is let go; else the one whose request has been awaited
-    /// longest is answered next, as one whose time is over. Gives whether there is room now.
+    /// Makes room for more connections. One that only ends its reply is let go; else those whose requests have been awaited longest
+    /// are answered next, as ones whose time is over, so many at once: first those of which nothing came. Where no request is
+    /// awaited, the connection is let go whose time to take its reply ends first. Gives whether there is room now.
     #[tactic(auto, using(crate::proofs::Queueing::stands, crate::proofs::Queueing::queues_on))]
     pub fn make_room(&mut self) -> bool
         ensures stay { AllStay self.old self.new }
         ensures queue { Queues self.old self.new }
     {
-        let resting = self.first_to_end(|held, _| matches!(held.stage, Stage::Resting { .. }));
-        let ending = match resting {
-            Some(key) => Some(key),
-            None => self.first_to_end(|held, _| matches!(held.stage, Stage::Replying { .. })),
-        };
-        if let Some(key) = ending {
+        if let Some(key) = self.first_to_end(|held, _| matches!(
+            held.stage,
+            Stage::Resting { .. }
+        )) {
             self.end(key);
             return true;
         }
-        if let Some(key) = self.first_to_end(|held, _| held.stage == Stage::Asking) {
-            self.give_up(key);
+        if self.give_up_some() {
+            return false;
         }
-        false
+        match self.first_to_end(|held, _| matches!(held.stage, Stage::Replying { .. })) {
+            Some(key) => {
+                self.end(key);
+                true
+            }
+            None => false,
+        }
+    }
+
+    // Has those answered whose requests have been awaited longest, so many at most: first those of which nothing came. Gives
+    // whether there were any.
+    #[tactic(auto, using(crate::proofs::Queueing::stands, crate::proofs::Queueing::queues_on))]
+    fn give_up_some(&mut self) -> bool
+        ensures stay { AllStay self.old self.new }
+        ensures queue { Queues self.old self.new }
+    {
+        for given_up in 0..ROOM {
+            let silent = self.first_to_end(|held, _| held.is_silent());
+            let awaited = match silent {
+                Some(key) => Some(key),
+                None => self.first_to_end(|held, _| held.stage == Stage::Asking),
+            };
+            match awaited {
+                Some(key) => self.give_up(key),
+                None => return given_up > 0,
+            }
+        }
+        true
     }
 
     // The connection is answered as one whose time is over.
@@ -345,7 +391,7 @@ impl<S: Wire + Drop> Table<S> {
         };
         if held.stage == Stage::Asking {
             held.give_up();
-            self.queue(key);
+            queue(&mut self.links, &mut self.ready, key);
         }
     }
 
@@ -369,12 +415,25 @@ impl<S: Wire + Drop> Table<S> {
     pub fn let_go_unanswered(&mut self)
         ensures { AllStay self.old self.new }
     {
-        self.ready.clear();
         for key in 0..MAX_LINKS {
-            if let Some(held) = self.links.get(key) {
-                if matches!(held.stage, Stage::Asking | Stage::Ready { .. }) {
-                    self.end(key);
-                }
+            self.let_go_one(key);
+        }
+        while let Some(key) = self.ready.front().copied() {
+            self.let_go_one(key);
+            self.ready.pop_front();
+        }
+    }
+
+    // Lets this connection go, where it was not answered.
+    fn let_go_one(&mut self, key: usize)
+        ensures others { OthersStay self.old self.new key }
+        ensures own { Stays (at self.old key) (at self.new key) }
+        ensures unready { IsUnready (at self.new key) }
+        ensures ready { self.new.ready ≡ self.old.ready }
+    {
+        if let Some(held) = self.links.get(key) {
+            if matches!(held.stage, Stage::Asking | Stage::Ready { .. }) {
+                self.end(key);
             }
         }
     }
@@ -383,6 +442,7 @@ impl<S: Wire + Drop> Table<S> {
     #[tactic(auto, using(crate::proofs::Queueing::stands, crate::proofs::Queueing::queues_on))]
     pub fn postpone(&mut self, time: Duration)
         ensures stay { AllStay self.old self.new }
+        ensures vacant { self.new.links.vacant_key ≡ self.old.links.vacant_key }
         ensures queue { Queues self.old self.new }
     {
         self.soonest = None;
@@ -396,6 +456,7 @@ impl<S: Wire + Drop> Table<S> {
     fn postpone_one(&mut self, key: usize, time: Duration)
         ensures others { OthersStay self.old self.new key }
         ensures own { Stays (at self.old key) (at self.new key) }
+        ensures vacant { self.new.links.vacant_key ≡ self.old.links.vacant_key }
         ensures queue { Queues self.old self.new }
     {
         let Some(held) = self.links.get_mut(key) else {
@@ -439,5 +500,14 @@ impl<S: Wire + Drop> Table<S> {
             Stage::Asking => self.give_up(key),
             Stage::Replying { .. } | Stage::Resting { .. } => self.end(key),
         }
+    }
+}
+
+// Puts the connection behind all others whose requests are to be answered.
+fn queue<S: Wire + Drop>(links: &mut Slab<Held<S>>, ready: &mut VecDeque<usize>, key: usize)
+    ensures { Joins links.old links.new ready.old.items ready.new.items key }
+{
+    if ready.push_back(key).is_err() {
+        let _ = links.try_remove(key);
     }
 }

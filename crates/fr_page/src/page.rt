@@ -28,7 +28,7 @@ pub const DOCUMENT: &str = "<!doctype html>
 
 <div id=\"app\" class=\"app\" hidden>
   <header class=\"top\">
-    <strong class=\"brand\">slotplan</strong>
+    <h1 class=\"brand\">slotplan</h1>
     <label for=\"variant\" class=\"quiet\">Variant</label>
     <select id=\"variant\"></select>
     <span id=\"variant-state\" class=\"tag\"></span>
@@ -49,7 +49,7 @@ pub const DOCUMENT: &str = "<!doctype html>
   </div>
   <div id=\"message\" class=\"message\" role=\"status\" aria-live=\"polite\" hidden></div>
 
-  <div id=\"columns\" class=\"columns\">
+  <main id=\"columns\" class=\"columns\">
     <aside class=\"side\" id=\"side\" aria-label=\"Frames\">
       <button id=\"side-open\" type=\"button\" class=\"side-open\" aria-expanded=\"false\" aria-controls=\"side\">Frames</button>
       <label for=\"search\" class=\"hidden-label\">Search frames</label>
@@ -114,7 +114,7 @@ pub const DOCUMENT: &str = "<!doctype html>
     </section>
 
     <aside id=\"detail\" class=\"detail\" aria-label=\"Details\" tabindex=\"-1\"></aside>
-  </div>
+  </main>
 </div>
 
 <div id=\"tip\" class=\"tip\" hidden></div>
@@ -149,7 +149,7 @@ button{cursor:pointer;background:var(--soft)}
 button:hover:not(:disabled){background:#e4e9f0}
 button:disabled{opacity:.5;cursor:default}
 button.main,button[aria-pressed=true]{background:var(--accent);border-color:var(--accent);color:#fff}
-button.main:hover:not(:disabled){background:#094a8c}
+button.main:hover:not(:disabled),button[aria-pressed=true]:hover:not(:disabled){background:#094a8c;color:#fff}
 button.bad{color:var(--bad);border-color:#d6a3a5}
 button.bad.main{background:#fbe9e9}
 button.link{border:0;background:none;padding:0;min-height:0;color:var(--accent);text-decoration:underline;text-align:left}
@@ -167,7 +167,7 @@ label.check{display:inline-flex;gap:.35rem;align-items:center}
 .login form{display:grid;gap:.6rem}
 .app{display:flex;flex-direction:column;height:100vh;height:100dvh}
 .top{position:relative;overflow:hidden;display:flex;flex-wrap:wrap;gap:.4rem .5rem;align-items:center;padding:.4rem .75rem;background:#1c2633;color:#fff}
-.brand{font-size:1.05rem;margin-right:.3rem}
+.brand{font-size:1.05rem;margin:0 .3rem 0 0}
 .quiet{color:#c6d0dd}
 .top select,.top button{background:#2b3848;color:#fff;border-color:#55657a}
 .top button:hover{background:#3a4b60}
@@ -429,6 +429,25 @@ function save(name, text, type) {
   setTimeout(() => URL.revokeObjectURL(link.href), 10000);
 }
 
+// ---- words.js
+
+// Numbers, places and lists as words.
+
+const grouped = number => String(number).replace(/\\B(?=(\\d{3})+$)/g, \",\");
+const plural = (number, one, many = one + \"s\") => `${grouped(number)} ${number === 1 ? one : many}`;
+const short = value => String(value).slice(0, 80);
+
+const cyclesText = ({base, repetition}) => `${base}/${repetition}`;
+const shortPlaceText = ({slot, channels, base, repetition}) => `${slot} ${channels} ${base}/${repetition}`;
+const placeText = placement => \"slot \" + shortPlaceText(placement);
+const longPlaceText = ({slot, channels, base, repetition}) => `slot ${slot} ${channels}, base ${base}, repetition ${repetition}`;
+const bitsText = ({name, start, length, order}) => `${name}: ${plural(length, \"bit\")} from bit ${start}, ${order}`;
+
+// The first texts of a list, and how many more there are.
+const firstOf = (texts, most) => texts.slice(0, most).join(\", \") + (texts.length > most ? ` and ${grouped(texts.length - most)} more` : \"\");
+
+const byText = (one, other) => one < other ? -1 : one > other ? 1 : 0;
+
 // ---- csv.js
 
 // Files of rows: their records, as the register reads them, and records as a file.
@@ -469,6 +488,19 @@ const lineOf = record => record.map(quoted).join(\",\") + \"\\n\";
 
 const fileOf = records => new TextEncoder().encode(records.map(lineOf).join(\"\"));
 
+// What the largest plan has of a kind: 64 signals of each of 256 frames. A name has 32 letters.
+const MOST_RECORDS = 16_384;
+const LONGEST_FIELD = 1000;
+
+// Why records can be no plan's; empty where they can.
+function excessIn(records) {
+  if (records.length > MOST_RECORDS + 1) return `It has ${grouped(records.length - 1)} rows. A plan has at most ${grouped(MOST_RECORDS)} of a kind.`;
+  const at = records.findIndex(record => record.length > LONGEST_FIELD || record.some(field => field.length > LONGEST_FIELD));
+  if (at < 0) return \"\";
+  const longest = records[at].reduce((most, field) => Math.max(most, field.length), 0);
+  return longest > LONGEST_FIELD ? `Row ${at + 1} has a field of ${grouped(longest)} letters, and names have 32 at most.` : `Row ${at + 1} has ${grouped(records[at].length)} fields.`;
+}
+
 const MOST_ROWS = 512;
 const MOST_BYTES = 65536;
 
@@ -485,7 +517,7 @@ function partsOf([header, ...rows]) {
       part = [header];
       bytes = lineOf(header).length;
     }
-    part.push(...group);
+    for (const row of group) part.push(row);
     bytes += more;
   }
   if (part.length > 1) parts.push(part);
@@ -556,6 +588,7 @@ const REFUSALS = {
   29: [\"BadRow\", \"A row of the file is refused, and nothing of it was carried out.\", \"\"],
   30: [\"BadKey\", \"The key does not have the form of a key.\", \"8 to 64 letters and digits.\"],
   31: [\"KeyTaken\", \"Somebody has this key already.\", \"Choose another one.\"],
+  32: [\"NoRoom\", \"No placement is left for the wish.\", \"A greater repetition, or a slot more, may help.\"],
 };
 
 const nameOfRefusal = number => REFUSALS[number]?.[0];
@@ -715,25 +748,6 @@ class Plan {
   cellsSent() { return this.load.reduce((sum, used) => sum + used, 0); }
 }
 
-// ---- words.js
-
-// Numbers, places and lists as words.
-
-const grouped = number => String(number).replace(/\\B(?=(\\d{3})+$)/g, \",\");
-const plural = (number, one, many = one + \"s\") => `${grouped(number)} ${number === 1 ? one : many}`;
-const short = value => String(value).slice(0, 80);
-
-const cyclesText = ({base, repetition}) => `${base}/${repetition}`;
-const shortPlaceText = ({slot, channels, base, repetition}) => `${slot} ${channels} ${base}/${repetition}`;
-const placeText = placement => \"slot \" + shortPlaceText(placement);
-const longPlaceText = ({slot, channels, base, repetition}) => `slot ${slot} ${channels}, base ${base}, repetition ${repetition}`;
-const bitsText = ({name, start, length, order}) => `${name}: ${plural(length, \"bit\")} from bit ${start}, ${order}`;
-
-// The first texts of a list, and how many more there are.
-const firstOf = (texts, most) => texts.slice(0, most).join(\", \") + (texts.length > most ? ` and ${grouped(texts.length - most)} more` : \"\");
-
-const byText = (one, other) => one < other ? -1 : one > other ? 1 : 0;
-
 // ---- meanwhile.js
 
 // What somebody else changed between two readings, in words.
@@ -836,6 +850,9 @@ class Register {
     return answerOf(\"try\", await this.ask(replaces ? \"PUT\" : \"POST\", `variants/${variant}/tries${isWhole ? \"/whole\" : \"\"}`, file, false));
   }
 
+  // Where wishes would go.
+  async proposed(variant, file, replaces) { return answerOf(\"propose\", await this.ask(replaces ? \"PUT\" : \"POST\", `variants/${variant}/proposals`, file, false)); }
+
   async imported(variant, label, file) {
     return answerOf(\"imported\", await this.ask(\"POST\", `variants/${variant}/imports/${label}`, file));
   }
@@ -858,7 +875,7 @@ function parsed(text) {
 // An answer that says this word; imports and replacements say how many rows they have. After another one a change may have been carried out.
 function answerOf(word, text) {
   const answer = parsed(text), isOwn = answer?.ok === word && (!word.endsWith(\"ed\") || Number.isInteger(answer.rows));
-  if (!isOwn) throw Object.assign(new Strange(\"The server's answer is none of the register's.\"), {isChange: word !== \"try\"});
+  if (!isOwn) throw Object.assign(new Strange(\"The server's answer is none of the register's.\"), {isChange: word !== \"try\" && word !== \"propose\"});
   return answer;
 }
 
@@ -883,6 +900,8 @@ const FORMS = {
   cluster: form(\"(\\\\w+) (AB|A|B|\\\\d{1,10}|NAME)\"),
   variant: form(`NAME (-|${NAME}) (\\\\d{1,2}) (open|released)`),
   node: form(\"NAME\" + OWNER),
+  wish: form(\"(\\\\d{4,}) (\\\\d\\\\d) (?:NAME,NAME,(\\\\d{1,4}),(AB|A|B),(\\\\d{1,2}),(\\\\d{1,2})|(\\\\w{1,20}))\"),
+  lack: form(\"LACK NAME (AB|A|B) (\\\\d{4})\"),
   fate: form(\"(\\\\d{4,}) (\\\\d\\\\d) (\\\\w{1,20})(?: (\\\\d\\\\d) ([AB]) NAME| (\\\\d{4}) NAME)?\"),
 };
 
@@ -964,6 +983,19 @@ function readFates(answer) {
     }
     return fate;
   });
+}
+
+// A proposal: of each wish its record's number, and its placement or the refusal; and what is lacking, by nodes and channels.
+function readProposal(answer) {
+  if (!Array.isArray(answer.lines)) throw new Strange(\"The answer to a proposal has no lines.\");
+  const lines = answer.lines.map(String), isLack = line => line.startsWith(\"LACK \");
+  const lacks = lines.filter(isLack).map(line => fieldsOf(FORMS.lack, line)).map(([node, channels, lack]) => ({node, channels, lack: Number(lack)}));
+  const rows = lines.filter(line => !isLack(line)).map(line => {
+    const [record, number, frame, node, slot, channels, base, repetition, word] = fieldsOf(FORMS.wish, line), no = Number(number);
+    if ((frame !== undefined) !== (no === 0) || (no !== 0 && nameOfRefusal(no) !== word)) throw new Strange(`The server sent a line that no proposal has: ${short(line)}`);
+    return {record: Number(record), no, placement: no ? null : {frame, node, slot: Number(slot), channels, base: Number(base), repetition: Number(repetition)}};
+  });
+  return {rows, lacks};
 }
 
 function rowOf(line, me) {
@@ -1146,9 +1178,27 @@ const OUT_OF_DATE = [10, 11, 14, 15, 16, 17, 18, 19, 21, 22, 24, 25, 27, 29];
 // Says something: `good`, `bad`, `warn` or, of what is under way, `wait`.
 function say(kind, text, ...buttons) {
   const box = byId(\"message\");
+  clearTimeout(fading);
+  if (kind === \"good\") fading = setTimeout(fade, SHOWN_FOR);
   box.className = \"message \" + kind;
   box.replaceChildren(make(\"div\", {}, text), ...buttons, button(\"Close\", quiet));
   box.hidden = false;
+  box.style.bottom = aboveCell();
+}
+
+// Messages stand above the line that tells of a cell, where that is seen.
+function aboveCell() {
+  const line = byId(\"cell\"), top = line.checkVisibility?.() ? line.getBoundingClientRect().top : 0;
+  return top > 0 && top < window.innerHeight ? `${window.innerHeight - top + 6}px` : \"\";
+}
+
+// What was done goes away by itself, unless it is pointed at or has the keyboard.
+const SHOWN_FOR = 15_000;
+let fading = 0;
+function fade() {
+  const box = byId(\"message\");
+  if (box.matches(\":hover, :focus-within\")) fading = setTimeout(fade, SHOWN_FOR);
+  else quietGood();
 }
 
 const quiet = () => { byId(\"message\").hidden = true; };
@@ -1332,6 +1382,19 @@ function rowChanges(changes, kind, fields) {
 function filed(kind, frames, rowOf) {
   const rows = frames.flatMap(frame => frame.rows.map(one => rowOf(frame, one)));
   return rows.length ? partsOf([HEADS[kind], ...rows]).map(part => ({file: fileOf(part), isWhole: false})) : [];
+}
+
+// How many rows of a file, below its header, the supplier has already just so.
+function rowsThere(plan, supplier, kind, rows) {
+  const has = (fields, some, one) => some.some(other => asText(fields, other) === asText(fields, one));
+  const isThere = ([name, ...rest]) => {
+    const frame = plan.frameNamed(supplier, name);
+    if (!frame) return false;
+    if (kind === \"signals\") return has(SIGNAL, frame.signals, {name: rest[0], start: Number(rest[1]), length: Number(rest[2]), order: rest[3]});
+    const [node, slot, channels, base, repetition] = rest;
+    return frame.node === node && (kind === \"frames\" || has(PLACE, frame.placements, {slot: Number(slot), channels, base: Number(base), repetition: Number(repetition)}));
+  };
+  return rows.filter(isThere).length;
 }
 
 // Whether a request does exactly what it says, or is refused, whatever somebody else has changed.
@@ -2049,7 +2112,7 @@ const EMPTY = {
   register: null, isIntegrator: false, me: \"\", cluster: null, nodes: [], variants: [],
   variant: null, plan: null, difference: null,
   frame: null, placement: null, lane: null, found: null,
-  room: null, granting: null, draft: null, file: null, view: \"plan\", busy: 0, unansweredKey: \"\",
+  room: null, granting: null, draft: null, file: null, wishes: null, view: \"plan\", busy: 0, unansweredKey: \"\",
 };
 
 class Desk {
@@ -2168,7 +2231,8 @@ function signalForm(desk, frame, signals, matrix) {
   const isWhole = () => start.value !== \"\" && length.value >= 1 && length.value <= 64;
   const draw = () => matrix.replaceChildren(bitTable(desk.cluster, signals, isWhole() ? wanted() : null, pick));
   const keep = () => { desk.draft = {key, name: name.value, start: start.value, length: length.value, order: order.value}; };
-  for (const input of [name, start, length, order]) input.addEventListener(\"input\", () => { keep(); draw(); });
+  name.addEventListener(\"input\", keep);
+  for (const input of [start, length, order]) input.addEventListener(\"input\", () => { keep(); draw(); });
   const add = event => {
     event.preventDefault();
     if (isDigits(start.value) && isDigits(length.value)) addSignal(desk, frame, wanted());
@@ -2319,9 +2383,7 @@ async function askDrop(desk, frame) {
     + \"Undo brings them back.\";
   if (await confirmed(`Drop ${frame.name}?`, text, \"Drop it\")) dropFrame(desk, frame.name);
 }
-";
 
-pub const PROGRAM_3: &str = "
 // ---- differences.js
 
 // The view of differences: what a variant has that another one has not, and the other way round.
@@ -2355,6 +2417,11 @@ function kindBar(desk, difference) {
   const all = button(\"all\", () => show(null), {\"aria-pressed\": String(!difference.kind)});
   return row(difference.rows.length ? all : make(\"strong\", {}, \"Nothing differs.\"), kinds,
     button(\"Mark it in the plan\", () => { desk.look.marks = true; desk.show(\"plan\"); desk.tell(\"look\"); }),
+    button(\"Take it as a picture\", () => attempt(desk, async () => {
+      const {variant} = desk, name = `${variant}_since_${difference.from}.html`;
+      save(name, await desk.register.read(desk.path(`since/${difference.from}/picture`)), \"text/html\");
+      say(\"good\", `${name} is the plan with what is new in it, as a page to print or to send.`);
+    }, \"Taking the picture ...\")),
     button(\"Forget it\", () => { desk.difference = null; desk.tell(\"difference\"); }));
 }
 
@@ -2376,7 +2443,9 @@ function rowText(desk, row) {
   if (row.kind === \"signal\") return bitsText(row);
   return row.gap === Infinity ? \"never sent\" : desk.times.text(row.gap);
 }
+";
 
+pub const PROGRAM_3: &str = "
 // ---- gone.js
 
 // What a file would take away that takes the place of what was there: rows that the register has, and the file has not.
@@ -2427,7 +2496,11 @@ const canUnpack = () => {
   try { return Boolean(new DecompressionStream(\"deflate-raw\")); } catch { return false; }
 };
 
+// More than the largest plan has in one table.
 const MOST_LETTERS = 32_000_000;
+const MOST_LINES = 20_000;
+const MOST_COLUMNS = 256;
+const MOST_SHEETS = 64;
 
 // Its sheets in their order: name and records.
 async function sheetsOf(bytes) {
@@ -2440,7 +2513,9 @@ async function sheetsOf(bytes) {
 async function officeSheets(part) {
   const targets = new Map(elements(await part(\"xl/_rels/workbook.xml.rels\"), \"Relationship\").map(({fields}) => [fields.Id, fields.Target]));
   const strings = elements(await part(\"xl/sharedStrings.xml\"), \"si\").map(({inner}) => textIn(inner)), sheets = [];
-  for (const {fields} of elements(await part(\"xl/workbook.xml\"), \"sheet\")) {
+  const named = elements(await part(\"xl/workbook.xml\"), \"sheet\");
+  if (named.length > MOST_SHEETS) throw new NoWorkbook(`It has ${named.length} sheets. Of more than ${MOST_SHEETS} none is read.`);
+  for (const {fields} of named) {
     const target = targets.get(fields[\"r:id\"]) ?? \"\";
     const records = recordsIn(await part(target.startsWith(\"/\") ? target.slice(1) : \"xl/\" + target), strings);
     sheets.push({name: fields.name ?? \"\", records});
@@ -2450,23 +2525,25 @@ async function officeSheets(part) {
 
 // As OpenDocument has them: a cell, or a row, that stands several times in turn is written once, with their number.
 function openSheets(xml) {
-  const record = row => unrolled(elements(row.inner, \"(?:covered-)?table-cell\"), \"columns\", openText);
-  return elements(xml, \"table\").map(({fields, inner}) =>
-    ({name: fields[\"table:name\"] ?? \"\", records: unrolled(elements(inner, \"table-row\"), \"rows\", record)}));
+  const record = row => unrolled(elements(row.inner, \"(?:covered-)?table-cell\"), \"columns\", MOST_COLUMNS, openText);
+  return elements(xml, \"table\").slice(0, MOST_SHEETS).map(({fields, inner}) =>
+    ({name: fields[\"table:name\"] ?? \"\", records: unrolled(elements(inner, \"table-row\"), \"rows\", MOST_LINES, record)}));
 }
 
 // What is read of elements, each as often as it stands there, up to the last that has something in it.
-function unrolled(found, what, read) {
+function unrolled(found, what, most, read) {
   const runs = found.map(one => [read(one), (one.fields[`table:number-${what}-repeated`] ?? 1) >>> 0]);
-  const kept = runs.slice(0, runs.findLastIndex(([value]) => value.length) + 1);
-  if (kept.some(([, times]) => times > 1000)) throw new NoWorkbook(\"It is too large.\");
+  const kept = runs.slice(0, runs.findLastIndex(([value]) => value.length) + 1), count = kept.reduce((sum, [, times]) => sum + times, 0);
+  if (count > most) throw new NoWorkbook(tooMany(what, most));
   return kept.flatMap(([value, times]) => Array(times).fill(value));
 }
 
+const tooMany = (what, most) => `A sheet of it has more than ${grouped(most)} ${what}, which no plan has.`;
+
 function openText({fields, inner}) {
   if (fields[\"office:value-type\"] === \"float\") return numberText(fields[\"office:value\"] ?? \"\");
-  const lines = elements(inner.replace(/<office:annotation[^]*?<\\/office:annotation>/g, \"\"), \"p\");
-  return lines.map(line => unescaped(line.inner.replace(/<text:s\\b[^>]*>/g, \" \").replace(/<[^>]*>/g, \"\"))).join(\"\\n\");
+  const lines = elements(cleared(inner, \"annotation\"), \"p\");
+  return lines.map(line => unescaped(line.inner.replace(/<text:s\\b[^<>]*>/g, \" \").replace(/<[^<>]*>/g, \"\"))).join(\"\\n\");
 }
 
 // The places of a zip's entries, by their paths, as its directory at the end has them.
@@ -2515,30 +2592,51 @@ const unescaped = text => text.replace(/&(?:#(\\d{1,7})|#x([0-9a-fA-F]{1,6})|(\\
 
 // The elements of a name, which hold none of the same name: their fields, and what is between their tags.
 function elements(xml, name) {
-  const found = [];
-  for (const [, head, isEmpty, inner] of xml.matchAll(new RegExp(`<(?:\\\\w+:)?${name}(\\\\s[^>]*?)?(?:(/)>|>([^]*?)</(?:\\\\w+:)?${name}>)`, \"g\"))) {
+  return stretches(xml, name).map(({head, inner}) => {
     const fields = {};
-    for (const [, key, value] of (head ?? \"\").matchAll(/([\\w:-]+)=\"([^\"]*)\"/g)) fields[key] = unescaped(value);
-    found.push({fields, inner: isEmpty ? \"\" : inner});
+    for (const [, key, value] of head.matchAll(/(?<![\\w:-])([\\w:-]+)=\"([^\"]*)\"/g)) fields[key] = unescaped(value);
+    return {fields, inner};
+  });
+}
+
+// Where they begin and end. Each letter is looked at a few times at most, however the text is damaged.
+function stretches(xml, name) {
+  const opening = new RegExp(`<(?:\\\\w+:)?${name}(\\\\s[^<>]*)?>`, \"g\"), closing = new RegExp(`</(?:\\\\w+:)?${name}>`, \"g\"), found = [];
+  for (let open = opening.exec(xml); open; open = opening.exec(xml)) {
+    const head = open[1] ?? \"\", from = opening.lastIndex, isEmpty = open[0].endsWith(\"/>\");
+    closing.lastIndex = from;
+    const close = isEmpty ? null : closing.exec(xml);
+    if (!isEmpty && !close) throw new NoWorkbook(\"It is damaged: an element of it has no end.\");
+    found.push({head, inner: isEmpty ? \"\" : xml.slice(from, close.index), begin: open.index, end: isEmpty ? from : closing.lastIndex});
+    opening.lastIndex = found.at(-1).end;
   }
   return found;
 }
 
+// A text without the elements of a name.
+function cleared(xml, name) {
+  let at = 0, left = \"\";
+  for (const {begin, end} of stretches(xml, name)) { left += xml.slice(at, begin); at = end; }
+  return left + xml.slice(at);
+}
+
 // What is said in the t elements; those of a reading aid are left out.
-const textIn = inner => elements(inner.replace(/<rPh[^]*?<\\/rPh>/g, \"\"), \"t\").map(text => unescaped(text.inner)).join(\"\");
+const textIn = inner => elements(cleared(inner, \"rPh\"), \"t\").map(text => unescaped(text.inner)).join(\"\");
 
 function recordsIn(xml, strings) {
-  const records = [];
-  for (const row of elements(xml, \"row\")) {
+  const rows = elements(xml, \"row\"), filled = rows.slice(0, rows.findLastIndex(({inner}) => inner) + 1);
+  if (filled.length > MOST_LINES) throw new NoWorkbook(tooMany(\"rows\", MOST_LINES));
+  return filled.map(row => {
     const record = [];
     for (const cell of elements(row.inner, \"c\")) {
-      const at = columnOf(cell.fields.r) ?? record.length;
+      const at = columnOf(cell.fields.r) ?? record.length, text = cellText(cell, strings);
+      if (at >= MOST_COLUMNS && text === \"\") continue;
+      if (at >= MOST_COLUMNS) throw new NoWorkbook(tooMany(\"columns\", MOST_COLUMNS));
       while (record.length < at) record.push(\"\");
-      record[at] = cellText(cell, strings);
+      record[at] = text;
     }
-    records.push(record);
-  }
-  return records;
+    return record;
+  });
 }
 
 // The number of a column, of a cell's name as `AB12`.
@@ -2610,6 +2708,8 @@ function takeSheet(file, sheet) {
 function lookIntoText(file) {
   const coding = encodingOf(file.bytes), text = decoded(file, coding);
   file.records = recordsOf(text);
+  const excess = excessIn(file.records);
+  if (excess) { Object.assign(file, {records: [], fault: `This is no plan. ${excess}`}); return; }
   const comma = [\",\", \";\", \"\\t\"].find(one => picked(withoutHint(recordsOf(text, one)))) ?? \"\";
   if (!comma) {
     file.fault = unknown(file.records) + (coding ? \" \" + UTF_16 : \"\");
@@ -2695,6 +2795,176 @@ function cleaned(records) {
 
 const HEADERS_WIDE = Object.fromEntries(Object.entries(HEADERS).map(([header, kind]) => [kind, header.split(\",\").length]));
 
+// ---- wishes.js
+
+// Wishes: frames with the channels and the repetition that each wants, as they are typed, pasted or dropped; and what is proposed for them.
+
+const WISHES = [\"frame\", \"node\", \"channels\", \"repetition\"];
+const NAMES = {frame: /^frame(s|_name| name)?$/, node: /^(node|ecu|sender)s?$/, channels: /^channels?$/, repetition: /^(cycle )?repetition$/, gap: /^(greatest |largest |max )?gap|^(cycle|period|send)[ _]?time|^period|^cycle[ _]?time/};
+const UNITS = [[\"ms\", /\\bms\\b|millisecond/], [\"cycles\", /\\bcycles?\\b(?! ?time)/], [\"macroticks\", /\\bmacroticks?\\b|\\bmt\\b/]];
+const unitIn = text => UNITS.find(([, form]) => form.test(text))?.[0] ?? null;
+
+// Which column is which, by the names above them.
+function columnsOf(header) {
+  const heads = header.map(head => head.trim().toLowerCase().replace(/[_()[\\]]/g, \" \").replace(/ +/g, \" \").trim());
+  const found = Object.fromEntries(Object.entries(NAMES).map(([name, form]) => [name, heads.findIndex(head => form.test(head))]));
+  return {...found, unit: found.gap < 0 ? null : unitIn(heads[found.gap])};
+}
+
+// Whether a file's header is one of wishes, and of nothing else.
+function isOfWishes(header) {
+  const {frame, channels, repetition, gap} = columnsOf(header), heads = header.map(head => head.trim().toLowerCase());
+  return frame >= 0 && channels >= 0 && (repetition >= 0 || gap >= 0) && !heads.includes(\"base\") && !heads.includes(\"slot\");
+}
+
+// A longest gap in macroticks, or why it is not known.
+function macroticksOf(text, unit, {cluster, times}) {
+  const number = Number(text.replace(/[^\\d.,]/g, \"\").replace(\",\", \".\")), own = unitIn(text.toLowerCase()) ?? unit;
+  if (!(number > 0)) return {fault: `\"${short(text)}\" is no gap.`};
+  if (own === \"ms\" && !times.microseconds) return {fault: \"Choose milliseconds above, and say how long a macrotick is.\"};
+  if (own === \"cycles\") return {gap: number * cluster.macroticks_per_cycle};
+  return own === \"ms\" ? {gap: number * 1000 / times.microseconds} : own === \"macroticks\" ? {gap: number}
+    : {fault: `${number} has no unit: ms, macroticks or cycles.`};
+}
+
+// The greatest repetition that keeps a gap; below a cycle how many slots are wanted.
+function repetitionFor(gap, cluster) {
+  const fit = divisors(cluster.cycles).findLast(number => number * cluster.macroticks_per_cycle <= gap + 1e-6);
+  if (fit) return {repetition: fit};
+  const slots = Math.ceil(cluster.macroticks_per_cycle / gap - 1e-9);
+  return {fault: `It is shorter than a cycle, so it needs ${slots} slots in each: ask for ${slots} placements of repetition 1.`};
+}
+
+function repetitionOf(record, columns, desk) {
+  const own = columns.repetition < 0 ? \"\" : (record[columns.repetition] ?? \"\").trim();
+  if (own) return /^\\d{1,2}$/.test(own) ? {repetition: Number(own)} : {fault: `\"${short(own)}\" is no repetition.`};
+  const {gap, fault} = macroticksOf((record[columns.gap] ?? \"\").trim(), columns.unit, desk);
+  return fault ? {fault} : repetitionFor(gap, desk.cluster);
+}
+
+// The wishes of a text, as of a spreadsheet's columns: of each its fields, what was asked in place of a repetition, and what is wrong.
+function wishesIn(text, desk) {
+  const comma = [\"\\t\", \";\", \",\"].find(one => text.split(\"\\n\", 1)[0].includes(one)) ?? \",\";
+  const [header, ...records] = recordsOf(text, comma);
+  if (!header || !isOfWishes(header)) return {wishes: [], fault: `The first line names the columns: ${WISHES.join(\", \")}; in place of repetition also gap or cycle time, with ms, macroticks or cycles.`};
+  const columns = columnsOf(header), field = (record, name) => (record[columns[name]] ?? \"\").trim();
+  const wishes = records.filter(record => record.some(one => one.trim())).map(record => {
+    const frame = field(record, \"frame\"), channels = field(record, \"channels\").toUpperCase().replace(/[^AB]/g, \"\");
+    const node = columns.node < 0 ? \"\" : field(record, \"node\"), {repetition = null, fault = \"\"} = repetitionOf(record, columns, desk);
+    return {frame, node: node || (desk.plan.frameNamed(desk.me, frame)?.node ?? \"\"), channels, repetition, asked: columns.gap < 0 ? \"\" : field(record, \"gap\"), fault};
+  });
+  return {wishes, fault: wishes.length ? \"\" : \"There is no wish below the first line.\"};
+}
+
+const fileOfWishes = wishes => fileOf([WISHES, ...wishes.map(({frame, node, channels, repetition}) => [frame, node, channels, String(repetition)])]);
+
+// The file that a proposal makes: its placements.
+const placementsFile = rows => fileOf([[\"frame\", \"node\", \"slot\", \"channels\", \"base\", \"repetition\"],
+  ...rows.filter(({placement}) => placement).map(({placement: {frame, node, slot, channels, base, repetition}}) => [frame, node, slot, channels, base, repetition].map(String))]);
+
+// What came of the wishes, in a sentence: `stay` are those whose placement is there already.
+function proposalText({rows, lacks}, plan, me, replaces) {
+  const fits = rows.filter(({placement}) => placement), places = new Set(plan.frames.filter(({supplier}) => supplier === me).flatMap(frame => frame.placements.map(one => frame.name + placeText(one))));
+  const stay = replaces ? fits.filter(({placement}) => places.has(placement.frame + placeText(placement))).length : 0, stays = replaces ? ` ${grouped(stay)} ${stay === 1 ? \"stays where it is\" : \"stay where they are\"}.` : \"\";
+  if (fits.length === rows.length) return `${rows.length > 1 ? `All ${grouped(rows.length)} fit` : \"It fits\"}.${stays}`;
+  return [`${grouped(fits.length)} of ${grouped(rows.length)} fit.`, ...lacks.map(lackText)].join(\" \") + stays;
+}
+
+const lackText = ({node, channels, lack}) => `Node ${node} needs ${plural(lack, \"slot\")} more on ${channels === \"AB\" ? \"A and B\" : channels}.`;
+
+// A mail to the integrator that asks for the slots that are lacking.
+const lackMail = (lacks, {variant, me}) => [`Dear integrator,`, \"\", `for ${variant} the wishes of ${me} do not all find room. Please grant us:`,
+  ...lacks.map(({node, channels, lack}) => `- ${plural(lack, \"slot\")}, empty in all cycles, on ${channels === \"AB\" ? \"A and B\" : channels}, for node ${node}`), \"\", \"Thank you.\"].join(\"\\n\");
+
+// ---- proposing.js
+
+// The card of wishes: what is typed, pasted or dropped there is tried on the plan, and what would come of it is shown. Nothing is sent by it.
+
+// The card's content: a text of wishes, what was read in it, and what was proposed in which variant.
+const wishesOf = (text, replaces) => ({text, replaces, list: [], fault: \"\", proposal: null, variant: null});
+
+// Takes a text of wishes, and forgets what was proposed for others.
+function takeWishes(desk, text) {
+  desk.wishes = wishesOf(text, desk.wishes?.replaces ?? false);
+  desk.tell(\"file\", \"pending\");
+}
+
+// Whether a file that was looked at has wishes: then it is taken so.
+function tookWishes(desk, file) {
+  const records = file.sheet?.records ?? file.sheets?.[0]?.records ?? recordsOf(new TextDecoder().decode(file.bytes), [\"\\t\", \";\", \",\"].find(one => file.records[0]?.join(\",\").includes(one)) ?? \",\");
+  if (!records[0] || !isOfWishes(records[0])) return false;
+  takeWishes(desk, records.map(record => record.join(\"\\t\")).join(\"\\n\"));
+  return true;
+}
+
+// The placements that are proposed in the variant that is shown, which the plan outlines.
+const proposedIn = ({wishes, variant}) => wishes?.proposal && wishes.variant === variant
+  ? wishes.proposal.rows.map(({placement}) => placement).filter(Boolean) : [];
+
+// Asks where the wishes would go. Rows that are no wish are left out, and told.
+const propose = (desk, without = new Set()) => inTurn(desk, () => attempt(desk, async () => {
+  const {text, replaces} = desk.wishes, read = wishesIn(text, desk), list = read.wishes.filter(({frame}) => !without.has(frame));
+  const sent = list.filter(({fault}) => !fault);
+  Object.assign(desk.wishes, {list, fault: read.fault || (sent.length > MOST_ROWS ? `At most ${MOST_ROWS} wishes go at once; these are ${grouped(sent.length)}.` : \"\"), proposal: null, variant: desk.variant});
+  if (!desk.wishes.fault && sent.length) {
+    const {rows, lacks} = readProposal(await desk.register.proposed(desk.variant, fileOfWishes(sent), replaces));
+    sent.forEach((wish, at) => { wish.row = rows.find(({record}) => record === at + 2); });
+    desk.wishes.proposal = {rows, lacks};
+  }
+  desk.tell(\"file\", \"pending\");
+}, \"Looking where the wishes fit ...\"));
+
+const EXAMPLE = \"frame\\tnode\\tchannels\\tcycle time ms\\nwheel_speed\\tbrake_unit\\tA\\t10\";
+
+function wishesCard(desk, take) {
+  const wishes = desk.wishes ??= wishesOf(\"\", false);
+  const area = make(\"textarea\", {id: \"wishes-text\", rows: 5, spellcheck: \"false\", autocapitalize: \"none\", placeholder: EXAMPLE, \"aria-label\": \"Wishes\"});
+  area.value = wishes.text;
+  area.addEventListener(\"input\", () => { wishes.text = area.value; });
+  const way = (value, replaces, words) => make(\"label\", {class: \"check\"}, make(\"input\", {type: \"radio\", name: \"way\", value, checked: wishes.replaces === replaces,
+    onchange: () => { wishes.replaces = replaces; }}), words);
+  return make(\"form\", {class: \"card\", novalidate: \"\", onsubmit: event => { event.preventDefault(); propose(desk); }}, make(\"h2\", {}, \"Propose where frames go\"),
+    note(\"A line for each wish, as copied from a spreadsheet, below the names of its columns: frame, node, channels, and repetition, or gap or cycle time \"
+      + \"with ms, macroticks or cycles. Such a file may be dropped too. Nothing is changed by a proposal.\"), area,
+    make(\"div\", {class: \"row\", role: \"radiogroup\", \"aria-label\": \"What the wishes may move\"}, way(\"propose\", false, \"beside what is there\"),
+      way(\"propose-anew\", true, \"in place of what these frames have\")),
+    row(make(\"button\", {type: \"submit\", class: \"main\", id: \"propose\"}, \"Propose\")), wishes.list.length || wishes.fault ? proposalBox(desk, wishes, take) : \"\");
+}
+
+function proposalBox(desk, wishes, take) {
+  const {proposal, fault, list, replaces} = wishes, faulty = list.filter(one => one.fault).length;
+  if (fault || !proposal) return make(\"div\", {id: \"proposed\"}, make(\"p\", {class: \"fault\", role: \"alert\"}, fault || \"No row is a wish that can be asked.\"), list.length ? wishTable(desk, list) : \"\");
+  const {rows, lacks} = proposal, homeless = rows.filter(({placement}) => !placement), fits = rows.length - homeless.length;
+  const again = () => propose(desk, new Set(list.filter(({row}) => row && !row.placement).map(({frame}) => frame)));
+  const isOffered = fits && !(replaces && homeless.length);
+  return make(\"div\", {id: \"proposed\"}, make(\"p\", {}, make(\"strong\", {}, proposalText(proposal, desk.plan, desk.me, replaces)),
+    faulty ? ` ${plural(faulty, \"row\")} of the text ${faulty === 1 ? \"was\" : \"were\"} not asked.` : \"\"),
+    row(isOffered ? button(`Try ${fits === 1 ? \"this row\" : `these ${grouped(fits)} rows`}`, () => take(placementsFile(rows), replaces), {class: \"main\", id: \"take-proposal\"}) : \"\",
+      homeless.length && replaces ? button(\"Propose without the frames that have no room\", again) : \"\", button(\"Forget it\", () => takeWishes(desk, \"\"))),
+    lacks.length ? lackBox(desk, lacks) : \"\", wishTable(desk, list));
+}
+
+function lackBox(desk, lacks) {
+  const area = make(\"textarea\", {id: \"lack\", rows: 5, readonly: \"\", \"aria-label\": \"A text to mail to the integrator\"});
+  area.value = lackMail(lacks, desk);
+  const copy = async () => {
+    area.select();
+    try { await navigator.clipboard.writeText(area.value); say(\"good\", \"The text is copied.\"); } catch { say(\"warn\", \"Press Ctrl+C: the text is chosen.\"); }
+  };
+  return [area, row(button(\"Copy it for a mail\", copy))];
+}
+
+const wishTable = (desk, list) => longTable([\"frame\", \"node\", \"channels\", \"asked\", [\"repetition\", \"num\"], \"where\"], list, wish => tableRow([
+  wish.frame, wish.node, wish.channels, wish.asked, [wish.repetition ?? \"\", \"num\"], whereCell(desk, wish)], wish.fault || !wish.row?.placement ? \"bad\" : \"\"));
+
+function whereCell(desk, {fault, row: found}) {
+  if (fault) return fault;
+  if (!found) return \"\";
+  if (!found.placement) return found.no === 32 ? \"no room\" : explained({no: found.no});
+  const {slot, channels, base} = found.placement;
+  return make(\"span\", {}, longPlaceText(found.placement), \" \", button(\"Show\", () => desk.reveal(slot, channels[0], base), {\"aria-label\": `Show slot ${slot} ${channels}`}));
+}
+
 // ---- sending.js
 
 // A file on its way to the register: it is looked at, tried row by row, and carried out, in parts where it is too large for one.
@@ -2722,6 +2992,9 @@ const WAYS = {
 // A part of a file is not sent whole: it would take away what the other parts have.
 const waysOf = ({parts}) => Object.entries(WAYS).filter(([, {isWhole}]) => !isWhole || !parts);
 
+// A file that was taken from this page, as `my30_frames.csv`, is sent back in place of what is there.
+const isTakenFrom = ({variants}, {name, kind}) => variants.some(variant => name.startsWith(`${variant.name}_${kind}`));
+
 const LARGEST = 4_000_000;
 
 async function takeFile(desk, blob) {
@@ -2734,19 +3007,26 @@ async function takeFile(desk, blob) {
     return;
   }
   const bytes = await blob.arrayBuffer().catch(() => null);
-  if (bytes) await takeLooked(desk, await looked(blob.name, new Uint8Array(bytes)));
-  else say(\"bad\", `${blob.name} cannot be read. If another program has it open, close it there, and choose it again.`);
+  const file = bytes && await looked(blob.name, new Uint8Array(bytes));
+  if (file && (file.kind || !tookWishes(desk, file))) await takeLooked(desk, file);
+  else if (!bytes) say(\"bad\", `${blob.name} cannot be read. If another program has it open, close it there, and choose it again.`);
 }
 
 // Takes a file that was looked at or mended, and tries it.
-async function takeLooked(desk, file) {
-  desk.file = file && Object.assign(file, {way: \"import\", parts: null, part: 0, fates: null, gone: [], shown: [], onlyRefused: false});
+async function takeLooked(desk, file, way = file && isTakenFrom(desk, file) ? \"replace\" : \"import\") {
+  desk.file = file && Object.assign(file, {way, parts: null, part: 0, fates: null, gone: [], shown: [], onlyRefused: false});
   if (file) {
     divide(file);
     file.label = suggestedLabel(file);
   }
   desk.tell(\"file\");
   await tryFile(desk);
+}
+
+// The rows that were proposed are tried as a file of placements.
+function takeProposal(desk, bytes, replaces) {
+  const records = recordsOf(new TextDecoder().decode(bytes));
+  return takeLooked(desk, {name: \"proposal.csv\", bytes, records, kind: \"placements\", fault: \"\", mend: null, notes: [], sheets: null}, replaces ? \"replace\" : \"import\");
 }
 
 function divide(file) {
@@ -2860,7 +3140,8 @@ function showFiles(desk) {
     refill(byId(\"view-files\"), down, make(\"p\", {}, why));
     return;
   }
-  refill(byId(\"view-files\"), card(\"Send a file\", dropZone(desk), file ? fileBox(desk, file) : \"\"), down);
+  refill(byId(\"view-files\"), card(\"Send a file\", dropZone(desk), file ? fileBox(desk, file) : \"\"),
+    wishesCard(desk, (bytes, replaces) => takeProposal(desk, bytes, replaces)), down);
 }
 
 function dropZone(desk) {
@@ -2924,7 +3205,9 @@ function fateBox(desk, file) {
   const only = make(\"input\", {type: \"checkbox\", id: \"only-bad\", checked: file.onlyRefused, onchange: choose});
   const all = refused.length ? `${plural(refused.length, \"row\")} of ${grouped(fates.length)} would be refused, so none is carried out.`
     : `${fates.length > 1 ? \"All \" : \"\"}${rows} would be carried out.`;
-  return [row(make(\"strong\", {class: refused.length ? \"fault\" : \"\"}, all)),
+  const there = rowsThere(desk.plan, desk.me, file.kind, file.shown.slice(1)), fresh = fates.length - there;
+  return [row(make(\"strong\", {class: refused.length ? \"fault\" : \"\"}, all), make(\"span\", {id: \"fresh\"},
+    `${plural(Math.max(0, fresh), \"row is\", \"rows are\")} new or changed, ${grouped(there)} ${there === 1 ? \"is\" : \"are\"} there already.`)),
     WAYS[file.way].replaces ? goneBox(file) : \"\",
     row(file.way === \"import\" ? [make(\"label\", {for: \"label\"}, \"Label\"), label] : \"\", go),
     refused.length && refused.length < fates.length ? make(\"label\", {class: \"check\"}, only, \"only refused rows\") : \"\",
@@ -3032,8 +3315,13 @@ class FrameList {
     const {desk} = this, [first] = frame.placements;
     this.open(false);
     if ([\"files\", \"diff\", \"manage\"].includes(desk.view)) desk.show(\"plan\");
+    const {room} = desk;
     desk.choose({frame});
-    if (first && desk.view === \"plan\") desk.reveal(first.slot, first.channels[0], first.base);
+    // Placing goes on with the other frame, and the plan stays where it is.
+    if (room) {
+      findRoom(desk, room.repetition, room.channels);
+      desk.tell(\"mode\");
+    } else if (first && desk.view === \"plan\") desk.reveal(first.slot, first.channels[0], first.base);
     byId(\"detail\").scrollIntoView({block: \"nearest\"});
   }
 }
@@ -3051,7 +3339,9 @@ async function askFrame(desk, typed = null) {
   if (isName(name.value)) addFrame(desk, name.value, node.value);
   else askFrame(desk, name.value);
 }
+";
 
+pub const PROGRAM_4: &str = "
 // ---- painting.js
 
 // Paints the cells of a plan: what is granted, what is sent, what differs.
@@ -3201,9 +3491,7 @@ function changes(desk, {lane, cycle}) {
   const {from} = desk.difference;
   return (change.now ? ` New since ${from}.` : \"\") + (change.then ? ` In ${from} ${change.then.frame} is sent here.` : \"\");
 }
-";
 
-pub const PROGRAM_4: &str = "
 // ---- sheet.js
 
 // Where each slot and cycle of a plan stands on a sheet: that of the window, or one to print. Cycles go down, slots across.
@@ -3351,6 +3639,18 @@ function paintPending(ink, {sheet, desk}) {
       const y = sheet.y(cycle), tall = sheet.height(cycle);
       fillBox(ink, \"#ffd98a\", stretch.x + 1, y + 1, stretch.wide - 1, tall - 1);
       if (sheet.width >= 6) write(ink, \"...\", stretch.x + stretch.wide / 2, y + tall / 2 - 1, \"#4a3200\", 10, \"center\", \"bold\");
+    }
+  }
+}
+
+// What is proposed for wishes, as outlines over what is there.
+function paintProposed(ink, {sheet, desk}) {
+  for (const placement of proposedIn(desk)) {
+    const stretch = sheet.stretch(placement.slot, placement.channels);
+    if (!stretch) continue;
+    for (const cycle of desk.plan.cyclesOf(placement)) {
+      strokeBox(ink, \"#fff\", 4, stretch.x + 1.5, sheet.y(cycle) + 1.5, stretch.wide - 2, sheet.height(cycle) - 2);
+      strokeBox(ink, \"#7a1fa2\", 2, stretch.x + 1.5, sheet.y(cycle) + 1.5, stretch.wide - 2, sheet.height(cycle) - 2);
     }
   }
 }
@@ -3513,6 +3813,7 @@ class Grid {
       paintColumns(ink, this, part);
       paintRoom(ink, this, part);
       paintPending(ink, this);
+      paintProposed(ink, this);
       paintPicked(ink, this);
       paintChosen(ink, this);
       if (document.activeElement === canvas) paintCursor(ink, this);

@@ -1,7 +1,8 @@
 //! What is proposed for wishes: rows that were worked out by hand.
 use crate::page_rows::{frame, name, no_rows, placement, slot};
 use fr_base::{
-    Channel, Channels, CycleSet, Name, Params, Placement, Proposal, ProposalRow, Refusal, Wish, WishRead,
+    Channel, Channels, CycleSet, Name, Params, Placement, Proposal, ProposalRow, Refusal, Wish,
+    WishRead,
 };
 use fr_world::{ChannelSlot, Page, PageRows, propose_wishes};
 use std::alloc::Global;
@@ -54,7 +55,9 @@ fn told(
         reads.push(WishRead { line, wish })?;
         line = line.saturating_add(1);
     }
-    let proposal = propose_wishes(alloc, page, &reads, replace).map_err(|_refusal| Fail::from("memory"))?;
+    let proposal = propose_wishes(alloc, page, &reads, replace).map_err(|_refusal| Fail::from(
+        "memory",
+    ))?;
     let mut text = String::new(alloc);
     for row in proposal.rows.as_slice() {
         text.push_str(&row_text(alloc, row)?)?;
@@ -86,16 +89,26 @@ fn row_text(alloc: Global, row: &ProposalRow) -> Result<String, Fail> {
 fn finer_wishes_leave_room_for_coarser_ones(rt: HostRuntime) -> Result<(), Fail> {
     let alloc = rt.alloc();
     let page = page(alloc, &[(1, Channel::A)], &[])?;
-    let wishes = [("f", "n1", "A", 64), ("g", "n1", "A", 64), ("h", "n1", "A", 2)];
+    let wishes = [
+        ("f", "n1", "A", 64),
+        ("g", "n1", "A", 64),
+        ("h", "n1", "A", 2),
+    ];
     let lines = told(alloc, &page, false, &wishes)?;
-    assert_eq!(rt; lines.as_str(), "2 f 1 A 1 64\n3 g 1 A 33 64\n4 h 1 A 0 2\n");
+    assert_eq!(rt;
+        lines.as_str(),
+        "2 f 1 A 1 64\n3 g 1 A 33 64\n4 h 1 A 0 2\n"
+    );
     Ok(())
 }
 
 #[test]
 fn beside_what_is_there(rt: HostRuntime) -> Result<(), Fail> {
     let alloc = rt.alloc();
-    let frames = [Placed("f", &[(1, Channels::A, 0, 4)]), Placed("g", &[(1, Channels::A, 3, 8)])];
+    let frames = [
+        Placed("f", &[(1, Channels::A, 0, 4)]),
+        Placed("g", &[(1, Channels::A, 3, 8)]),
+    ];
     let page = page(alloc, &[(1, Channel::A)], &frames)?;
     let wishes = [
         ("a", "n1", "A", 8),
@@ -105,17 +118,32 @@ fn beside_what_is_there(rt: HostRuntime) -> Result<(), Fail> {
         ("f", "n1", "A", 4),
     ];
     let lines = told(alloc, &page, false, &wishes)?;
-    assert_eq!(rt; lines.as_str(), "2 a 1 A 7 8\n3 NoRoom\n4 b 1 A 1 4\n5 NoRoom\n6 f 1 A 2 4\nLACK n1 A 1\n");
+    assert_eq!(rt;
+        lines.as_str(),
+        "2 a 1 A 7 8\n3 NoRoom\n4 b 1 A 1 4\n5 NoRoom\n6 f 1 A 2 4\nLACK n1 A 1\n"
+    );
     Ok(())
 }
 
 #[test]
 fn lacking_slots(rt: HostRuntime) -> Result<(), Fail> {
     let alloc = rt.alloc();
-    let page = page(alloc, &[(1, Channel::A)], &[Placed("f", &[(1, Channels::A, 0, 2)])])?;
-    let wishes = [("a", "n1", "A", 1), ("b", "n1", "A", 2), ("c", "n1", "A", 2), ("d", "n1", "A", 1)];
+    let page = page(
+        alloc,
+        &[(1, Channel::A)],
+        &[Placed("f", &[(1, Channels::A, 0, 2)])],
+    )?;
+    let wishes = [
+        ("a", "n1", "A", 1),
+        ("b", "n1", "A", 2),
+        ("c", "n1", "A", 2),
+        ("d", "n1", "A", 1),
+    ];
     let lines = told(alloc, &page, false, &wishes)?;
-    assert_eq!(rt; lines.as_str(), "2 NoRoom\n3 b 1 A 1 2\n4 NoRoom\n5 NoRoom\nLACK n1 A 3\n");
+    assert_eq!(rt;
+        lines.as_str(),
+        "2 NoRoom\n3 b 1 A 1 2\n4 NoRoom\n5 NoRoom\nLACK n1 A 3\n"
+    );
     Ok(())
 }
 
@@ -150,10 +178,22 @@ fn channels_in_turn(rt: HostRuntime) -> Result<(), Fail> {
         Placed("g", &[(1, Channels::B, 1, 4)]),
         Placed("h", &[]),
     ];
-    let page = page(alloc, &[(1, Channel::A), (1, Channel::B), (3, Channel::B)], &frames)?;
-    let wishes = [("h", "n1", "B", 8), ("h", "n1", "A", 8), ("h", "n1", "AB", 8), ("h", "n1", "B", 2)];
+    let page = page(
+        alloc,
+        &[(1, Channel::A), (1, Channel::B), (3, Channel::B)],
+        &frames,
+    )?;
+    let wishes = [
+        ("h", "n1", "B", 8),
+        ("h", "n1", "A", 8),
+        ("h", "n1", "AB", 8),
+        ("h", "n1", "B", 2),
+    ];
     let lines = told(alloc, &page, false, &wishes)?;
-    assert_eq!(rt; lines.as_str(), "2 h 1 B 3 8\n3 h 1 A 1 8\n4 NoRoom\n5 h 3 B 0 2\nLACK n1 AB 1\n");
+    assert_eq!(rt;
+        lines.as_str(),
+        "2 h 1 B 3 8\n3 h 1 A 1 8\n4 NoRoom\n5 h 3 B 0 2\nLACK n1 AB 1\n"
+    );
     Ok(())
 }
 
@@ -173,7 +213,10 @@ fn refused_wishes(rt: HostRuntime) -> Result<(), Fail> {
         ("f", "n1", "A", 4),
     ];
     let lines = told(alloc, &page, false, &wishes)?;
-    assert_eq!(rt; lines.as_str(), "2 NodeDiffers\n3 NoNode\n4 NotGranted\n5 NotGranted\n6 BadCycles\n7 BadChannel\n8 BadName\n9 g 1 A 0 2\n10 f 1 A 1 4\n");
+    assert_eq!(rt;
+        lines.as_str(),
+        "2 NodeDiffers\n3 NoNode\n4 NotGranted\n5 NotGranted\n6 BadCycles\n7 BadChannel\n8 BadName\n9 g 1 A 0 2\n10 f 1 A 1 4\n"
+    );
     Ok(())
 }
 
@@ -186,7 +229,11 @@ fn nothing_moves_that_need_not(rt: HostRuntime) -> Result<(), Fail> {
         Placed("h", &[(1, Channels::A, 2, 4)]),
     ];
     let page = page(alloc, &[(1, Channel::A)], &frames)?;
-    let wishes = [("f", "n1", "A", 4), ("k", "n1", "A", 8), ("g", "n1", "A", 4)];
+    let wishes = [
+        ("f", "n1", "A", 4),
+        ("k", "n1", "A", 8),
+        ("g", "n1", "A", 4),
+    ];
     let lines = told(alloc, &page, true, &wishes)?;
     assert_eq!(rt; lines.as_str(), "2 f 1 A 0 4\n3 k 1 A 3 8\n4 g 1 A 1 4\n");
     Ok(())
@@ -195,15 +242,32 @@ fn nothing_moves_that_need_not(rt: HostRuntime) -> Result<(), Fail> {
 #[test]
 fn something_must_move(rt: HostRuntime) -> Result<(), Fail> {
     let alloc = rt.alloc();
-    let frames = [Placed("f", &[(1, Channels::A, 0, 4)]), Placed("g", &[(1, Channels::A, 1, 4)])];
+    let frames = [
+        Placed("f", &[(1, Channels::A, 0, 4)]),
+        Placed("g", &[(1, Channels::A, 1, 4)]),
+    ];
     let page = page(alloc, &[(1, Channel::A)], &frames)?;
-    let wishes = [("f", "n1", "A", 4), ("g", "n1", "A", 4), ("k", "n1", "A", 2)];
+    let wishes = [
+        ("f", "n1", "A", 4),
+        ("g", "n1", "A", 4),
+        ("k", "n1", "A", 2),
+    ];
     let lines = told(alloc, &page, true, &wishes)?;
     assert_eq!(rt; lines.as_str(), "2 f 1 A 1 4\n3 g 1 A 3 4\n4 k 1 A 0 2\n");
     let lines = told(alloc, &page, false, &wishes)?;
-    assert_eq!(rt; lines.as_str(), "2 f 1 A 2 4\n3 g 1 A 3 4\n4 NoRoom\nLACK n1 A 1\n");
-    let wishes = [("f", "n1", "A", 4), ("g", "n1", "A", 4), ("k", "n1", "A", 1)];
+    assert_eq!(rt;
+        lines.as_str(),
+        "2 f 1 A 2 4\n3 g 1 A 3 4\n4 NoRoom\nLACK n1 A 1\n"
+    );
+    let wishes = [
+        ("f", "n1", "A", 4),
+        ("g", "n1", "A", 4),
+        ("k", "n1", "A", 1),
+    ];
     let lines = told(alloc, &page, true, &wishes)?;
-    assert_eq!(rt; lines.as_str(), "2 f 1 A 0 4\n3 g 1 A 1 4\n4 NoRoom\nLACK n1 A 1\n");
+    assert_eq!(rt;
+        lines.as_str(),
+        "2 f 1 A 0 4\n3 g 1 A 1 4\n4 NoRoom\nLACK n1 A 1\n"
+    );
     Ok(())
 }

@@ -21,14 +21,13 @@ mod schedule;
 mod variants;
 
 use crate::report::proposal::push_proposal;
+pub use crate::report::proposal::{write_proposed, write_unplaced};
 use crate::report::records::push_records;
 use crate::report::room::push_room;
 use crate::style::Style;
 use crate::words::push;
 use fr_base::{Answer, Header, NoMemory, ReportRows};
 use std::alloc::Global;
-
-pub use crate::report::proposal::{write_proposed, write_unplaced};
 
 /// A row of a report, which makes one line or more.
 pub(crate) trait Row {

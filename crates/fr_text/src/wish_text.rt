@@ -14,11 +14,7 @@ use std::alloc::Global;
 /// Reads all the wishes of a file. Each is checked by itself, or is its own refusal. One behind 512 others
 /// is refused, and is the last. Where the header is another, line 1 is refused. Want of memory is
 /// `Unavailable`.
-pub fn read_wishes(
-    alloc: Global,
-    params: &Params,
-    body: &[u8],
-) -> Result<Rows<WishRead>, Refusal>
+pub fn read_wishes(alloc: Global, params: &Params, body: &[u8]) -> Result<Rows<WishRead>, Refusal>
     ensures { MatchResult result (λ wishes. wishes ≡ wishes_of_body params.now body.now)
         (λ refusal. refusal ≡ Refusal.Unavailable) }
 {

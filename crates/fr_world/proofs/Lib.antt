@@ -65,3 +65,13 @@ pub mod LoadLaws
 pub mod AppendingLaws
 pub mod DifferenceSteps
 pub mod MergedRows
+pub mod FitLaws
+pub mod SlotFits
+pub mod TurnLaws
+pub mod CountLaws
+pub mod RefusedLaws
+pub mod KeepingLaws
+pub mod FreedRows
+pub mod LackSlots
+pub mod GivenRows
+pub mod KeptRows

@@ -1,6 +1,8 @@
 pub mod Maps
 pub mod Masks
 pub mod Proposals
+pub mod Plans
+pub mod Counts
 pub mod PageCells
 pub mod Pages
 pub mod Appending

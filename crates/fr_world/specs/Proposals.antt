@@ -1,6 +1,6 @@
 -- Proposal by words of filled cycles: which sets of cycles are empty in a word, what the code's rated places and rooms stand for, and how a plan
 -- grows as wishes take places.
-use Rattle.std.specs.Prelude.{◌≡◌, ◌++◌, ℕ, ◌%◌, Bool, List, map, filter, Option, is_none, option_map}
+use Rattle.std.specs.Prelude.{◌≡◌, ◌==◌, ℕ, ◌%◌, if◌then◌else◌, Bool, List, map, filter, Option, is_none, option_map}
 use Rattle.std.specs.List.{count_by, find}
 use Rattle.fr_base.specs.Cycles.{Cycles, cycles_of, is_bit_set}
 use Rattle.fr_base.specs.Fittest.{Rated, divisors_below, is_free, least, rated, rated_cmp}
@@ -11,6 +11,7 @@ use Rattle.fr_base.specs.declared.params.Params.{Params}
 use Rattle.fr_base.specs.declared.placement.Placement.{Placement}
 use Rattle.fr_world.specs.declared.proposal.fit.RatedPlace.{RatedPlace}
 use Rattle.fr_world.specs.declared.proposal.rooms.Room.{Room}
+use Rattle.fr_world.specs.declared.proposal.rooms.Rooms.{Rooms}
 
 -- ---- words
 
@@ -45,3 +46,10 @@ room_of room = (room.slot, option_map rated_of room.fittest)
 -- The rooms are of these slots, beside what is filled.
 abbrev pub AreRooms : Params → List (Name × Placement) → Channels → ℕ → List ℕ → List Room → Type 0
 AreRooms p filled cs repetition slots rooms = map room_of rooms ≡ map (λ slot. (slot, fittest_in p filled cs repetition slot)) slots
+
+abbrev pub ShowRooms : Rooms → List (Name × Placement) → List ℕ → Type 0
+ShowRooms rooms filled slots = AreRooms rooms.params filled rooms.kind.channels rooms.kind.repetition slots rooms.rooms.items
+
+-- the fresh room, if it is of the same slot, or else the room
+abbrev pub renewed_room : Room → Room → Room
+renewed_room fresh room = if room.slot == fresh.slot then fresh else room

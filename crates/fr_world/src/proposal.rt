@@ -1,4 +1,13 @@
 //! What is proposed for the wishes of a supplier's file, on the supplier's page.
+ghost use Rattle.std.specs.Prelude.{◌≡◌, ◌++◌, List, map, filter, IfErr, IfOk, MatchResult, OnOk};
+ghost use Rattle.fr_base.specs.Lacks.{lack_rows};
+ghost use Rattle.fr_base.specs.Proposals.{filled_places, given_all, given_beside, given_to, given_with, is_of_node, node_names, place_at, proposal, proposal_row};
+ghost use Rattle.fr_base.specs.KeptPlaces.{keep};
+ghost use Rattle.fr_base.specs.RefusedWishes.{asked_of, frames_beside};
+ghost use Rattle.fr_base.specs.declared.refusal.Refusal.TheVariants.{Unavailable};
+ghost use Rattle.std.specs.Prelude.{[]};
+ghost use Rattle.fr_world.specs.Pages.{own_rows_of};
+
 mod fit;
 mod keeping;
 mod lack;
@@ -8,16 +17,15 @@ mod slots;
 mod turns;
 
 use crate::mask_occupancy::MaskOccupancy;
-use crate::page::Page;
+use crate::page::{Page, PageFrame};
 use fr_base::{
-    Asked, Given, Name, NoMemory, Placement, Proposal, ProposalRow, ProposedPlacement, Refusal,
-    Rows, WishRead,
+    Asked, Given, LackRow, Name, NoMemory, Placement, Proposal, ProposalRow, ProposedPlacement,
+    Refusal, Rows, WishRead,
 };
-use keeping::kept;
+use keeping::kept_wishes;
 use lack::push_lacks;
-use refused::{freed_frames, judged};
+use refused::{is_freed, judged};
 use std::alloc::Global;
-use std::collections::BTreeSet;
 use turns::Plan;
 
 /// What is proposed for the wishes: for each a placement, or what refuses it, and how many slots the
@@ -29,16 +37,15 @@ pub fn propose_wishes(
     page: &Page,
     wishes: &[WishRead],
     replace: bool,
-) -> Result<Proposal, Refusal> {
-    let freed = freed_frames(alloc, wishes, replace)?;
-    let reads = judged(alloc, page, &freed, wishes)?;
-    let cells = filled_cells(alloc, page, &freed)?;
+) -> Result<Proposal, Refusal>
+    ensures { MatchResult result (λ told. told ≡ proposal (own_rows_of page.now) replace wishes.now)
+        (λ e. e ≡ Unavailable) }
+{
+    let reads = judged(alloc, page, replace, wishes)?;
+    let cells = filled_cells(alloc, page, replace, wishes)?;
     let given = given_all(alloc, page, &cells, &reads, replace)?;
     let rows = proposal_rows(alloc, &reads, &given)?;
-    let mut lacks = Rows::new(alloc);
-    for node in page.nodes().iter() {
-        push_lacks(alloc, &page.params(), &given, *node, &mut lacks)?;
-    }
+    let lacks = lack_rows(alloc, page, &given)?;
     Ok(Proposal { rows, lacks })
 }
 
@@ -46,17 +53,29 @@ pub fn propose_wishes(
 fn filled_cells(
     alloc: Global,
     page: &Page,
-    freed: &BTreeSet<Name>,
-) -> Result<MaskOccupancy, NoMemory> {
+    replace: bool,
+    reads: &[WishRead],
+) -> Result<MaskOccupancy, NoMemory>
+    ensures { IfOk result (λ cells.
+        cells ≡ filled_places (frames_beside (own_rows_of page.now) replace reads.now)) }
+{
     let mut cells = MaskOccupancy::new(alloc);
     for (name, frame) in page.frames().iter() {
-        if !freed.contains(name) {
-            for place in frame.placements.iter() {
-                cells.add(*name, place)?;
-            }
+        if !is_freed(replace, reads, *name) {
+            push_frame(&mut cells, *name, frame)?;
         }
     }
     Ok(cells)
+}
+
+// Lets the frame fill its cells too.
+fn push_frame(cells: &mut MaskOccupancy, name: Name, frame: &PageFrame) -> Result<(), NoMemory>
+    ensures { OnOk result (cells.new ≡ cells.old ++ map (λ q. (name, q)) frame.now.placements.keys) }
+{
+    for place in frame.placements.iter() {
+        cells.add(name, place)?;
+    }
+    Ok(())
 }
 
 // What the wishes that are not refused are given, node by node.
@@ -66,7 +85,10 @@ fn given_all(
     cells: &MaskOccupancy,
     reads: &[WishRead],
     replace: bool,
-) -> Result<Vec<Given>, NoMemory> {
+) -> Result<Vec<Given>, NoMemory>
+    ensures { IfOk result (λ given. given.items
+        ≡ given_all (own_rows_of page.now) replace cells.now (asked_of reads.now)) }
+{
     let mut given = Vec::new(alloc);
     for node in page.nodes().iter() {
         let wishes = wishes_of(alloc, reads, *node)?;
@@ -77,7 +99,10 @@ fn given_all(
 }
 
 // The node's wishes that are not refused.
-fn wishes_of(alloc: Global, reads: &[WishRead], node: Name) -> Result<Vec<Asked>, NoMemory> {
+fn wishes_of(alloc: Global, reads: &[WishRead], node: Name) -> Result<Vec<Asked>, NoMemory>
+    ensures { IfOk result (λ wishes.
+        wishes.items ≡ filter (is_of_node node) (asked_of reads.now)) }
+{
     let mut wishes = Vec::new(alloc);
     for read in reads {
         if let Ok(wish) = read.wish {
@@ -98,7 +123,10 @@ fn plan_of(
     node: Name,
     wishes: &[Asked],
     replace: bool,
-) -> Result<Plan, NoMemory> {
+) -> Result<Plan, NoMemory>
+    ensures { IfOk result (λ plan. plan.given.items
+        ≡ given_to (own_rows_of page.now) replace cells.now node wishes.now) }
+{
     if !replace {
         return plan_beside(alloc, page, cells, node, wishes);
     }
@@ -120,7 +148,10 @@ fn plan_beside(
     cells: &MaskOccupancy,
     node: Name,
     wishes: &[Asked],
-) -> Result<Plan, NoMemory> {
+) -> Result<Plan, NoMemory>
+    ensures { IfOk result (λ plan. plan.given.items
+        ≡ given_beside (own_rows_of page.now) node cells.now wishes.now) }
+{
     let mut plan = Plan::new(alloc, cells.clone()?);
     plan.take_turns(alloc, page, node, wishes)?;
     Ok(plan)
@@ -133,10 +164,15 @@ fn plan_with(
     cells: &MaskOccupancy,
     node: Name,
     wishes: &[Asked],
-) -> Result<Plan, NoMemory> {
+) -> Result<Plan, NoMemory>
+    ensures { IfOk result (λ plan. plan.given.items
+        ≡ given_with (own_rows_of page.now) node cells.now
+        (keep page.now.supplier (own_rows_of page.now).frames [] wishes.now)) }
+{
     let mut plan = Plan::new(alloc, cells.clone()?);
     let mut others = Vec::new(alloc);
-    for one in &kept(alloc, page, wishes)? {
+    let kept = kept_wishes(alloc, page, wishes)?;
+    for one in &kept {
         if one.place.is_some() {
             plan.give(*one)?;
         } else {
@@ -152,7 +188,9 @@ fn proposal_rows(
     alloc: Global,
     reads: &[WishRead],
     given: &[Given],
-) -> Result<Rows<ProposalRow>, NoMemory> {
+) -> Result<Rows<ProposalRow>, NoMemory>
+    ensures { IfOk result (λ rows. rows ≡ map (proposal_row given.now) reads.now) }
+{
     let mut rows = Rows::new(alloc);
     for read in reads {
         let line = read.line;
@@ -163,7 +201,9 @@ fn proposal_rows(
 }
 
 // What is proposed for the wish, or what refuses it.
-fn proposed(read: &WishRead, given: &[Given]) -> Result<ProposedPlacement, Refusal> {
+fn proposed(read: &WishRead, given: &[Given]) -> Result<ProposedPlacement, Refusal>
+    ensures { result ≡ (proposal_row given.now read.now).proposed }
+{
     let wish = read.wish?;
     let placement = place_at(given, read.line).ok_or(Refusal::NoRoom)?;
     Ok(ProposedPlacement {
@@ -174,6 +214,26 @@ fn proposed(read: &WishRead, given: &[Given]) -> Result<ProposedPlacement, Refus
 }
 
 // The placement that was given at the line.
-fn place_at(given: &[Given], line: u32) -> Option<Placement> {
-    given.iter().find(|one| one.asked.line == line)?.place
+fn place_at(given: &[Given], line: u32) -> Option<Placement>
+    ensures { result ≡ place_at given.now line }
+{
+    for one in given {
+        if one.asked.line == line {
+            return one.place;
+        }
+    }
+    None
+}
+
+// What the supplier's nodes lack, by node, then channels.
+fn lack_rows(alloc: Global, page: &Page, given: &[Given]) -> Result<Rows<LackRow>, Refusal>
+    ensures ok { IfOk result (λ rows. rows
+        ≡ lack_rows page.now.params given.now (node_names (own_rows_of page.now))) }
+    ensures err { IfErr result (λ e. e ≡ Unavailable) }
+{
+    let mut lacks = Rows::new(alloc);
+    for node in page.nodes().iter() {
+        push_lacks(alloc, &page.params(), given, *node, &mut lacks)?;
+    }
+    Ok(lacks)
 }

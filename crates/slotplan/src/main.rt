@@ -1,6 +1,7 @@
 //! The program `slotplan`: it reads the words after its name, has `fr_cli` do the job, and ends with its status.
 #![tactic(auto)]
 
+mod notices;
 mod streams;
 
 use fr_cli::perform::{explain, perform};
@@ -8,6 +9,7 @@ use fr_cli::{
     Job, Listener, LocalFiles, LocalListener, LocalRegisters, WordFault, end_closed, read_words,
 };
 use fr_text::Sink;
+use notices::Notices;
 use sqlite::{FileFrom, Leftover, Start, Unknown};
 use std::env;
 use std::io::{self, ErrorKind};
@@ -28,17 +30,32 @@ fn run(rt: &HostRuntime) -> u8 {
         Err(error) => return explain(&unread(rt, &error), &mut out, &mut err),
     };
     match read_words(rt.alloc(), &words) {
-        Ok(job) => {
-            let mut listener = LocalListener::new(rt);
-            if let Job::Serve { count, .. } = job {
-                listener.most = count;
+        Ok(job) => match job {
+            Job::Serve { count, .. } => {
+                let mut notices = Notices::new(rt);
+                let status = carry_out(rt, &job, count, &mut out, &mut notices);
+                notices.end();
+                status
             }
-            let (status, left) = perform_from(rt, &job, Unknown, &mut out, &mut err, &mut listener);
-            listener.finish();
-            end_closed(status, &left, &mut err)
-        }
+            _ => carry_out(rt, &job, u32::MAX, &mut out, &mut err),
+        },
         Err(fault) => explain(&fault, &mut out, &mut err),
     }
+}
+
+// Does the job, over as many connections at most, and gives the status.
+fn carry_out<O: Sink, E: Sink>(
+    rt: &HostRuntime,
+    job: &Job<'_>,
+    most: u32,
+    out: &mut O,
+    err: &mut E,
+) -> u8 {
+    let mut listener = LocalListener::new(rt);
+    listener.most = most;
+    let (status, left) = perform_from(rt, job, Unknown, out, err, &mut listener);
+    listener.finish();
+    end_closed(status, &left, err)
 }
 
 // Does the job with this machine's files and connections. `start` says what the job's register file held as it was opened.

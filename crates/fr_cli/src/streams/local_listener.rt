@@ -4,10 +4,14 @@ ghost use Rattle.std.specs.Prelude.{◌≡◌, None, Some};
 use crate::streams::listener::Listener;
 use fr_http::{Engine, LinkFault, Need, Served};
 use fr_links::{Given, Judge, Judgement, Links, Reply};
-use mio::net::TcpStream;
+use mio::net;
 use std::io::{self, ErrorKind};
 use std::marker::Model;
 use std::net::{Ipv4Addr, TcpListener};
+use std::os::fd::AsRawFd;
+
+/// How many connections may wait to be accepted: as many as the system lets, which takes less where that is its most.
+const BACKLOG: i32 = i32::MAX;
 
 /// Tells how long a request is, by the server's own reading of it.
 #[derive(Drop)]
@@ -34,7 +38,7 @@ impl Judge for Requests {
 // The connections at the port. What sockets give and take no clause sees.
 #[derive(Drop)]
 struct Port {
-    links: Links<Requests>,
+    links: Links<net::TcpListener, Requests>,
 }
 
 impl Model for Port {
@@ -102,8 +106,10 @@ impl<'a> LocalListener<'a> {
             Ok(engine) => engine,
             Err(_) => return Err(io::Error::from(ErrorKind::OutOfMemory)),
         };
-        let requests = Requests { engine };
-        let links = Links::new(self.rt, listener.try_clone()?, requests, self.most)?;
+        let listener = listener.try_clone()?;
+        listener.set_nonblocking(true)?;
+        let port = net::TcpListener::from_std(listener);
+        let links = Links::new(self.rt, port, Requests { engine }, self.most)?;
         Ok(Port { links })
     }
 }
@@ -113,7 +119,7 @@ impl<'a> Listener for LocalListener<'a> {
 
     type Reader = Given;
 
-    type Writer = Reply<TcpStream>;
+    type Writer = Reply<net::TcpStream>;
 
     ghost listens = { λ _ _ _. ⊤ };
 
@@ -127,11 +133,12 @@ impl<'a> Listener for LocalListener<'a> {
 
     fn listen(&mut self, port: u16) -> io::Result<()> {
         let listener = TcpListener::bind(self.rt, (Ipv4Addr::LOCALHOST, port))?;
+        let _ = libc::net::listen(listener.as_raw_fd(), BACKLOG);
         self.listener = Some(listener);
         Ok(())
     }
 
-    fn accept(&mut self, seconds: u32) -> io::Result<(Given, Reply<TcpStream>)> {
+    fn accept(&mut self, seconds: u32) -> io::Result<(Given, Reply<net::TcpStream>)> {
         if let Some(port) = &mut self.port {
             return port.links.accept(self.rt, seconds);
         }
@@ -144,7 +151,7 @@ impl<'a> Listener for LocalListener<'a> {
     fn close(
         &mut self,
         _reader: Given,
-        writer: Reply<TcpStream>,
+        writer: Reply<net::TcpStream>,
         done: &Result<Served, LinkFault>,
     ) {
         if let Some(port) = &mut self.port {

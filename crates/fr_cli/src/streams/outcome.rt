@@ -47,5 +47,10 @@ fn has_refused_row(rows: &[FateRow]) -> bool
 pub fn is_complete(proposal: &Proposal) -> bool
     ensures { result ≡ is_complete proposal.now }
 {
-    proposal.lacks.is_empty() && proposal.rows.as_slice().iter().all(|row| row.proposed.is_ok())
+    proposal.lacks.is_empty()
+        && proposal
+            .rows
+            .as_slice()
+            .iter()
+            .all(|row| row.proposed.is_ok())
 }

@@ -1,5 +1,5 @@
 //! The fittest place in a slot: the one that breaks fewest coarser repetitions there.
-ghost use Rattle.std.specs.Prelude.{◌≡◌, ◌+◌, ◌%◌, ◌<◌, ◌&&◌, List, ℕ, Some, None, if◌then◌else◌, IsTrue, slice_index, option_map};
+ghost use Rattle.std.specs.Prelude.{◌≡◌, ◌+◌, ◌%◌, ◌<◌, ◌≤◌, ◌&&◌, List, ℕ, Some, None, if◌then◌else◌, IsTrue, slice_index, option_map};
 ghost use Rattle.std.specs.Ordering.{min_by_ordering};
 ghost use Rattle.fr_base.specs.Channels.{has_channel};
 ghost use Rattle.fr_base.specs.Cycles.{is_bit_set, is_cycle_set, is_repetition};
@@ -48,6 +48,8 @@ pub(super) fn fittest_in(
         → option_map rated_of result
         ≡ fittest_in params.now pairs kind.channels kind.repetition slot }
 {
+    // Gives the proof that there are at most 64 cycles.
+    let _cycles = params.cycles();
     let word = filled.on_any(kind.channels);
     let together = broken_by_base(params, word, kind.repetition);
     let on_a = broken_on(params, filled, kind, Channel::A);
@@ -99,7 +101,9 @@ fn free_cycles(params: &Params, filled: u64, base: u32, repetition: u32) -> Opti
 // For each base how many coarser repetitions a place of this kind breaks on the channel: none, where
 // the kind does not have the channel.
 fn broken_on(params: &Params, filled: FilledCycles, kind: Kind, channel: Channel) -> [u32; 64]
-    requires { IsTrue (is_repetition params.now.cycles kind.repetition) }
+    requires divides { IsTrue (is_repetition params.now.cycles kind.repetition) }
+    requires within { kind.repetition ≤ params.now.cycles }
+    requires few { params.now.cycles ≤ 64 }
     ensures { (base : ℕ) → base < kind.repetition → slice_index result base
         ≡ (if has_channel kind.channels channel then broken_by params.now (word_on channel filled)
         kind.repetition base else 0) }
@@ -113,7 +117,9 @@ fn broken_on(params: &Params, filled: FilledCycles, kind: Kind, channel: Channel
 
 // For each base how many coarser repetitions a place breaks, where these cycles are filled.
 fn broken_by_base(params: &Params, filled: u64, repetition: u32) -> [u32; 64]
-    requires { IsTrue (is_repetition params.now.cycles repetition) }
+    requires divides { IsTrue (is_repetition params.now.cycles repetition) }
+    requires within { repetition ≤ params.now.cycles }
+    requires few { params.now.cycles ≤ 64 }
     ensures { (base : ℕ) → base < repetition
         → slice_index result base ≡ broken_by params.now filled repetition base }
 {

@@ -11,7 +11,8 @@ returns-in-Replacement g c =
     let d = c.args.delivery.now in
     let none : is_import d.how ≡ false = elim c.in-Replacement.is [
       | inl h ↦ ap is_import h.1
-      | inr h ↦ ap is_import h.1
+      | inr (inl h) ↦ ap is_import h.1
+      | inr (inr h) ↦ ap is_import h.1
     ] in
     record {
       reads = search (rules, reads_none);
