@@ -1,7 +1,7 @@
 """A frame that goes to another channel, comes to a second one, is gone or new: the file's elements that do so too, as they were typed by hand."""
 from dataclasses import replace
 
-from clients.slotplan_plans.plan import Frame, Grant, Placement, Signal
+from clients.slotplan_plans.plan import Grant, Placement
 from tests.test_autosar_update import UpdateCase
 
 
@@ -136,7 +136,8 @@ def whole(a, b, n1, n2, system="/C/C/ChA/PT_f"):
 IN, OUT = port("In", "IN"), port("f_A", "OUT", ' UUID="4714"')
 N2 = ecu("n2", "s2", A=IN, B=IN)
 ON_A = whole(
-    channel("A", triggering("A"), pdu_triggering("A"), signal_triggering()), channel("B"), ecu("n1", "s1", A=OUT + port("Else", "OUT"), B=port("Else", "OUT")), N2,
+    channel("A", triggering("A"), pdu_triggering("A"), signal_triggering()), channel("B"),
+    ecu("n1", "s1", A=OUT + port("Else", "OUT"), B=port("Else", "OUT")), N2,
 )
 
 

@@ -346,7 +346,8 @@ class Foreign(FileCase):
         folder.write(place, proposal)
         answers, _ = reports((place / "cluster.toml").read_text(), requests_of(place), ["v1"])
         self.see("refusals", [], [it for it in answers if "refused" in it])
-        self.see("its files", ["brakes", "cluster.toml", "gears", "grants.csv", "names.csv", "nodes.csv", "notes.csv", "requests.txt"], sorted(it.name for it in place.iterdir()))
+        files = ["brakes", "cluster.toml", "gears", "grants.csv", "names.csv", "nodes.csv", "notes.csv", "requests.txt"]
+        self.see("its files", files, sorted(it.name for it in place.iterdir()))
         comment = "# The cluster Chassis. A macrotick lasts 1.375E-6 s. A cycle lasts 0.005 s."
         self.see("the comment", comment, (place / "cluster.toml").read_text().split("\n")[0])
         text = lambda name: "".join(file.read_text() for file in sorted(place.glob(f"*/*_{name}.csv")))

@@ -44,9 +44,9 @@ class References(UpdateCase):
     def test_of_the_file(self):
         """A default of the file's own, or of a package that has the others."""
         plan = self.imported(TYPED.encode(), {})
-        text = TYPED.replace(FRAME_REF, FRAME_REF.replace("/P/", "")).replace(
-            "<AR-PACKAGES>", f"<ADMIN-DATA><SDGS><SDG><REFERENCE-BASES>{base('file', '/P', 'true')}</REFERENCE-BASES></SDG></SDGS></ADMIN-DATA><AR-PACKAGES>",
-        )
+        bases = f"<REFERENCE-BASES>{base('file', '/P', 'true')}</REFERENCE-BASES>"
+        text = TYPED.replace("<AR-PACKAGES>", f"<ADMIN-DATA><SDGS><SDG>{bases}</SDG></SDGS></ADMIN-DATA><AR-PACKAGES>")
+        text = text.replace(FRAME_REF, FRAME_REF.replace("/P/", ""))
         self.see("a default in ADMIN-DATA", plan, self.imported(text.encode(), {}))
 
     def test_without(self):
@@ -88,7 +88,8 @@ class Senders(CommandCase):
             self.has("senders.csv", f"triggering,ecu\n{rows}\n")
             self.stops(said, "import", "new", "in.arxml", "--senders", "senders.csv", program=False)
         self.has("senders.csv", "frame,ecu\nT,n1\n")
-        self.stops("senders.csv: the first line does not name the columns triggering, ecu", "import", "new", "in.arxml", "--senders", "senders.csv", program=False)
+        said = "senders.csv: the first line does not name the columns triggering, ecu"
+        self.stops(said, "import", "new", "in.arxml", "--senders", "senders.csv", program=False)
 
     def test_of_no_use(self):
         """Where the file tells the sender, it holds; the row is told."""
@@ -140,8 +141,9 @@ class Variants(UpdateCase):
         self.see("both chosen", 1, len([note for note in self.read(text, "LHD", "RHD").notes if note.what.startswith("/Frame/Right: slot")]))
 
     def test_unknown(self):
-        with self.assertRaisesRegex(Fault, "^no variation point has the label 'XHD'$"):
+        with self.assertRaises(Fault) as refused:
             self.read(self.file_of(), "XHD")
+        self.see("why", "no variation point has the label 'XHD'", str(refused.exception))
 
     def test_without_a_label(self):
         """A point without a label is told, and chosen by none."""
@@ -155,7 +157,8 @@ class Variants(UpdateCase):
         text = self.file_of().replace("</FLEXRAY-CLUSTER-VARIANTS>", "<FLEXRAY-CLUSTER-CONDITIONAL/></FLEXRAY-CLUSTER-VARIANTS>", 1)
         with self.assertRaisesRegex(Fault, "2 FLEXRAY-CLUSTER-CONDITIONAL"):
             self.read(text)
-        two = text.replace("<FLEXRAY-CLUSTER-CONDITIONAL/>", pointed("<FLEXRAY-CLUSTER-CONDITIONAL></FLEXRAY-CLUSTER-CONDITIONAL>", "FLEXRAY-CLUSTER-CONDITIONAL", "X"))
-        first = two.index("</FLEXRAY-CLUSTER-CONDITIONAL>")
+        form = "FLEXRAY-CLUSTER-CONDITIONAL"
+        two = text.replace(f"<{form}/>", pointed(f"<{form}></{form}>", form, "X"))
+        first = two.index(f"</{form}>")
         two = two[:first] + "<VARIATION-POINT><SHORT-LABEL>Y</SHORT-LABEL></VARIATION-POINT>" + two[first:]
         self.see("frames", ["Left", "Right"], [it.name for it in self.read(two, "Y").plan.frames])

@@ -181,7 +181,7 @@ class OnlyThese(UpdateCase):
         self.see("what is told", ["- AT f 0002 A 01 04 s1", "+ AT f 0004 A 03 08 s1"], list(updated.told()))
 
     def test_large(self):
-        """4,096 frames: without a change they come back as they were, and where 36 of as many ECUs go to slots of their own, 36 triggerings differ."""
+        """4,096 frames: without a change they come back as they were, and where 36 go to slots of their own, 36 triggerings differ."""
         text, table = large(64, 64)
         plan = self.imported(text.encode(), table)
         self.see("frames", 4096, len(plan.frames))

@@ -60,7 +60,8 @@ class Adding:
         for frame in known:
             for channel in {channel for it in frame.placements for channel in it.channels}:
                 self.carrying.crossing.port(self.carrying.ecus[sender(frame)], channel, "FRAME-PORT")
-        has = lambda frame: all((self.carrying.ecus[sender(frame)], channel) in self.source.connectors for it in frame.placements for channel in it.channels)
+        ecus, there = self.carrying.ecus, self.source.connectors
+        has = lambda frame: all((ecus[sender(frame)], channel) in there for it in frame.placements for channel in it.channels)
         return replace(self.carrying.plan, frames=tuple(filter(has, known)), nodes=(), grants=())
 
     def trigger(self, plan, names, frame, channel):

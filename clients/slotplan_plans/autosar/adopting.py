@@ -26,8 +26,8 @@ def add_commands(commands):
     parser.add_argument("file", metavar="IN", help="the description's next release")
     add_source(parser, supplier=False)
     parser.add_argument("--part", metavar="FILE", action="append", default=[], help="another file of a description that has several")
-    parser.add_argument("--since", metavar="FILE", action="append", default=[], help="the last release, of which what the variant changed stays changed")
-    parser.add_argument("--do", metavar="FOLDER", help="send the nodes and grants, where --key is given, and write each supplier's files to this folder")
+    parser.add_argument("--since", metavar="FILE", action="append", default=[], help="the last release; what the variant changed of it stays")
+    parser.add_argument("--do", metavar="FOLDER", help="send nodes and grants, with --key, and write suppliers' files to this folder")
     add_reading(parser)
 
 

@@ -4,6 +4,7 @@ from dataclasses import dataclass, field
 from typing import NamedTuple
 from xml.sax.saxutils import escape
 
+from ..faults import Fault
 from .text import Text
 
 NAMED = "SHORT-NAME", "SHORT-NAME-FRAGMENTS", "LONG-NAME", "DESC", "CATEGORY"
@@ -191,7 +192,7 @@ class Rendering:
         space = file.space(self.places[beside[-1]].span.first) if beside else outer + STEP if b"\n" in outer else b""
         step = space[len(outer) :] if space.startswith(outer) else STEP
         lines = Lines(file, space, step if b"\n" in space else b"")
-        new = lines.wrapped(missing, [piece if isinstance(piece, bytes) else self.copied(piece) if isinstance(piece, Copied) else piece for piece in pieces])
+        new = lines.wrapped(missing, [self.copied(piece) if isinstance(piece, Copied) else piece for piece in pieces])
         if len(beside) == 2:
             end = self.places[beside[0]].span.end
             self.edit(file, end, end, new, len(BEFORE.get(missing[0], ())) if missing else 0)
@@ -233,7 +234,7 @@ def applied(text, first, end, edits):
     parts, place = [], first
     for edit in sorted(edits):
         if edit.first < place:
-            raise AssertionError("two changes of one place")
+            raise Fault("two changes meet in one place of the file; please tell the makers of this program which")
         parts += [text[place : edit.first], edit.new]
         place = edit.end
     return b"".join([*parts, text[place:end]])

@@ -151,7 +151,8 @@ class Crossing:
             refs = {tag: [self.twin(plain(leaf.text), letter) for leaf in like.iter(tag)] for tag in ("FRAME-PORT-REF", "PDU-TRIGGERING-REF")}
             new, flags = self.called(like, parent, letter), {it.tag: plain(it.text) for it in like if it.tag in FLAGS}
         else:
-            refs, flags = {"FRAME-PORT-REF": [self.port(ecu, letter, "FRAME-PORT")], "PDU-TRIGGERING-REF": []}, {FLAGS[-1]: "false"}
+            port = self.port(ecu, letter, "FRAME-PORT")
+            refs, flags = {"FRAME-PORT-REF": [port] if port else [], "PDU-TRIGGERING-REF": []}, {FLAGS[-1]: "false"}
             new = self.free(self.tree.path_of[parent], plain(frame.findtext("SHORT-NAME")))
         self.changes.add(parent, ("FRAME-TRIGGERINGS",), lines_of(lambda out: triggering(out, new, path, refs, timings, flags)))
 
@@ -167,7 +168,7 @@ class Crossing:
         key = tag, place
         if key not in self.twins:
             self.twins[key] = self.free(place, PORTS[tag])
-            self.changes.add(self.tree.at(place), (INSTANCES,), lines_of(lambda out: port(out, tag, self.twins[key].rpartition("/")[2])))
+            self.changes.add(self.tree.at(place), (INSTANCES,), lines_of(lambda out: port_out(out, tag, self.twins[key].rpartition("/")[2])))
         return self.twins[key]
 
 
@@ -183,7 +184,7 @@ def lettered(name, letter):
     return "_".join([*words[:place], letter, *words[place + 1 :]]) if place else name
 
 
-def port(out, tag, name):
+def port_out(out, tag, name):
     with out.of(tag):
         out.name(name)
         out.leaf("COMMUNICATION-DIRECTION", "OUT")

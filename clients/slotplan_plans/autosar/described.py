@@ -14,7 +14,7 @@ SUPPLIERS, SENDERS = ("ecu", "supplier"), ("triggering", "ecu")
 def add_reading(parser, tables=True):
     """How a description is read; with the tables that tell of what it does not."""
     parser.add_argument("--cluster", metavar="NAME", help="which FlexRay cluster, where the description has several")
-    parser.add_argument("--variant-of", metavar="LABEL", action="append", default=[], help="of what stands under variation points, what has this label")
+    parser.add_argument("--variant-of", metavar="LABEL", action="append", default=[], help="what of variation points holds")
     parser.add_argument("--senders", metavar="TABLE", help="a table with the columns triggering, ecu: who sends, where the file does not tell")
     if tables:
         parser.add_argument("--suppliers", metavar="TABLE", help="a table with the columns ecu, supplier")

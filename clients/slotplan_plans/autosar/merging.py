@@ -93,15 +93,17 @@ class Merged:
         """The frames with the placements that have room beside those that stay: a cell has one frame, and a slot one node."""
         cycles, filled, lanes = self.variant.cluster.figures["cycles"], {}, {}
         found = {key: [] for key in frames}
-        stays = [(key in mine and it in mine[key].placements and frame.node == mine[key].node, key, it) for key, frame in frames.items() for it in frame.placements]
-        for old, key, it in sorted(stays, key=lambda row: (not row[0], *row[1:])):
+        is_mine = lambda key, it: key in mine and it in mine[key].placements and frames[key].node == mine[key].node
+        wanted = [(key, it) for key, frame in frames.items() for it in frame.placements]
+        for key, it in sorted(wanted, key=lambda row: (not is_mine(*row), *row)):
             node = Node(key[0], frames[key].node)
             cells = [(it.slot, channel, cycle) for channel in it.channels for cycle in range(it.base, cycles, it.repetition)]
             other = next((filled[cell] for cell in cells if cell in filled), None)
             holder = next((lanes[lane] for channel in it.channels if lanes.get(lane := (it.slot, channel), node) != node), None)
             if other or holder:
                 told = f"AT {key[1]} {it.slot:04} {it.channels} {it.base:02} {it.repetition:02} {key[0]}"
-                self.held.append(f"{told}: {' '.join(reversed(other))} is sent there" if other else f"{told}: {holder.name} {holder.supplier} sends in the slot")
+                why = f"{' '.join(reversed(other))} is sent there" if other else f"{holder.name} {holder.supplier} sends in the slot"
+                self.held.append(f"{told}: {why}")
             else:
                 found[key].append(it)
                 filled |= dict.fromkeys(cells, key)

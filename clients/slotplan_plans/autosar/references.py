@@ -1,5 +1,8 @@
 """References that do not begin at the top: they begin at a base that a package around them names."""
 
+# How many bases may lead from one to the next.
+DEEPEST = 64
+
 
 class References:
     """The relative references of a tree. They become whole, and who reads them later sees no difference."""
@@ -26,26 +29,31 @@ class References:
                     waiting.append((child, package))
 
     def resolve(self):
-        for leaf, label in self.tree.relative.items():
-            if leaf in self.package_of and (leaf.text or "").strip():
-                self.make_whole(leaf, label, 0)
+        for leaf in self.tree.relative:
+            if leaf in self.package_of and (path := self.whole(leaf)):
+                leaf.text = path
 
-    def make_whole(self, leaf, label, depth):
-        """The reference begins at the base of its label, or at one that is the default: of the nearest package around it that has one. A base may
-        be relative itself."""
-        text = leaf.text.strip()
-        found = self.base(self.package_of[leaf], label)
-        if text.startswith("/") or found is None or depth > len(self.tree.relative):
-            return
-        package, base = found
-        start = base.find("PACKAGE-REF")
-        if self.says(base, "BASE-IS-THIS-PACKAGE"):
-            leaf.text = f"{package}/{text}"
-        elif start is not None and (start.text or "").strip():
-            if start in self.package_of:
-                self.make_whole(start, self.tree.relative[start], depth + 1)
-            leaf.text = f"{start.text.strip().rstrip('/')}/{text}"
-        self.tree.read |= {it for it in base.iter() if not len(it)}
+    def whole(self, leaf):
+        """The path to which a reference leads from its base, or none: the base of its label, or one that is the default, of the nearest package around
+        it that has one. A base may be relative itself."""
+        path = ""
+        for _ in range(DEEPEST):
+            if not (start := (leaf.text or "").strip()):
+                return None
+            path = f"{start.rstrip('/')}/{path}" if path else start
+            if path.startswith("/") or leaf not in self.package_of:
+                return path
+            found = self.base(self.package_of[leaf], self.tree.relative[leaf])
+            if found is None:
+                return None
+            package, base = found
+            self.tree.read |= {it for it in base.iter() if not len(it)}
+            if self.says(base, "BASE-IS-THIS-PACKAGE"):
+                return f"{package}/{path}"
+            leaf = base.find("PACKAGE-REF")
+            if leaf is None:
+                return None
+        return None
 
     def base(self, package, label):
         """The package that names the base, and the base."""

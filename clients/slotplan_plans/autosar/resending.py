@@ -12,21 +12,23 @@ TIMING, TIMINGS = "FLEXRAY-ABSOLUTELY-SCHEDULED-TIMING", "ABSOLUTELY-SCHEDULED-T
 
 
 class Resent:
-    """Changes a frame of the file from what was proposed of it to what the plan has. A triggering stays, unless its frame is sent on the other channel
-    in place of its own, or is sent there no more."""
+    """Changes a frame of the file from what was proposed of it to what the plan has. A triggering stays, unless its frame is sent on the other
+    channel in place of its own, or is sent there no more."""
 
     def __init__(self, carrying, path, before, after):
         self.plan, self.tree, self.changes, self.crossing = carrying.plan, carrying.tree, carrying.changes, carrying.crossing
-        self.path, self.before, self.after, self.nodes = path, before, after, carrying.ecus
+        self.path, self.before, self.after = path, before, after
+        self.old, self.new = (carrying.ecus.get(Node(it.supplier, it.node)) for it in (before, after))
+        # (what is sent on a channel that the file lacks cannot be carried back)
+        self.channels = carrying.source.channels
         self.elements = carrying.found.frames[path].elements
         self.triggerings = {letter: list(carrying.source.triggerings[path, letter]) for letter in "AB"}
         self.moving, self.gone, self.come = {}, set(), defaultdict(list)
 
     def carry(self):
         have = {letter: {it: self.elements[it] for it in timings(self.before, letter)} for letter in "AB"}
-        want = {letter: set(timings(self.after, letter)) for letter in "AB"}
-        old, new = (self.nodes.get(Node(it.supplier, it.node)) for it in (self.before, self.after))
-        self.crossing.senders = {old: new} if new and old != new else {}
+        want = {letter: set(timings(self.after, letter)) if letter in self.channels else set() for letter in "AB"}
+        self.crossing.senders = {self.old: self.new} if self.new and self.old != self.new else {}
         for letter, other in "AB", "BA":
             if want[letter] and not want[other] and not self.triggerings[letter] and self.are_whole(other, have[other]):
                 self.moving = {it: letter for it in self.triggerings[other]}
@@ -37,7 +39,7 @@ class Resent:
         self.settle()
         element = self.tree.at(self.path)
         tell(self.changes, element, "apart", [" ".join(map(str, it)) for it in apart(self.after.placements)])
-        tell(self.changes, element, "ecu", [] if self.after.placements else [new or old])
+        tell(self.changes, element, "ecu", [] if self.after.placements else [self.new or self.old])
 
     def are_whole(self, letter, have):
         """Whether the triggerings on a channel have no timings but those of the frame's placements."""
@@ -77,7 +79,8 @@ class Resent:
         return next(it for its in self.triggerings.values() for it in its if any(other is element for other in it.iter(TIMING)))
 
     def settle(self):
-        """Takes timings out, and puts new ones in. Of a frame that is still sent goes a triggering that has none left, unless something refers to it."""
+        """Takes timings out, and puts new ones in. Of a frame that is still sent goes a triggering that has none left and to which nothing
+        refers."""
         for letter in "AB":
             for it in self.triggerings[letter]:
                 stays = [element for element in it.iter(TIMING) if element not in self.gone]
@@ -95,7 +98,7 @@ class Resent:
                     self.crossing.resend(it, letter)
             if letter in self.come:
                 like = next((it for its in self.triggerings.values() for it in its), None)
-                self.crossing.trigger(letter, self.path, like, self.nodes[Node(self.after.supplier, self.after.node)], self.lines(self.come[letter]))
+                self.crossing.trigger(letter, self.path, like, self.new or self.old, self.lines(self.come[letter]))
 
     def lines(self, found):
         """The lines of timings."""

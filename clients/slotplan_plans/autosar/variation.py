@@ -1,7 +1,6 @@
 """Variation points: what stands in a file under a condition. A label chooses what holds, and what has another label does not."""
 from ..faults import Fault
 from .found import Note
-from .tree import plain
 
 POINT, LABEL = "VARIATION-POINT", "SHORT-LABEL"
 
@@ -14,20 +13,22 @@ class Variation:
 
     def notes(self):
         """A note of each element that has a variation point."""
-        notes = [note for root in self.tree.roots for note in self.below(root, "")]
+        notes = [note for root in self.tree.roots if next(root.iter(POINT), None) is not None for note in self.of(root)]
         if missing := self.labels - self.met:
             raise Fault(f"no variation point has the label {min(missing)!a:.60}")
         return notes
 
-    def below(self, element, path):
-        """The notes of an element's elements. What is taken out has no path any more."""
-        path = self.tree.path_of.get(element, path)
-        for child in list(element):
-            point = child.find(POINT) if len(child) else None
-            if point is not None:
-                yield self.note(element, child, point, path)
-            if len(child) and child in element:
-                yield from self.below(child, path)
+    def of(self, root):
+        """The notes of a file. What is taken out is not looked into."""
+        waiting = [(root, "")]
+        while waiting:
+            element, path = waiting.pop()
+            path = self.tree.path_of.get(element, path)
+            for child in list(element):
+                point = child.find(POINT) if len(child) else None
+                if point is not None:
+                    yield self.note(element, child, point, path)
+            waiting += [(child, path) for child in reversed(element) if len(child)]
 
     def note(self, parent, element, point, path):
         leaf = point.find(LABEL)
