@@ -14,7 +14,7 @@ from tests.drivers.http_clients import connected, had, is_heard, put
 from tests.drivers.preload import Links
 from tests.drivers.program import SECONDS, ran
 from tests.drivers.registers import RegisterCase
-from tests.drivers.server import HERE, times_told
+from tests.drivers.server import HERE
 from tests.drivers.states import BODY, replied
 from tests.models.messages import CONTINUE, DONE, FIRST, FIRST_ANSWERS, UNKNOWN, command, engine, head, json, post, refused, text
 from tests.runner.parameters import for_each
@@ -336,5 +336,5 @@ class Interrupted(FailingCase):
                 for _ in range(3):
                     cut(port, ADD[:1], False)
                 self.ends(server)
-                self.see(f"lines with {waits} interruptions before each write", {"slotplan: Truncated": times}, times_told(server.stderr.read()))
+                self.see(f"lines with {waits} interruptions before each write", b"slotplan: Truncated\n" * times, each_line(server.stderr.read()))
             self.see("it came to that", True, self.links.has_acted())

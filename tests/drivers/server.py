@@ -1,9 +1,7 @@
 """A server of the program, and what it replies."""
 import os
-import re
 import socket
 import subprocess
-from collections import Counter
 from contextlib import contextmanager, suppress
 from functools import cache
 from itertools import cycle, islice
@@ -101,12 +99,3 @@ def sent(port, data, end=False, seconds=SECONDS):
         while piece := stream.recv(65536):
             reply += piece
     return reply
-
-
-def times_told(said):
-    """How often a server told each line, with those times that it only counted, since the line came again within a second."""
-    told = Counter()
-    for line in said.decode().splitlines():
-        word, more = re.fullmatch(r"(.*?)(?: \((\d+) more\))?", line).groups()
-        told[word] += int(more or 1)
-    return dict(told)
