@@ -7,7 +7,7 @@ use Rattle.sqlite.specs.declared.file.Leftover.TheVariants as left
 use Rattle.sqlite_disk.specs.declared.Disk.{Ghosts}
 use Rattle.fr_text.specs.declared.output.WriteFailed.{WriteFailed}
 use Rattle.fr_cli.specs.Faults.{fault_word}
-use Rattle.fr_cli.specs.Outlets.{IsPut, IsSaid, IsWritten, Outlet}
+use Rattle.fr_cli.specs.Outlets.{IsPut, IsSaid, IsWritten, Outlet, outlet}
 use Rattle.fr_cli.specs.Visits.{SinkGhosts}
 use Rattle.fr_cli.specs.declared.failure.Failure.{Failure}
 use Rattle.fr_cli.specs.declared.failure.Failure.TheVariants as failure
@@ -47,7 +47,7 @@ IsPrinted {told = told} out err text status = (done : Result ⊤ WriteFailed) ×
 abbrev pub IsTold : {O E : Type 0} {printed : SinkGhosts O} {told : SinkGhosts E} → Outlet printed → Outlet told → Result (Vec ℕ) Failure → ℕ → Type 0
 IsTold out err (Ok text) status = IsPrinted out err text.items status
 IsTold out err (Err (failure.RefusedRows text)) status = (status ≡ 1) × ((printed : ℕ) × IsPrinted out err text.items printed)
-IsTold {E = E} {told = told} out err (Err (failure.UnplacedWishes file lines)) status = (status ≡ 1) × ((said : E) × (printed : ℕ) × IsSaid {g = told} (outlet told err.old said) lines.items
+IsTold {E = E} {told = told} out err (Err (failure.UnplacedWishes file lines)) status = (status ≡ 1) × ((said : E) × (printed : ℕ) × IsSaid (outlet told err.old said) lines.items
     × IsPrinted out (outlet told said err.new) file.items printed)
 IsTold out err (Err (failure.Refused line)) status = (status ≡ 1) × (out.new ≡ out.old) × IsSaid err line.items
 IsTold {told = told} out err (Err (failure.Fault why)) status = (status ≡ 1) × (out.new ≡ out.old) × NamesFault told (fault_word why) err.old err.new
