@@ -20,8 +20,8 @@ of_script (Err fault) = Err (Script fault)
 abbrev pub Says : (Fault → Type 0) → (Answer → Type 0) → Result (Vec ℕ) Failure → Type 0
 Says May Is (Ok text) = (answer : Answer) × Is answer × (outcome_of answer ≡ outcome.Done) × (text.items ≡ printed_of answer)
 Says May Is (Err (failure.RefusedRows text)) = (answer : Answer) × Is answer × (outcome_of answer ≡ outcome.RefusedRows) × (text.items ≡ printed_of answer)
-Says May Is (Err (failure.UnplacedWishes file lines)) = (answer : Answer) × Is answer × (outcome_of answer ≡ outcome.UnplacedWishes) × (file.items ≡ printed_of answer)
-    × (lines.items ≡ said_of answer)
+Says May Is (Err (failure.UnplacedWishes file lines)) = (answer : Answer) × Is answer × (outcome_of answer ≡ outcome.UnplacedWishes)
+    × ((file.items ≡ printed_of answer) × (lines.items ≡ said_of answer))
 Says May Is (Err (failure.Refused line)) = (answer : Answer) × Is answer × (outcome_of answer ≡ outcome.Refused) × (line.items ≡ line_of answer)
 Says May Is (Err (failure.Fault fault)) = May fault
 

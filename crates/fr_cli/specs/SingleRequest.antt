@@ -53,8 +53,8 @@ Leads clean old new asks = clean → InSound old (λ c b. (last : Book) × ((las
 abbrev pub Prints : (Answer → Type 0) → Result (Vec ℕ) Failure → Type 0
 Prints Is (Ok text) = (answer : Answer) × Is answer × (outcome_of answer ≡ outcome.Done) × (text.items ≡ printed_of answer)
 Prints Is (Err (failure.RefusedRows text)) = (answer : Answer) × Is answer × (outcome_of answer ≡ outcome.RefusedRows) × (text.items ≡ printed_of answer)
-Prints Is (Err (failure.UnplacedWishes file lines)) = (answer : Answer) × Is answer × (outcome_of answer ≡ outcome.UnplacedWishes) × (file.items ≡ printed_of answer)
-    × (lines.items ≡ said_of answer)
+Prints Is (Err (failure.UnplacedWishes file lines)) = (answer : Answer) × Is answer × (outcome_of answer ≡ outcome.UnplacedWishes)
+    × ((file.items ≡ printed_of answer) × (lines.items ≡ said_of answer))
 Prints Is (Err (failure.Refused line)) = (answer : Answer) × Is answer × (outcome_of answer ≡ outcome.Refused) × (line.items ≡ line_of answer)
 Prints Is (Err (failure.Fault fault)) = fault ≡ NoMemory
 
