@@ -25,6 +25,8 @@ LEFT, UP, RIGHT, DOWN = "\ue012", "\ue013", "\ue014", "\ue015"
 SECONDS = 120
 # How long the driver may take for an answer.
 ANSWERED = 300
+# How often a browser is started at most until it is up.
+STARTS = 5
 # It asks nobody but this machine, and shows no page of its own.
 WORDS = """--headless=new --no-sandbox --disable-gpu --disable-dev-shm-usage --no-first-run --disable-background-networking --disable-component-update
 --disable-sync --disable-default-apps --disable-extensions --disable-smooth-scrolling --mute-audio""".split()
@@ -80,6 +82,16 @@ class Browser:
         self.folder.cleanup()
 
     def begin(self):
+        """Starts the browser. On a machine that is very busy it may not be up in the time that its driver gives it: then it is started again."""
+        for left in reversed(range(STARTS)):
+            try:
+                return self.start()
+            except Fault as fault:
+                if not left or "session not created" not in str(fault):
+                    raise
+        return None
+
+    def start(self):
         width, height = self.size
         options = {
             "binary": CHROMIUM,
