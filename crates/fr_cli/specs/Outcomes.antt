@@ -8,6 +8,7 @@ use Rattle.fr_base.specs.declared.answer.FateRow.{FateRow}
 use Rattle.fr_base.specs.declared.answer.ReportRows.{ReportRows}
 use Rattle.fr_base.specs.declared.answer.ReportRows.TheVariants.{Fates, Proposal as Proposed}
 use Rattle.fr_base.specs.declared.proposal.Proposal.{Proposal}
+use Rattle.fr_base.specs.declared.proposal.ProposalRow.{ProposalRow}
 use Rattle.fr_text.specs.AnswerText.{report_of, text_of}
 use Rattle.fr_text.specs.ProposalFiles.{file_lines, other_lines}
 use Rattle.fr_text.specs.Styles.{plain_lines}
@@ -18,9 +19,13 @@ use Rattle.fr_cli.specs.declared.streams.outcome.Outcome.TheVariants as outcome
 abbrev pub has_refused_row : List FateRow → Bool
 has_refused_row rows = list_any (λ row. is_some row.refusal) rows
 
+-- whether each of these wishes has a placement
+abbrev pub are_placed : List ProposalRow → Bool
+are_placed rows = list_all (λ row. is_ok row.proposed) rows
+
 -- whether each wish has a placement, and so no node lacks a slot
 abbrev pub is_complete : Proposal → Bool
-is_complete proposal = (length proposal.lacks == 0) && list_all (λ row. is_ok row.proposed) proposal.rows
+is_complete proposal = (length proposal.lacks == 0) && are_placed proposal.rows
 
 -- what is reported is done, but for rows of a file of which one would be refused, and wishes of which one has no placement
 abbrev pub outcome_of_rows : ReportRows → Outcome

@@ -1,9 +1,9 @@
 //! What an answer says of what was asked: that it is done, that rows of a file would be refused, that wishes are left without a
 //! placement, or that it is refused.
 ghost use Rattle.std.specs.Prelude.{◌≡◌};
-ghost use Rattle.fr_cli.specs.Outcomes.{has_refused_row, is_complete, outcome_of};
+ghost use Rattle.fr_cli.specs.Outcomes.{are_placed, has_refused_row, is_complete, outcome_of};
 
-use fr_base::{Answer, FateRow, Proposal, ReportRows};
+use fr_base::{Answer, FateRow, Proposal, ProposalRow, ReportRows};
 
 /// How a job ends by its answer.
 #[derive(Clone, Copy, PartialEq, Eq)]
@@ -47,10 +47,12 @@ fn has_refused_row(rows: &[FateRow]) -> bool
 pub fn is_complete(proposal: &Proposal) -> bool
     ensures { result ≡ is_complete proposal.now }
 {
-    proposal.lacks.is_empty()
-        && proposal
-            .rows
-            .as_slice()
-            .iter()
-            .all(|row| row.proposed.is_ok())
+    proposal.lacks.is_empty() && are_placed(proposal.rows.as_slice())
+}
+
+// Whether each of these wishes has a placement.
+fn are_placed(rows: &[ProposalRow]) -> bool
+    ensures { result ≡ are_placed rows.now }
+{
+    rows.iter().all(|row| row.proposed.is_ok())
 }
