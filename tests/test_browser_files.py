@@ -344,7 +344,7 @@ class OfSpreadsheets(FileCase):
         self.browser.press("Take the sheet", "#view-files")
         fates = self.fates(3)
         self.see("a row that stands there twice is two", [True] * 3, ["CellTaken (25)" in fate for fate in fates])
-        self.tells("many.ods", open_workbook(records[:2] + records[2:] * 1001), "It cannot be read: A sheet of it has more than")
+        self.tells("many.ods", open_workbook(records[:2] + records[2:] * 20_001), "It cannot be read: A sheet of it has more than")
 
     def test_columns(self):
         """Columns in another order, or beside others, are taken by their names where these can mean one thing alone."""
