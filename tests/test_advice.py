@@ -113,7 +113,7 @@ class Explanations(RegisterCase):
     def test_words(self):
         self.plan()
         words = [line.split(":")[0] for line in self.explained().decode().splitlines()]
-        asked = [*words, *map(str, range(1, 32))]
+        asked = [*words, *map(str, range(1, 33))]
         for word, got in zip(asked, self.replies(*(head("GET", f"{EXPLAINED}/{word}") for word in asked))):
             self.see(word, text(self.explained(word)), got)
 
@@ -134,7 +134,7 @@ class Explanations(RegisterCase):
         for asked, right in (
             (head("GET", EXPLAINED + "/"), NOT_FOUND),
             (head("GET", EXPLAINED + "/0"), NOT_FOUND),
-            (head("GET", EXPLAINED + "/32"), NOT_FOUND),
+            (head("GET", EXPLAINED + "/33"), NOT_FOUND),
             (head("GET", EXPLAINED + "/025"), NOT_FOUND),
             (head("GET", EXPLAINED + "/celltaken"), NOT_FOUND),
             (head("GET", EXPLAINED + "/CellTaken/"), NOT_FOUND),

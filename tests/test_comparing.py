@@ -6,6 +6,7 @@ import json
 from collections import Counter
 from itertools import product
 
+from tests.drivers.connections import each_line
 from tests.drivers.invocations import Invocation, InvocationCase, answered, difference
 from tests.drivers.program import ran
 from tests.drivers.registers import RegisterCase
@@ -646,7 +647,7 @@ class OverHttp(ComparingCase):
                 self.see(f"a file cut behind {cut} bytes", b"", sent(port, whole[:cut], end=True))
             self.see("the next one is tried", fates_of(AGAIN_FATES[1]), sent(port, whole))
             self.ends(server)
-            self.see("each cut is said", b"slotplan: Truncated\n" * len(whole), server.stderr.read())
+            self.see("each cut is said", b"slotplan: Truncated\n" * len(whole), each_line(server.stderr.read()))
 
     def test_then_carried_out(self):
         """What was tried is carried out as it was told."""

@@ -351,7 +351,7 @@ class Proxied(RegisterCase):
         direct, _, wanted = sent(self.behind, head("GET", "/")).partition(b"\r\n\r\n")
         self.see("the page is as the server gives it", True, page == wanted and b"</html>" in page)
         fields = [line for line in direct.split(b"\r\n")[1:] if not line.startswith((b"content-length", b"content-type", b"connection"))]
-        self.see("its fields come along", (5, []), (len(fields), [line for line in fields if line not in said.split(b"\r\n")]))
+        self.see("its fields come along", (6, []), (len(fields), [line for line in fields if line not in said.split(b"\r\n")]))
         self.see("a path outside", "404", self.asked(head("GET", "/v2/variants", "supplier01", CLOSE))[0])
         self.see("a body that is too long", "413", self.asked(head("POST", "/v1/commands", "supplier01", CLOSE, "Content-Length: 65537"))[0])
         wanted = [("s1", f"GET {SCHEDULE_PATH}", 200), ("nobody", f"GET {SCHEDULE_PATH}", 401), ("s1", "POST /v1/commands", 403)]

@@ -4,6 +4,7 @@ What is wanted was typed by hand from docs/FORMATS.md and docs/HTTP.md, or comes
 import re
 from itertools import product
 
+from tests.drivers.connections import each_line
 from tests.drivers.invocations import Invocation, InvocationCase, answered
 from tests.drivers.program import ran
 from tests.drivers.registers import RegisterCase
@@ -450,7 +451,7 @@ class OverHttp(RevisingCase):
             self.see("the rows are as they were", csv(LINES["placements", "s1"]), sent(port, head("GET", at("exports/placements/0"), KEY)))
             self.see("the next one is taken", json(REPLACED), sent(port, whole))
             self.ends(server)
-            self.see("each cut is said", b"slotplan: Truncated\n" * len(whole), server.stderr.read())
+            self.see("each cut is said", b"slotplan: Truncated\n" * len(whole), each_line(server.stderr.read()))
 
 
 class Keys(RevisingCase):

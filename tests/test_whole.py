@@ -5,6 +5,7 @@ program's own output, but where what it exports is given back to it."""
 import json
 from itertools import product
 
+from tests.drivers.connections import each_line
 from tests.drivers.invocations import Invocation, InvocationCase, difference
 from tests.drivers.program import ran
 from tests.drivers.registers import RegisterCase
@@ -402,7 +403,7 @@ class OverHttp(WholeCase):
                 self.see(f"a file cut behind {cut} bytes", b"", sent(port, request[:cut], end=True))
             self.see("the next one is taken", messages.json(b'{"ok":"replaced","rows":1}'), sent(port, request))
             self.ends(server)
-            self.see("each cut is said", b"slotplan: Truncated\n" * len(request), server.stderr.read())
+            self.see("each cut is said", b"slotplan: Truncated\n" * len(request), each_line(server.stderr.read()))
         self.exports_are(frames=["f1,n1"], placements=["f1,n1,1,A,0,2"], signals=["f1,x,0,8,little"])
 
 

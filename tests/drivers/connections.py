@@ -77,7 +77,7 @@ class ConnectionCase(RegisterCase):
 
     def ends(self, server, said=b""):
         super().ends(server)
-        self.see("what it said", said, each_line(server.stderr.read()))
+        self.see("what it said", sorted(said.splitlines()), sorted(each_line(server.stderr.read()).splitlines()))
 
 
 class PlannedCase(ConnectionCase):
