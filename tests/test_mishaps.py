@@ -381,11 +381,11 @@ class Words(MishapCase):
         self.turned_down(["grants", "car.db", "v9", "--supplier", "s1"], refused(10, "NoVariant"))
 
     def test_numbers(self):
-        for number, name in ("24", "Taken"), ("1", "BadText"), ("28", "Unavailable"), ("29", "BadRow"), ("31", "KeyTaken"):
+        for number, name in ("24", "Taken"), ("1", "BadText"), ("28", "Unavailable"), ("29", "BadRow"), ("31", "KeyTaken"), ("32", "NoRoom"):
             told = self.shell(f'exec "$1" explain {name}')
             self.see(f"{name} is explained", 0, told[0])
             self.ends_line(f'exec "$1" explain {number}', told)
-        for word in "0", "32", "024", "+24":
+        for word in "0", "33", "024", "+24":
             self.see(f"the status of explain {word}", 1, self.shell(f'exec "$1" explain {word}')[0])
 
 
