@@ -33,7 +33,7 @@ class RefusalsOfSuppliers(Case):
 
     def test_the_page_has_words_for_all(self):
         told = ON_PAGE.findall((TOP / "page/script/refusals.js").read_text())
-        self.see("the numbers are 1 to 31", list(range(1, 32)), [int(number) for number, _, _ in told])
+        self.see("the numbers are 1 to 32", list(range(1, 33)), [int(number) for number, _, _ in told])
         self.see("their names", named(), {int(number): name for number, name, _ in told})
         self.see("meanings that are those of another one", len(told), len({meaning for _, _, meaning in told}))
 
