@@ -14,7 +14,7 @@ from tests.drivers.server import sent
 from tests.models.messages import head
 
 REQUESTS = (
-    "open_variant, release, add_supplier, set_key, add_node, grant, revoke, add_frame, drop_frame, place, unplace, add_signal, drop_signal, import, replace, try, "
+    "open_variant, release, add_supplier, set_key, add_node, grant, revoke, add_frame, drop_frame, place, unplace, add_signal, drop_signal, import, replace, try, propose, "
     "cluster, variants, nodes, diff, grants, frames, schedule, gaps, load, rows, layout, room, export_frames, export_placements, export_signals"
 )
 NAME = "a name is 1 to 32 ASCII letters, digits and underscores, a letter first"
@@ -361,7 +361,7 @@ class Rows(TextCase):
 
 # The paths of docs/openapi.yaml with what stands in their braces; the last is a fault, and the name of what it is.
 NUMBERS = "repetition", "part"
-NOT_WORDS = "badname", "32", "0", "", "BadName_"
+NOT_WORDS = "badname", "33", "0", "", "BadName_"
 NOT_NAMES = "week-48", "", "1v", "a b", "n" * 33, "v%31", "\u00e9"
 NOT_NUMBERS = "x", "", "-1", "+1", "1.0", "4294967296", "00000000001"
 HOLES = {
@@ -390,6 +390,8 @@ class Paths(RegisterCase):
     def setUp(self):
         super().setUp()
         self.paths = {path: set(methods) - {"parameters"} for path, methods in yaml.safe_load((TOP / "docs/openapi.yaml").read_text())["paths"].items()}
+        # Of what a path is refused for is told of those of requests, not of the page's parts.
+        self.paths = [path for path in self.paths if path.startswith("/v1/") or path == "/"]
 
     def told(self, path, *faults):
         said = "".join(f"slotplan: {fault}\n" for fault in faults)
