@@ -391,7 +391,7 @@ class Paths(RegisterCase):
         super().setUp()
         self.paths = {path: set(methods) - {"parameters"} for path, methods in yaml.safe_load((TOP / "docs/openapi.yaml").read_text())["paths"].items()}
         # Of what a path is refused for is told of those of requests, not of the page's parts.
-        self.paths = [path for path in self.paths if path.startswith("/v1/") or path == "/"]
+        self.paths = {path: methods for path, methods in self.paths.items() if path.startswith("/v1/") or path == "/"}
 
     def told(self, path, *faults):
         said = "".join(f"slotplan: {fault}\n" for fault in faults)
